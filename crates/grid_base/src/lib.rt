@@ -1,0 +1,22 @@
+//! The grid: its points and segments, and the exact tests that every other crate stands on.
+//! Begin at `Point` and `Segment`, then `cross_of`. Left and right are seen from a segment's lesser end to its
+//! greater, with x to the right and y up. Nothing here takes memory.
+#![tactic(auto)]
+
+mod chain;
+mod memory;
+mod original;
+mod point;
+mod predicates;
+mod reply;
+mod segment;
+mod sides;
+
+pub use chain::Chain;
+pub use memory::NoMemory;
+pub use original::Original;
+pub use point::{GRID_SIDE, Point, Range};
+pub use predicates::{crosses, in_side, on};
+pub use reply::Reply;
+pub use segment::Segment;
+pub use sides::cross_of;

@@ -1,0 +1,49 @@
+//! Exact tests on a segment and a point, and on two segments.
+ghost use Rattle.std.specs.Prelude.{◌↔◌, IsTrue};
+ghost use Rattle.grid_base.specs.Point.{InBox};
+ghost use Rattle.grid_base.specs.Crossing.{IsOn, Inside, IsParted, Cross};
+
+use crate::point::Point;
+use crate::segment::Segment;
+use crate::sides::cross_of;
+
+/// Whether `p` is on `s`, its ends counted.
+pub fn on(s: &Segment, p: &Point) -> bool
+    ensures { IsTrue result ↔ IsOn s.now p.now }
+{
+    cross_of(s, p) == 0 && in_box(s, p)
+}
+
+/// Whether `p` is inside `s`: on it, and not an end of it.
+pub fn in_side(s: &Segment, p: &Point) -> bool
+    ensures { IsTrue result ↔ Inside p.now s.now }
+{
+    on(s, p) && *p != s.a() && *p != s.b()
+}
+
+/// Whether `s` and `t` cross: the ends of each lie strictly on opposite sides of the other. Segments that touch or
+/// overlap don't.
+pub fn crosses(s: &Segment, t: &Segment) -> bool
+    ensures { IsTrue result ↔ Cross s.now t.now }
+{
+    parts(s, &t.a(), &t.b()) && parts(t, &s.a(), &s.b())
+}
+
+// Whether `p` and `q` lie strictly on opposite sides of the line of `s`.
+fn parts(s: &Segment, p: &Point, q: &Point) -> bool
+    ensures { IsTrue result ↔ IsParted s.now p.now q.now }
+{
+    let first = cross_of(s, p);
+    let second = cross_of(s, q);
+    (first > 0 && second < 0) || (first < 0 && second > 0)
+}
+
+// Whether `p` is in the bounding box of `s`, its rim included.
+fn in_box(s: &Segment, p: &Point) -> bool
+    ensures { IsTrue result ↔ InBox s.now.a s.now.b p.now }
+{
+    let (a, b) = (s.a(), s.b());
+    let columns = a.x().min(b.x())..=a.x().max(b.x());
+    let rows = a.y().min(b.y())..=a.y().max(b.y());
+    columns.contains(&p.x()) && rows.contains(&p.y())
+}
