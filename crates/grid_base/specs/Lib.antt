@@ -8,6 +8,8 @@ pub mod Sides
 pub mod Crossing
 -- rational points, and the places of a segment
 pub mod Places
+-- the crossing of two segments and their meet point
+pub mod MeetPoint
 -- realms and violations
 pub mod Realm
 -- drawings, their points and their pieces

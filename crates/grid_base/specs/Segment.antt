@@ -35,7 +35,11 @@ is_flat s = nat_le (height s) (width s)
 abbrev pub is_diagonal : GridSegment → Bool
 is_diagonal s = width s == height s
 
+-- the numbers from a to b and those from v to w, whichever are greater, have a common one
+abbrev pub RangesMeet : ℕ → ℕ → ℕ → ℕ → Type 0
+RangesMeet a b v w = (min a b ≤ max v w) × (min v w ≤ max a b)
+
 -- the bounding boxes of s and t, their rims included, have a common point
 pub record BoxesMeet (s t : GridSegment) : Type 0 where
-  pub across : (min s.a.x s.b.x ≤ max t.a.x t.b.x) × (min t.a.x t.b.x ≤ max s.a.x s.b.x)
-  pub up : (min s.a.y s.b.y ≤ max t.a.y t.b.y) × (min t.a.y t.b.y ≤ max s.a.y s.b.y)
+  pub across : RangesMeet s.a.x s.b.x t.a.x t.b.x
+  pub up : RangesMeet s.a.y s.b.y t.a.y t.b.y

@@ -4,6 +4,7 @@
 #![tactic(auto)]
 
 mod chain;
+mod kinds;
 mod memory;
 mod original;
 mod point;
@@ -11,12 +12,15 @@ mod predicates;
 mod reply;
 mod segment;
 mod sides;
+mod steps;
 
 pub use chain::Chain;
+pub use kinds::{Kind, Sides, Step};
 pub use memory::NoMemory;
 pub use original::Original;
 pub use point::{GRID_SIDE, Point, Range};
-pub use predicates::{crosses, in_side, on};
+pub use predicates::{above_at, box_meets, crosses, in_side, on};
 pub use reply::Reply;
 pub use segment::Segment;
 pub use sides::cross_of;
+pub use steps::Steps;

@@ -1,7 +1,8 @@
 //! Exact tests on a segment and a point, and on two segments.
 ghost use Rattle.std.specs.Prelude.{◌↔◌, IsTrue};
 ghost use Rattle.grid_base.specs.Point.{InBox};
-ghost use Rattle.grid_base.specs.Crossing.{IsOn, Inside, IsParted, Cross};
+ghost use Rattle.grid_base.specs.Segment.{BoxesMeet, RangesMeet};
+ghost use Rattle.grid_base.specs.Crossing.{IsOn, Inside, IsParted, Cross, IsAboveAt};
 
 use crate::point::Point;
 use crate::segment::Segment;
@@ -27,6 +28,42 @@ pub fn crosses(s: &Segment, t: &Segment) -> bool
     ensures { IsTrue result ↔ Cross s.now t.now }
 {
     parts(s, &t.a(), &t.b()) && parts(t, &s.a(), &s.b())
+}
+
+/// Whether `s` passes strictly above `p` in the column of `p`. The column of the lesser end of `s` counts, and that of
+/// the greater doesn't, so a vertical segment is above nothing.
+pub fn above_at(s: &Segment, p: &Point) -> bool
+    ensures { IsTrue result ↔ IsAboveAt s.now p.now }
+{
+    s.a().x() <= p.x() && p.x() < s.b().x() && cross_of(s, p) < 0
+}
+
+/// Whether the bounding boxes of `s` and `t`, their rims included, have a common point.
+pub fn box_meets(s: &Segment, t: &Segment) -> bool
+    ensures { IsTrue result ↔ BoxesMeet s.now t.now }
+{
+    meet_across(s, t) && meet_up(s, t)
+}
+
+// Whether the two have a common column.
+fn meet_across(s: &Segment, t: &Segment) -> bool
+    ensures { IsTrue result ↔ RangesMeet s.now.a.x s.now.b.x t.now.a.x t.now.b.x }
+{
+    ranges_meet(s.a().x(), s.b().x(), t.a().x(), t.b().x())
+}
+
+// Whether the two have a common row.
+fn meet_up(s: &Segment, t: &Segment) -> bool
+    ensures { IsTrue result ↔ RangesMeet s.now.a.y s.now.b.y t.now.a.y t.now.b.y }
+{
+    ranges_meet(s.a().y(), s.b().y(), t.a().y(), t.b().y())
+}
+
+// Whether the numbers from `a` to `b` and those from `v` to `w`, whichever are greater, have a common one.
+fn ranges_meet(a: u32, b: u32, v: u32, w: u32) -> bool
+    ensures { IsTrue result ↔ RangesMeet a b v w }
+{
+    a.min(b) <= v.max(w) && v.min(w) <= a.max(b)
 }
 
 // Whether `p` and `q` lie strictly on opposite sides of the line of `s`.
