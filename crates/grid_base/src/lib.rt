@@ -5,6 +5,7 @@
 
 mod chain;
 mod kinds;
+mod laws;
 mod memory;
 mod original;
 mod point;
@@ -16,6 +17,7 @@ mod steps;
 
 pub use chain::Chain;
 pub use kinds::{Kind, Sides, Step};
+pub use laws::settled_is_realm;
 pub use memory::NoMemory;
 pub use original::Original;
 pub use point::{GRID_SIDE, Point, Range};
