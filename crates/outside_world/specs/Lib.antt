@@ -6,3 +6,11 @@ pub mod View
 pub mod Calls
 -- what came to be over many calls
 pub mod Since
+-- what a list of calls tells
+pub mod Events
+-- the laws of that
+pub mod ViewLaws
+-- a world in memory, and its calls
+pub mod Memory
+-- a world in memory, by its fields
+pub mod MemoryFields
