@@ -14,6 +14,8 @@ mod reply;
 mod segment;
 mod sides;
 mod steps;
+#[cfg(test)]
+mod tests;
 
 pub use chain::Chain;
 pub use kinds::{Kind, Sides, Step};
