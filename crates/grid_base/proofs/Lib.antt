@@ -1,3 +1,5 @@
+-- the orders of points and of segments, and what sorting by them leaves
+pub mod Orders
 -- turns and sides as orders of naturals, and the products of gaps that nonlinear steps are made of
 pub mod Turns
 -- signs of integers that are differences of products
