@@ -1,0 +1,103 @@
+-- This file shows which elements the lists have that `map`, `flat_map` and `++` make.
+use Rattle.std.proofs.Common.{◌≡◌, ◌⊎◌, ◌↔◌, zero, suc, List, [], ◌∷◌, ◌++◌, map, flat_map, All, Any, Contains}
+use Rattle.std.proofs.Common.{refl, sym, subst, inl, inr, arith}
+use Rattle.std.proofs.lemmas.List.Elements.{Contains-append_left, Contains-append_right, Contains-append_cases}
+
+-- ---- some element
+pub Any-head : {X : Type 0} (P : X → Type 0) (x : X) (xs : List X) → P x → Any P (x ∷ xs)
+Any-head P x xs p = (0, x, omega arith, refl, p)
+
+Any-later : {X : Type 0} (P : X → Type 0) (x : X) (xs : List X) → Any P xs → Any P (x ∷ xs)
+Any-later P x xs (k, y, within, is, p) = (suc k, y, omega arith, is, p)
+
+Any-cons_cases : {X : Type 0} (P : X → Type 0) (x : X) (xs : List X) → Any P (x ∷ xs) → P x ⊎ Any P xs
+Any-cons_cases P x xs (zero, y, within, is, p) = inl (subst P (sym is) p)
+Any-cons_cases P x xs (suc k, y, within, is, p) = inr (k, y, omega arith, is, p)
+
+Any-nil : {X : Type 0} (P : X → Type 0) → Any P [] → ⊥
+Any-nil P (k, y, within, is, p) = omega arith
+
+pub Any-single : {X : Type 0} (P : X → Type 0) (x : X) → Any P (x ∷ []) → P x
+Any-single P x some = elim (Any-cons_cases P x [] some) [ inl first ↦ first | inr later ↦ absurd (Any-nil P later) ]
+
+pub Any-append_cases : {X : Type 0} (P : X → Type 0) (xs ys : List X) → Any P (xs ++ ys) → Any P xs ⊎ Any P ys
+Any-append_cases P [] ys some = inr some
+Any-append_cases P (x ∷ xs) ys some = elim (Any-cons_cases P x (xs ++ ys) some) [
+  | inl first ↦ inl (Any-head P x xs first)
+  | inr rest ↦ elim (Any-append_cases P xs ys rest) [ inl left ↦ inl (Any-later P x xs left) | inr right ↦ inr right ]
+]
+
+pub Any-append_left : {X : Type 0} (P : X → Type 0) (xs ys : List X) → Any P xs → Any P (xs ++ ys)
+Any-append_left P [] ys some = absurd (Any-nil P some)
+Any-append_left P (x ∷ xs) ys some = elim (Any-cons_cases P x xs some) [
+  | inl first ↦ Any-head P x (xs ++ ys) first
+  | inr later ↦ Any-later P x (xs ++ ys) (Any-append_left P xs ys later)
+]
+
+pub Any-append_right : {X : Type 0} (P : X → Type 0) (xs ys : List X) → Any P ys → Any P (xs ++ ys)
+Any-append_right P [] ys some = some
+Any-append_right P (x ∷ xs) ys some = Any-later P x (xs ++ ys) (Any-append_right P xs ys some)
+
+pub Any-weaker : {X : Type 0} (P R : X → Type 0) → ((x : X) → P x → R x) → (xs : List X) → Any P xs → Any R xs
+Any-weaker P R step xs (k, x, within, is, p) = (k, x, within, is, step x p)
+
+-- the same where the step needs what all elements have
+pub Any-weaker_where : {X : Type 0} (Q P R : X → Type 0) → ((x : X) → Q x → P x → R x)
+    → (xs : List X) → All Q xs → Any P xs → Any R xs
+Any-weaker_where Q P R step xs all (k, x, within, is, p) = (k, x, within, is, step x (subst Q is (all k x within)) p)
+
+-- what follows from P at an element follows from P at some element
+pub All-of_some : {X : Type 0} (Q P : X → Type 0) (R : Type 0) → ((x : X) → Q x → P x → R)
+    → (xs : List X) → All Q xs → Any P xs → R
+All-of_some Q P R step xs all (k, x, within, is, p) = step x (subst Q is (all k x within)) p
+
+-- where P holds of no element, it doesn't hold of some element
+pub Any-never : {X : Type 0} (P : X → Type 0) (xs : List X) → All (λ x. P x → ⊥) xs → Any P xs → ⊥
+Any-never P xs none (k, x, within, is, p) = none k x within (subst P (sym is) p)
+
+-- ---- a given element
+pub Contains-head : {X : Type 0} (x : X) (xs : List X) (y : X) → x ≡ y → Contains (x ∷ xs) y
+Contains-head x xs y is = (0, omega arith, is)
+
+pub Contains-later : {X : Type 0} (x : X) (xs : List X) (y : X) → Contains xs y → Contains (x ∷ xs) y
+Contains-later x xs y (k, within, is) = (suc k, omega arith, is)
+
+pub Contains-cons_cases : {X : Type 0} (x : X) (xs : List X) (y : X) → Contains (x ∷ xs) y → (x ≡ y) ⊎ Contains xs y
+Contains-cons_cases x xs y (zero, within, is) = inl is
+Contains-cons_cases x xs y (suc k, within, is) = inr (k, omega arith, is)
+
+pub Contains-nil : {X : Type 0} (y : X) → Contains [] y → ⊥
+Contains-nil y (k, within, is) = omega arith
+
+-- the elements of `map f xs` are the values of f
+pub Contains-map : {X Y : Type 0} (f : X → Y) (xs : List X) (y : Y) → Contains (map f xs) y ↔ Any (λ x. f x ≡ y) xs
+Contains-map {X} f [] y = (λ h. absurd (Contains-nil y h), λ h. absurd (Any-nil (λ x. f x ≡ y) h))
+Contains-map {X} f (x ∷ xs) y =
+    let rest = Contains-map f xs y in
+    let P = λ (x : X). f x ≡ y in (
+      λ h. elim (Contains-cons_cases (f x) (map f xs) y h) [
+        | inl first ↦ Any-head P x xs first
+        | inr later ↦ Any-later P x xs (rest.0 later)
+      ],
+      λ h. elim (Any-cons_cases P x xs h) [
+        | inl first ↦ Contains-head (f x) (map f xs) y first
+        | inr later ↦ Contains-later (f x) (map f xs) y (rest.1 later)
+      ],
+    )
+
+-- the elements of `flat_map f xs` are those of each list that f gives
+pub Contains-flat_map : {X Y : Type 0} (f : X → List Y) (xs : List X) (y : Y)
+    → Contains (flat_map f xs) y ↔ Any (λ x. Contains (f x) y) xs
+Contains-flat_map {X} f [] y = (λ h. absurd (Contains-nil y h), λ h. absurd (Any-nil (λ x. Contains (f x) y) h))
+Contains-flat_map {X} f (x ∷ xs) y =
+    let rest = Contains-flat_map f xs y in
+    let P = λ (x : X). Contains (f x) y in (
+      λ h. elim (Contains-append_cases (f x) (flat_map f xs) y h) [
+        | inl first ↦ Any-head P x xs first
+        | inr later ↦ Any-later P x xs (rest.0 later)
+      ],
+      λ h. elim (Any-cons_cases P x xs h) [
+        | inl first ↦ Contains-append_left (f x) (flat_map f xs) y first
+        | inr later ↦ Contains-append_right (f x) (flat_map f xs) y (rest.1 later)
+      ],
+    )
