@@ -1,0 +1,62 @@
+-- This file shows how turns are put together.
+use Rattle.std.proofs.Common.{◌≡◌, inl, inr, ℕ, List, [], ◌∷◌, ◌++◌, refl, sym, ◌∙◌, ap, subst, append_assoc}
+use Rattle.std.proofs.lemmas.List.{append-nil}
+use Rattle.outside_world.specs.View.{Moment}
+use Rattle.rose_shell.specs.Desk.{Answers, Stands}
+use Rattle.rose_shell.specs.Session.{Turn, IsRun, end_of, replies, lines_of, IsMoment, IsGivenInPart}
+
+module _ {S : Type 0} where
+  pub end_of-append : (start : S) (ts us : List (Turn S)) → end_of start (ts ++ us) ≡ end_of (end_of start ts) us
+  end_of-append start [] us = refl
+  end_of-append start (t ∷ ts) us = end_of-append t.after ts us
+
+  pub replies-append : (ts us : List (Turn S)) → replies (ts ++ us) ≡ replies ts ++ replies us
+  replies-append [] us = refl
+  replies-append (t ∷ ts) us =
+      ap (λ (l : List ℕ). t.reply ++ l) (replies-append ts us) ∙ sym (append_assoc t.reply (replies ts) (replies us))
+
+  pub lines_of-append : (ts us : List (Turn S)) → lines_of (ts ++ us) ≡ lines_of ts ++ lines_of us
+  lines_of-append [] us = refl
+  lines_of-append (t ∷ ts) us = ap (λ (l : List (List ℕ)). t.line ∷ l) (lines_of-append ts us)
+
+  pub given_in_part_behind : (ts : List (Turn S)) {us : List (Turn S)} {unsent : List ℕ}
+      → IsGivenInPart us unsent → IsGivenInPart (ts ++ us) unsent
+  given_in_part_behind ts part = record {
+    before = ts ++ part.before;
+    last = part.last;
+    sent = part.sent;
+    in_order = ap (λ (l : List (Turn S)). ts ++ l) part.in_order ∙ sym (append_assoc ts part.before (part.last ∷ []));
+    split = part.split;
+  }
+
+module _ {S : Type 0} (answers : Answers S) where
+  pub run-append : (start : S) (ts us : List (Turn S)) → IsRun answers start ts → IsRun answers (end_of start ts) us
+      → IsRun answers start (ts ++ us)
+  run-append start [] us first second = second
+  run-append start (t ∷ ts) us first second = (first.0, run-append t.after ts us first.1 second)
+
+-- a moment of a run is one of a longer run, whether turns come behind it or before it
+module _ {S : Type 0} (stands : Stands S) where
+  pub moment_before : (start : S) (ts us : List (Turn S)) (given : List ℕ) (m : Moment)
+      → IsMoment stands start ts given m → IsMoment stands start (ts ++ us) given m
+  moment_before start [] [] given m is = is
+  moment_before start [] (u ∷ us) given m is = inl is
+  moment_before start (t ∷ ts) us given m (inl before) = inl before
+  moment_before start (t ∷ ts) us given m (inr (inl during)) = inr (inl during)
+  moment_before start (t ∷ ts) us given m (inr (inr later)) =
+      inr (inr (moment_before t.after ts us (given ++ t.reply) m later))
+
+  pub moment_behind : (start : S) (ts us : List (Turn S)) (given : List ℕ) (m : Moment)
+      → IsMoment stands (end_of start ts) us (given ++ replies ts) m → IsMoment stands start (ts ++ us) given m
+  moment_behind start [] us given m is = subst (λ (g : List ℕ). IsMoment stands start us g m) (append-nil given) is
+  moment_behind start (t ∷ ts) us given m is =
+      inr (inr (moment_behind t.after ts us (given ++ t.reply) m
+      (subst (λ (g : List ℕ). IsMoment stands (end_of t.after ts) us g m)
+      (sym (append_assoc given t.reply (replies ts))) is)))
+
+  -- the moment behind all turns
+  pub moment_now : (start : S) (ts : List (Turn S)) (given : List ℕ) (m : Moment)
+      → m.given ≡ given ++ replies ts → stands (end_of start ts) m.files → IsMoment stands start ts given m
+  moment_now start ts given m is stand =
+      subst (λ (l : List (Turn S)). IsMoment stands start l given m) (append-nil ts)
+      (moment_behind start ts [] given m (is, stand))

@@ -1,0 +1,74 @@
+use Rattle.std.proofs.Common.{[], ◌∷◌, ◌++◌, ◌+◌, take, drop, refl, arith}
+use Rattle.std.proofs.lemmas.List.{take_rest}
+use Rattle.rose_shell.specs.declared.TheConstants.{LONGEST_LINE}
+use Rattle.rose_shell.specs.Lines.{part_from}
+use Rattle.rose_shell.proofs.Cuts.{part_from-line}
+use Rattle.rose_shell.proofs.Keeps.{kept_none}
+use Rattle.rose_shell.proofs.Runs.{went_none}
+use Rattle.rose_shell.proofs.Chunks.{cut_at_feed, part_at_end, went_line, stopped_line, went_end, stopped_end}
+use Rattle.rose_shell.proofs.feeding.feed.Goals as goal
+
+-- nothing of the chunk is done
+pub loop-end-init : goal.loop-end-init
+loop-end-init g c = record {
+  done = [];
+  split = refl;
+  later = (omega arith, omega arith);
+  still = λ t. t;
+  ready = c.requires.ready;
+  stand = c.requires.stand;
+  kept = λ part is. is;
+  went = λ part is t. went_none (c.requires.stand t);
+}
+
+-- one line more is done, its line feed with it
+pub loop-end-preserved : goal.loop-end-preserved
+loop-end-preserved g c =
+    let inv = c.loop-end.invariant in
+    let ens = c.in-Ok.ensures in
+    let at = c.in-Some.ensures in
+    let rest = c.loop-end.rest.now in
+    let n = c.in-Some.end in
+    let done = inv.done ++ (take n rest ++ 10 ∷ []) in
+    record {
+      done = done;
+      split = cut_at_feed inv.done rest n inv.split at.0 at.1 (take_rest rest (n + 1));
+      later = (omega (arith, inv.later.0, ens.later.0), omega (arith, inv.later.1, ens.later.1));
+      still = λ t. inv.still (ens.still t);
+      ready = ens.ready;
+      stand = ens.stand;
+      kept = λ part is. kept_none (LONGEST_LINE + 1) (part_from-line part inv.done (take n rest)) ens.kept;
+      went = λ part is t.
+          went_line part inv.done (take n rest) at.2 (inv.went part is (ens.still t))
+          (ens.went (part_from part inv.done) (inv.kept part is) t);
+    }
+
+-- the lines before were answered whole
+pub returns-in-Err-clause-stopped : goal.returns-in-Err-clause-stopped
+returns-in-Err-clause-stopped g c = λ part is t.
+    let inv = c.loop-end.invariant in
+    let ens = c.in-Err.ensures in
+    let at = c.in-Some.ensures in
+    let rest = c.loop-end.rest.now in
+    let n = c.in-Some.end in
+    stopped_line part inv.done (take n rest) (drop (n + 1) rest) at.2 (cut_at_feed inv.done rest n inv.split at.0 at.1 refl)
+    (inv.went part is (ens.still t)) (ens.stopped (part_from part inv.done) (inv.kept part is) t)
+
+-- what is left of the chunk ends no line, and is kept
+pub returns-in-Ok-keep-clause-kept : goal.returns-in-Ok-keep-clause-kept
+returns-in-Ok-keep-clause-kept g c = λ part is.
+    let inv = c.loop-end.invariant in
+    let kept = c.in-Ok-keep.ensures (part_from part inv.done) (inv.kept part is) in
+    let came = part_at_end part inv.done c.loop-end.rest.now inv.split c.in_default.ensures in
+    cc
+
+pub returns-in-Ok-keep-clause-went : goal.returns-in-Ok-keep-clause-went
+returns-in-Ok-keep-clause-went g c = λ part is t.
+    let inv = c.loop-end.invariant in
+    went_end part inv.done c.loop-end.rest.now inv.split c.in_default.ensures (inv.went part is t)
+
+-- or memory runs out
+pub returns-in-Err-keep-clause-stopped : goal.returns-in-Err-keep-clause-stopped
+returns-in-Err-keep-clause-stopped g c = λ part is t.
+    let inv = c.loop-end.invariant in
+    stopped_end part inv.done c.loop-end.rest.now inv.split c.in_default.ensures (inv.went part is t)

@@ -1,0 +1,24 @@
+use Rattle.std.proofs.Common.{◌≡◌, ℕ, List, ◌++◌, length}
+use Rattle.outside_world.specs.Counts.{KeepsCounts}
+use Rattle.rose_shell.specs.Lines.{lines_from, part_from, IsKept}
+use Rattle.rose_shell.specs.Desk.{AllStand}
+use Rattle.rose_shell.specs.Session.{Went}
+use Rattle.rose_shell.proofs.feeding.feed.Given as goal
+
+abbrev pub invariant-loop-end : goal.invariant-loop-end
+invariant-loop-end g l = record {
+  done : List ℕ;
+  split : l.chunk ≡ done ++ l.rest;
+  later : KeepsCounts (g.W.Outside.source_faults l.fn.world) (g.W.Outside.source_faults l.world)
+      (g.W.Outside.sink_faults l.fn.world) (g.W.Outside.sink_faults l.world);
+  still : g.W.Outside.tells l.world → g.W.Outside.tells l.fn.world;
+  ready : g.D.Desk.ready l.desk;
+  stand : g.W.Outside.tells l.world → AllStand g.D.Desk.stands (g.W.Outside.view l.world) l.desk;
+  kept : (part : List ℕ) → IsKept l.fn.kept.items part → IsKept l.kept.items (part_from part done);
+  went : (part : List ℕ) → IsKept l.fn.kept.items part → g.W.Outside.tells l.world
+      → Went g.D.Desk.answers g.D.Desk.stands (g.W.Outside.view l.fn.world) (g.W.Outside.view l.world)
+      l.fn.desk l.desk (lines_from part done);
+}
+
+abbrev pub decreases-loop-end : goal.decreases-loop-end
+decreases-loop-end g l = length l.rest

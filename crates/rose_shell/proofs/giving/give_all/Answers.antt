@@ -1,0 +1,15 @@
+use Rattle.std.proofs.Common.{arith}
+use Rattle.std.proofs.lemmas.List.{take_rest}
+use Rattle.rose_shell.proofs.Gifts.{gave_more}
+use Rattle.rose_shell.proofs.giving.give_all.Goals as goal
+
+-- the call has given the first bytes of those that were left
+pub loop-rest-preserved : goal.loop-rest-preserved
+loop-rest-preserved g c =
+    let inv = c.loop-rest.invariant in
+    let ens = c.in_ok-given.ensures in
+    record {
+      later = (omega (arith, inv.later.0, ens.later.0), omega (arith, inv.later.1, ens.later.1));
+      still = λ t. inv.still (ens.still t);
+      told = λ t. gave_more (take_rest c.loop-rest.rest.now c.in_ok-given.given) (inv.told (ens.still t)) (ens.told t);
+    }

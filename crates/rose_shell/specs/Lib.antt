@@ -1,0 +1,10 @@
+-- the numbers that the program ends with
+pub mod Status
+-- bytes, cut into lines
+pub mod Lines
+-- bytes that are given, whole or in part
+pub mod Giving
+-- one answer of a desk
+pub mod Desk
+-- a run over many lines, and a whole run of the loop
+pub mod Session

@@ -1,0 +1,231 @@
+//! Answers the lines that end in the bytes that were read.
+//! Of a line no more than one byte beyond the longest is kept. This much tells whether the line is too
+//! long, and where it isn't, this is the line.
+ghost use Rattle.std.specs.Prelude.{◌≡◌, ◌≢◌, ◌≤◌, ◌<◌, ℕ, List, [], ◌∷◌, ◌++◌, All, length, take};
+ghost use Rattle.std.specs.Prelude.{slice_index, MatchOption, IfErr, OnOk, OnErr, IsErrOf};
+ghost use Rattle.outside_world.specs.Counts.{Rose, KeepsCounts};
+ghost use Rattle.rose_shell.specs.Lines.{lines_from, part_from, last_line, IsKept};
+ghost use Rattle.rose_shell.specs.Giving.{GaveAll};
+ghost use Rattle.rose_shell.specs.Desk.{AllStand};
+ghost use Rattle.rose_shell.specs.Session.{Went, Stopped};
+
+use crate::answering::Desk;
+use crate::giving::give_all;
+use crate::{LONG_LINE_REFUSAL, LONGEST_LINE};
+use grid_base::NoMemory;
+use outside_world::{Failed, Outside};
+use std::alloc::Global;
+
+/// Why the lines aren't answered on.
+#[derive(Clone, Copy, Debug, PartialEq, Eq)]
+pub(crate) enum Halt {
+    Sink,
+    NoMemory,
+}
+
+/// Answers what came of a line before the input ended, where anything came.
+pub(crate) fn answer_last<W: Outside, D: Desk<W>>(
+    alloc: Global,
+    desk: &mut D,
+    world: &mut W,
+    kept: &[u8],
+) -> Result<(), Halt>
+    requires ready { D.ready desk.old }
+    requires stand { W.tells world.old → AllStand D.stands (W.view world.old) desk.old }
+    ensures went { OnOk result ((line : List ℕ) → IsKept kept.now line → W.tells world.new
+        → Went D.answers D.stands (W.view world.old) (W.view world.new) desk.old desk.new
+        (last_line line)) }
+    ensures stopped { IfErr result (λ halt. (line : List ℕ) → IsKept kept.now line → W.tells world.new
+        → Stopped D.answers D.stands (W.view world.old) (W.view world.new) desk.old desk.new
+        (last_line line) halt) }
+    ensures sink_fault { IsErrOf result Halt.Sink
+        → Rose (W.sink_faults world.old) (W.sink_faults world.new) }
+    ensures ready { OnOk result (D.ready desk.new) }
+    ensures sink_ready { IsErrOf result Halt.Sink → D.ready desk.new }
+    ensures later { KeepsCounts (W.source_faults world.old) (W.source_faults world.new)
+        (W.sink_faults world.old) (W.sink_faults world.new) }
+    ensures still { W.tells world.new → W.tells world.old }
+{
+    if kept.is_empty() {
+        return Ok(());
+    }
+    answer_line(alloc, desk, world, kept)
+}
+
+/// Reads a chunk of the input, and answers each line that ends in it.
+pub(crate) fn feed<W: Outside, D: Desk<W>>(
+    alloc: Global,
+    desk: &mut D,
+    world: &mut W,
+    kept: &mut Vec<u8>,
+    chunk: &[u8],
+) -> Result<(), Halt>
+    requires ready { D.ready desk.old }
+    requires stand { W.tells world.old → AllStand D.stands (W.view world.old) desk.old }
+    ensures kept { OnOk result ((part : List ℕ) → IsKept kept.old.items part
+        → IsKept kept.new.items (part_from part chunk.now)) }
+    ensures went { OnOk result ((part : List ℕ) → IsKept kept.old.items part → W.tells world.new
+        → Went D.answers D.stands (W.view world.old) (W.view world.new) desk.old desk.new
+        (lines_from part chunk.now)) }
+    ensures stopped { IfErr result (λ halt. (part : List ℕ) → IsKept kept.old.items part
+        → W.tells world.new
+        → Stopped D.answers D.stands (W.view world.old) (W.view world.new) desk.old desk.new
+        (lines_from part chunk.now) halt) }
+    ensures sink_fault { IsErrOf result Halt.Sink
+        → Rose (W.sink_faults world.old) (W.sink_faults world.new) }
+    ensures ready { OnOk result (D.ready desk.new) }
+    ensures sink_ready { IsErrOf result Halt.Sink → D.ready desk.new }
+    ensures stand { OnOk result (W.tells world.new → AllStand D.stands (W.view world.new) desk.new) }
+    ensures later { KeepsCounts (W.source_faults world.old) (W.source_faults world.new)
+        (W.sink_faults world.old) (W.sink_faults world.new) }
+    ensures still { W.tells world.new → W.tells world.old }
+{
+    let mut rest = chunk;
+    while let Some(end) = line_end(rest) {
+        match end_line(alloc, desk, world, kept, &rest[..end]) {
+            Ok(()) => {}
+            Err(halt) => return Err(halt),
+        }
+        rest = &rest[end + 1..];
+    }
+    match keep(kept, rest) {
+        Ok(()) => Ok(()),
+        Err(NoMemory) => Err(Halt::NoMemory),
+    }
+}
+
+/// The place of the first line feed.
+fn line_end(bytes: &[u8]) -> Option<usize>
+    ensures { MatchOption result (All (λ b. b ≢ 10) bytes.now)
+        (λ n. (n < length bytes.now) × (slice_index bytes.now n ≡ 10)
+        × All (λ b. b ≢ 10) (take n bytes.now)) }
+{
+    bytes.iter().position(|b| *b == b'\n')
+}
+
+/// Answers the line that these bytes end.
+fn end_line<W: Outside, D: Desk<W>>(
+    alloc: Global,
+    desk: &mut D,
+    world: &mut W,
+    kept: &mut Vec<u8>,
+    bytes: &[u8],
+) -> Result<(), Halt>
+    requires ready { D.ready desk.old }
+    requires stand { W.tells world.old → AllStand D.stands (W.view world.old) desk.old }
+    ensures kept { OnOk result (kept.new.items ≡ []) }
+    ensures went { OnOk result ((part : List ℕ) → IsKept kept.old.items part → W.tells world.new
+        → Went D.answers D.stands (W.view world.old) (W.view world.new) desk.old desk.new
+        ((part ++ bytes.now) ∷ [])) }
+    ensures stopped { IfErr result (λ halt. (part : List ℕ) → IsKept kept.old.items part
+        → W.tells world.new
+        → Stopped D.answers D.stands (W.view world.old) (W.view world.new) desk.old desk.new
+        ((part ++ bytes.now) ∷ []) halt) }
+    ensures sink_fault { IsErrOf result Halt.Sink
+        → Rose (W.sink_faults world.old) (W.sink_faults world.new) }
+    ensures ready { OnOk result (D.ready desk.new) }
+    ensures sink_ready { IsErrOf result Halt.Sink → D.ready desk.new }
+    ensures stand { OnOk result (W.tells world.new → AllStand D.stands (W.view world.new) desk.new) }
+    ensures later { KeepsCounts (W.source_faults world.old) (W.source_faults world.new)
+        (W.sink_faults world.old) (W.sink_faults world.new) }
+    ensures still { W.tells world.new → W.tells world.old }
+{
+    match keep(kept, bytes) {
+        Ok(()) => {}
+        Err(NoMemory) => return Err(Halt::NoMemory),
+    }
+    match answer_line(alloc, desk, world, kept) {
+        Ok(()) => {}
+        Err(halt) => return Err(halt),
+    }
+    kept.clear();
+    Ok(())
+}
+
+/// Keeps these bytes too, as far as they tell of their line.
+fn keep(kept: &mut Vec<u8>, bytes: &[u8]) -> Result<(), NoMemory>
+    ensures { OnOk result ((part : List ℕ) → IsKept kept.old.items part
+        → IsKept kept.new.items (part ++ bytes.now)) }
+{
+    let room = (LONGEST_LINE + 1).saturating_sub(kept.len());
+    kept.extend_from_slice(&bytes[..room.min(bytes.len())])?;
+    Ok(())
+}
+
+/// Answers a line of which this was kept.
+fn answer_line<W: Outside, D: Desk<W>>(
+    alloc: Global,
+    desk: &mut D,
+    world: &mut W,
+    kept: &[u8],
+) -> Result<(), Halt>
+    requires ready { D.ready desk.old }
+    requires stand { W.tells world.old → AllStand D.stands (W.view world.old) desk.old }
+    ensures went { OnOk result ((line : List ℕ) → IsKept kept.now line → W.tells world.new
+        → Went D.answers D.stands (W.view world.old) (W.view world.new) desk.old desk.new
+        (line ∷ [])) }
+    ensures stopped { IfErr result (λ halt. (line : List ℕ) → IsKept kept.now line → W.tells world.new
+        → Stopped D.answers D.stands (W.view world.old) (W.view world.new) desk.old desk.new
+        (line ∷ []) halt) }
+    ensures sink_fault { IsErrOf result Halt.Sink
+        → Rose (W.sink_faults world.old) (W.sink_faults world.new) }
+    ensures ready { OnOk result (D.ready desk.new) }
+    ensures sink_ready { IsErrOf result Halt.Sink → D.ready desk.new }
+    ensures stand { OnOk result (W.tells world.new → AllStand D.stands (W.view world.new) desk.new) }
+    ensures later { KeepsCounts (W.source_faults world.old) (W.source_faults world.new)
+        (W.sink_faults world.old) (W.sink_faults world.new) }
+    ensures still { W.tells world.new → W.tells world.old }
+{
+    if kept.len() > LONGEST_LINE {
+        return match refuse_long(world) {
+            Ok(()) => Ok(()),
+            Err(Failed) => Err(Halt::Sink),
+        };
+    }
+    answer_short(alloc, desk, world, kept)
+}
+
+/// Answers a line that isn't too long.
+fn answer_short<W: Outside, D: Desk<W>>(
+    alloc: Global,
+    desk: &mut D,
+    world: &mut W,
+    line: &[u8],
+) -> Result<(), Halt>
+    requires short { length line.now ≤ LONGEST_LINE }
+    requires ready { D.ready desk.old }
+    requires stand { W.tells world.old → AllStand D.stands (W.view world.old) desk.old }
+    ensures went { OnOk result (W.tells world.new
+        → Went D.answers D.stands (W.view world.old) (W.view world.new) desk.old desk.new
+        (line.now ∷ [])) }
+    ensures stopped { IfErr result (λ halt. W.tells world.new
+        → Stopped D.answers D.stands (W.view world.old) (W.view world.new) desk.old desk.new
+        (line.now ∷ []) halt) }
+    ensures sink_fault { IsErrOf result Halt.Sink
+        → Rose (W.sink_faults world.old) (W.sink_faults world.new) }
+    ensures ready { OnOk result (D.ready desk.new) }
+    ensures sink_ready { IsErrOf result Halt.Sink → D.ready desk.new }
+    ensures later { KeepsCounts (W.source_faults world.old) (W.source_faults world.new)
+        (W.sink_faults world.old) (W.sink_faults world.new) }
+    ensures still { W.tells world.new → W.tells world.old }
+{
+    match desk.answer(alloc, world, line) {
+        Err(NoMemory) => Err(Halt::NoMemory),
+        Ok(reply) => match give_all(world, reply.bytes()) {
+            Ok(()) => Ok(()),
+            Err(Failed) => Err(Halt::Sink),
+        },
+    }
+}
+
+/// Refuses a line that is too long.
+fn refuse_long<W: Outside>(world: &mut W) -> Result<(), Failed>
+    ensures sink_fault { OnErr result (Rose (W.sink_faults world.old) (W.sink_faults world.new)) }
+    ensures told { W.tells world.new
+        → GaveAll (W.view world.old) (W.view world.new) LONG_LINE_REFUSAL result }
+    ensures later { KeepsCounts (W.source_faults world.old) (W.source_faults world.new)
+        (W.sink_faults world.old) (W.sink_faults world.new) }
+    ensures still { W.tells world.new → W.tells world.old }
+{
+    give_all(world, &LONG_LINE_REFUSAL)
+}

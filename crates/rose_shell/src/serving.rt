@@ -1,0 +1,122 @@
+//! The serving loop: it reads lines to the end of the input, and answers each before it reads on.
+ghost use Rattle.std.specs.Prelude.{◌≡◌, ◌≢◌, ◌⊎◌, ◌≤◌, ◌<◌, length, max, IfOk, OnErr};
+ghost use Rattle.outside_world.specs.Counts.{Rose, KeepsCounts};
+ghost use Rattle.outside_world.specs.Calls.{Took};
+ghost use Rattle.rose_shell.specs.Desk.{AllStand};
+ghost use Rattle.rose_shell.specs.Session.{Served, status_at};
+
+use crate::answering::Desk;
+use crate::feeding::{Halt, answer_last, feed};
+use crate::status::Status;
+use outside_world::{Failed, Outside};
+use std::alloc::Global;
+
+/// Reads lines to the end of the input, and answers each. What stands after the last line feed is a line
+/// too, where it isn't empty. The run ends at the first fault, at want of memory, and at the first take
+/// that gives more after `budget` bytes were taken.
+pub(crate) fn serve_desk<W: Outside, D: Desk<W>>(
+    alloc: Global,
+    desk: &mut D,
+    world: &mut W,
+    budget: u64,
+) -> Status
+    requires ready { D.ready desk.old }
+    requires stand { W.tells world.old → AllStand D.stands (W.view world.old) desk.old }
+    ensures told { W.tells world.new
+        → Served D.answers D.stands (W.view world.old) (W.view world.new) desk.old desk.new budget result }
+    ensures never_usage { result ≢ Status.Usage }
+    ensures source_fault { result ≡ Status.SourceFault
+        → Rose (W.source_faults world.old) (W.source_faults world.new) }
+    ensures sink_fault { result ≡ Status.SinkFault
+        → Rose (W.sink_faults world.old) (W.sink_faults world.new) }
+    // Where no call fails and the input ends within the budget, nothing but memory can be wanting.
+    ensures complete { W.tells world.new
+        → ¬ (Rose (W.source_faults world.old) (W.source_faults world.new))
+        → ¬ (Rose (W.sink_faults world.old) (W.sink_faults world.new))
+        → length (W.view world.old).left ≤ budget
+        → (result ≡ Status.Done) ⊎ (result ≡ Status.NoMemory) }
+    ensures ready { result ≢ Status.NoMemory → D.ready desk.new }
+    ensures stand { result ≢ Status.NoMemory → W.tells world.new
+        → AllStand D.stands (W.view world.new) desk.new }
+    ensures later { KeepsCounts (W.source_faults world.old) (W.source_faults world.new)
+        (W.sink_faults world.old) (W.sink_faults world.new) }
+    ensures still { W.tells world.new → W.tells world.old }
+{
+    let mut chunk = [0u8; 65_536];
+    serve_by_chunks(alloc, desk, world, budget, &mut chunk)
+}
+
+/// The same, with this room for the bytes of one take.
+fn serve_by_chunks<W: Outside, D: Desk<W>>(
+    alloc: Global,
+    desk: &mut D,
+    world: &mut W,
+    budget: u64,
+    chunk: &mut [u8],
+) -> Status
+    requires room { 0 < length chunk.old }
+    requires ready { D.ready desk.old }
+    requires stand { W.tells world.old → AllStand D.stands (W.view world.old) desk.old }
+    ensures told { W.tells world.new
+        → Served D.answers D.stands (W.view world.old) (W.view world.new) desk.old desk.new budget result }
+    ensures never_usage { result ≢ Status.Usage }
+    ensures source_fault { result ≡ Status.SourceFault
+        → Rose (W.source_faults world.old) (W.source_faults world.new) }
+    ensures sink_fault { result ≡ Status.SinkFault
+        → Rose (W.sink_faults world.old) (W.sink_faults world.new) }
+    ensures ready { result ≢ Status.NoMemory → D.ready desk.new }
+    ensures later { KeepsCounts (W.source_faults world.old) (W.source_faults world.new)
+        (W.sink_faults world.old) (W.sink_faults world.new) }
+    ensures still { W.tells world.new → W.tells world.old }
+{
+    let mut kept = Vec::new(alloc);
+    let mut room = budget;
+    loop {
+        let n = match next_bytes(world, chunk, room) {
+            Ok(n) => n,
+            Err(Failed) => return Status::SourceFault,
+        };
+        if n == 0 {
+            match answer_last(alloc, desk, world, &kept) {
+                Ok(()) => return Status::Done,
+                Err(halt) => return status_of(halt),
+            }
+        }
+        if room == 0 {
+            return Status::InputLimit;
+        }
+        room -= n as u64;
+        match feed(alloc, desk, world, &mut kept, &chunk[..n]) {
+            Ok(()) => {}
+            Err(halt) => return status_of(halt),
+        }
+    }
+}
+
+/// The next bytes of the input: at most so many, and one where the budget is spent, to see whether there
+/// is more.
+fn next_bytes<W: Outside>(world: &mut W, chunk: &mut [u8], room: u64) -> Result<usize, Failed>
+    requires room { 0 < length chunk.old }
+    ensures within { IfOk result (λ n. n ≤ length chunk.new) }
+    ensures room { IfOk result (λ n. n ≤ max room 1) }
+    ensures source_fault { OnErr result
+        (Rose (W.source_faults world.old) (W.source_faults world.new)) }
+    ensures later { KeepsCounts (W.source_faults world.old) (W.source_faults world.new)
+        (W.sink_faults world.old) (W.sink_faults world.new) }
+    ensures still { W.tells world.new → W.tells world.old }
+    ensures told { W.tells world.new
+        → Took (W.view world.old) (W.view world.new) chunk.new result }
+{
+    let size = room.max(1).min(chunk.len() as u64) as usize;
+    world.take(&mut chunk[..size])
+}
+
+/// The status that a run ends with where it halts.
+fn status_of(halt: Halt) -> Status
+    ensures status { result ≡ status_at halt }
+{
+    match halt {
+        Halt::Sink => Status::SinkFault,
+        Halt::NoMemory => Status::NoMemory,
+    }
+}
