@@ -22,7 +22,7 @@ pub fn in_side(s: &Segment, p: &Point) -> bool
     on(s, p) && *p != s.a() && *p != s.b()
 }
 
-/// Whether `s` and `t` cross: the ends of each lie strictly on opposite sides of the other. Segments that touch or
+/// Whether `s` and `t` cross: each has the two ends of the other strictly on its two sides. Segments that touch or
 /// overlap don't.
 pub fn crosses(s: &Segment, t: &Segment) -> bool
     ensures { IsTrue result ↔ Cross s.now t.now }

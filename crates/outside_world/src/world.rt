@@ -41,7 +41,8 @@ pub trait Outside {
         ensures still { tells self.new → tells self.old }
         ensures told { tells self.new → Took (view self.old) (view self.new) buf.new result };
 
-    /// Appends a prefix of the bytes to the output, and answers its length, at least 1 where there are bytes.
+    /// Hands bytes to the output, and answers how many of them it took from the front: one at least, where there are
+    /// any.
     fn give(&mut self, bytes: &[u8]) -> Result<usize, Failed>
         ensures within { IfOk result (λ n. n ≤ length bytes.now) }
         ensures progress { IfOk result (λ n. 0 < length bytes.now → 0 < n) }

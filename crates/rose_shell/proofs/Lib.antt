@@ -1,3 +1,9 @@
+-- the texts of numbers and of segment commands
+mod Texts
+-- how a segment line is judged
+mod Judgements
+-- each state of a session is a realm
+mod Realms
 -- runs of calls go on
 mod Moments
 -- bytes are given call by call

@@ -2,9 +2,21 @@
 pub mod Status
 -- bytes, cut into lines
 pub mod Lines
+-- the commands and their texts
+pub mod Commands
+-- the bytes of each reply
+pub mod Replies
+-- the state of a store
+pub mod State
+-- what every store is like
+pub mod Kept
+-- what each line is answered
+pub mod Answers
 -- bytes that are given, whole or in part
 pub mod Giving
 -- one answer of a desk
 pub mod Desk
 -- a run over many lines, and a whole run of the loop
 pub mod Session
+-- the sessions of a store
+pub mod Sessions

@@ -19,7 +19,9 @@ use std::alloc::Global;
 /// Why the lines aren't answered on.
 #[derive(Clone, Copy, Debug, PartialEq, Eq)]
 pub(crate) enum Halt {
+    /// The output took no more.
     Sink,
+    /// Memory ran out.
     NoMemory,
 }
 

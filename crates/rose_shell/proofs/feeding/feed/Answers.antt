@@ -62,6 +62,7 @@ returns-in-Ok-keep-clause-kept g c = λ part is.
     let came = part_at_end part inv.done c.loop-end.rest.now inv.split c.in_default.ensures in
     cc
 
+-- so the lines that are done are all
 pub returns-in-Ok-keep-clause-went : goal.returns-in-Ok-keep-clause-went
 returns-in-Ok-keep-clause-went g c = λ part is t.
     let inv = c.loop-end.invariant in

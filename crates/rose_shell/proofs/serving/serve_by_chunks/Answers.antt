@@ -3,6 +3,7 @@ use Rattle.rose_shell.proofs.Takes.{keeping_none, keeping_more}
 use Rattle.rose_shell.proofs.Exits.{served_source, served_limit, served_halt, served_all, served_last}
 use Rattle.rose_shell.proofs.serving.serve_by_chunks.Goals as goal
 
+-- nothing was taken, and all of the budget is left
 pub loop-n-init : goal.loop-n-init
 loop-n-init g c = record {
   later = (omega arith, omega arith);
@@ -26,15 +27,17 @@ loop-n-preserved g c =
           (λ part is. ens.went part is t) (λ part is. ens.kept part is);
     }
 
+-- the source has failed when all whole lines were answered
 pub returns-in-Err-clause-told : goal.returns-in-Err-clause-told
 returns-in-Err-clause-told g c = λ t. served_source (c.loop-n.invariant.keeping (c.in-Err.ensures.still t)) (c.in-Err.ensures.told t)
 
+-- the budget was spent, and this take has given more
 pub returns-then-room-eq0-clause-told : goal.returns-then-room-eq0-clause-told
 returns-then-room-eq0-clause-told g c = λ t.
     let took = c.in-Ok.ensures in
     served_limit (c.loop-n.invariant.keeping (took.still t)) (took.told t) c.if-room-eq0.true (omega arith) took.within
 
--- the input has ended
+-- the input has ended, and what had come of a line is answered
 pub returns-in-Ok-answer_last-clause-told : goal.returns-in-Ok-answer_last-clause-told
 returns-in-Ok-answer_last-clause-told g c = λ t.
     let took = c.in-Ok.ensures in
@@ -42,6 +45,7 @@ returns-in-Ok-answer_last-clause-told g c = λ t.
     served_all (c.loop-n.invariant.keeping (took.still (ens.still t))) (took.told (ens.still t)) c.if-n-eq0.true (omega arith)
     (λ line is. ens.went line (c.deref.ensures.value ∙ is) t)
 
+-- or halts the run
 pub returns-in-Err-answer_last-clause-told : goal.returns-in-Err-answer_last-clause-told
 returns-in-Err-answer_last-clause-told g c = λ t.
     let took = c.in-Ok.ensures in

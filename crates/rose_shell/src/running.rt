@@ -1,0 +1,90 @@
+//! The calls of the program: the words choose what is done, and the loop answers line by line.
+ghost use Rattle.std.specs.Prelude.{◌≡◌, ◌≢◌, ◌≤◌, ◌^◌, ◌⊎◌, ◌↔◌, IsTrue, length, map, string_bytes, codes};
+ghost use Rattle.outside_world.specs.Counts.{Rose, KeepsCounts};
+ghost use Rattle.rose_shell.specs.State.{empty_state};
+ghost use Rattle.rose_shell.specs.Sessions.{IsRunWord, HasServed, HasRun};
+
+use crate::serving::serve_desk;
+use crate::status::Status;
+use crate::store::Store;
+use outside_world::Outside;
+use std::alloc::Global;
+use std::thread::Threads;
+
+/// How many bytes a run takes at most: 2^40.
+const MOST_BYTES: u64 = 1_099_511_627_776;
+
+/// Does what the program does with these words, the arguments after its name: `run` reads lines to the end of the
+/// input, from the empty store on, and answers each. Want of memory may end it at any place. Then the replies to the
+/// first lines were given, each whole.
+pub fn run<R: Threads + Sync, W: Outside>(
+    rt: &R,
+    alloc: Global,
+    words: &[String],
+    world: &mut W,
+) -> Status
+    ensures usage { result ≡ Status.Usage ↔ (IsRunWord (map string_bytes words.now) → ⊥) }
+    ensures run_word { result ≢ Status.Usage → IsRunWord (map string_bytes words.now) }
+    ensures untouched { result ≡ Status.Usage → world.new ≡ world.old }
+    ensures source_fault { result ≡ Status.SourceFault
+        → Rose (W.source_faults world.old) (W.source_faults world.new) }
+    ensures sink_fault { result ≡ Status.SinkFault → Rose (W.sink_faults world.old) (W.sink_faults world.new) }
+    ensures told { result ≢ Status.Usage → W.tells world.new → HasRun (W.view world.old) (W.view world.new) result }
+    ensures complete { IsRunWord (map string_bytes words.now) → W.tells world.new
+        → ¬ (Rose (W.source_faults world.old) (W.source_faults world.new))
+        → ¬ (Rose (W.sink_faults world.old) (W.sink_faults world.new))
+        → length (W.view world.old).left ≤ 2 ^ 40
+        → (result ≡ Status.Done) ⊎ (result ≡ Status.NoMemory) }
+    ensures later { KeepsCounts (W.source_faults world.old) (W.source_faults world.new)
+        (W.sink_faults world.old) (W.sink_faults world.new) }
+    ensures still { W.tells world.new → W.tells world.old }
+{
+    if !is_run_word(words) {
+        return Status::Usage;
+    }
+    let mut store = Store::new(alloc);
+    serve(rt, &mut store, world, MOST_BYTES)
+}
+
+// Whether the words are the one word `run`.
+fn is_run_word(words: &[String]) -> bool
+    ensures { IsTrue result ↔ IsRunWord (map string_bytes words.now) }
+{
+    match words {
+        [word] => is_run(word.as_str()),
+        _ => false,
+    }
+}
+
+fn is_run(word: &str) -> bool
+    ensures { IsTrue result ↔ (word.now ≡ codes "run") }
+{
+    word == "run"
+}
+
+/// Reads lines to the end of the input, and answers each from this store on. The run ends at the first fault, at
+/// want of memory, and at the first take that gives more after `budget` bytes were taken.
+pub fn serve<R: Threads + Sync, W: Outside>(
+    _rt: &R,
+    store: &mut Store,
+    world: &mut W,
+    budget: u64,
+) -> Status
+    ensures never_usage { result ≢ Status.Usage }
+    ensures source_fault { result ≡ Status.SourceFault
+        → Rose (W.source_faults world.old) (W.source_faults world.new) }
+    ensures sink_fault { result ≡ Status.SinkFault → Rose (W.sink_faults world.old) (W.sink_faults world.new) }
+    ensures told { W.tells world.new
+        → HasServed (W.view world.old) (W.view world.new) store.old store.new budget result }
+    ensures complete { W.tells world.new
+        → ¬ (Rose (W.source_faults world.old) (W.source_faults world.new))
+        → ¬ (Rose (W.sink_faults world.old) (W.sink_faults world.new))
+        → length (W.view world.old).left ≤ budget
+        → (result ≡ Status.Done) ⊎ (result ≡ Status.NoMemory) }
+    ensures later { KeepsCounts (W.source_faults world.old) (W.source_faults world.new)
+        (W.sink_faults world.old) (W.sink_faults world.new) }
+    ensures still { W.tells world.new → W.tells world.old }
+{
+    let alloc = store.allocator();
+    serve_desk(alloc, store, world, budget)
+}
