@@ -10,10 +10,11 @@ use Rattle.grid_base.proofs.Turns.{leftward, rightward}
 use Rattle.grid_base.proofs.Balances.{factor_cancels}
 use Rattle.grid_base.proofs.Lines.{line_is}
 use Rattle.segment_envelope.specs.Near.{Near}
+use Rattle.segment_envelope.proofs.Shapes.{diagonal_is, no_diagonal_is}
 use Rattle.segment_envelope.proofs.Sizes.{on_line_is_near}
 use Rattle.segment_envelope.proofs.HalfSteps.{IsHalfStepFrom, half_in_box, half_is_near}
 use Rattle.segment_envelope.proofs.Roundings.{tie_is, tie_half, centre_is}
-use Rattle.segment_envelope.proofs.Diagonals.{IsRising, IsFalling, diagonal_is, no_diagonal_is, rises_or_falls}
+use Rattle.segment_envelope.proofs.Diagonals.{IsRising, IsFalling, rises_or_falls}
 use Rattle.segment_envelope.proofs.Diagonals.{rising_place, falling_place, rising_point, falling_point}
 
 -- each corner is half a step from the centre, in each axis

@@ -1,85 +1,85 @@
--- That along its own axis a segment has a place in each column, and that side numbers measure how far a point there is
--- from it.
-use Rattle.std.proofs.Common.{◌≡◌, ◌⊎◌, ℕ, ◌+◌, ◌-◌, ◌*◌, ◌<◌, ◌≤◌, Bool, true, false, max, refl, ap, subst, arith, inl, inr, if◌then◌else◌}
-use Rattle.std.proofs.lemmas.Bool.{leb-true, leb-false}
-use Rattle.grid_base.specs.Point.{GridPoint, IsBefore, IsFromTo, InBox, gap, point_at}
-use Rattle.grid_base.specs.Segment.{GridSegment, width, height, is_flat}
-use Rattle.grid_base.proofs.Turns.{leftward, rightward}
+-- That along its own axis a segment has a place in each column, at the weighted mean of the course's ends.
+use Rattle.std.proofs.Common.{◌≡◌, ◌⊎◌, ℕ, ◌+◌, ◌-◌, ◌*◌, ◌<◌, ◌≤◌, Bool, true, false, refl, ap, subst, arith, inl, inr, if◌then◌else◌}
+use Rattle.grid_base.specs.Point.{GridPoint, IsBefore, IsFromTo, point_at}
+use Rattle.grid_base.specs.Segment.{GridSegment, is_flat}
+use Rattle.grid_base.specs.Places.{RationalPoint, IsPlace}
+use Rattle.grid_base.proofs.Balances.{factor_keeps}
+use Rattle.grid_base.proofs.Lines.{line_is, line_by}
 use Rattle.grid_base.proofs.Columns.{up_mean}
 use Rattle.segment_envelope.specs.ColumnPair.{IsColumn, at_column}
 use Rattle.segment_envelope.specs.Course.{IsCourse, IsOnGrid, run, weighted}
 use Rattle.segment_envelope.specs.declared.columns.Course.{Course}
+use Rattle.segment_envelope.proofs.Shapes.{flat_is, steep_is}
+use Rattle.segment_envelope.proofs.Distances.{IsSeen, flat_seen, steep_seen}
 
 -- ---- the place of a course
 -- the course c is at n / d in its column k
-pub record IsAtPlace (c : Course) (k d n : ℕ) : Type 0 where
-  pub inside : (c.from ≤ k) × (k ≤ c.to)
-  pub run : (0 < d) × (c.from + d ≡ c.to)
-  pub sums : n + (c.first * k + c.last * c.from) ≡ c.first * c.to + c.last * k
-  pub between : IsFromTo (c.first * d) (c.last * d) n
+record IsAt (c : Course) (k d n : ℕ) : Type 0 where
+  real : 0 < d
+  run : c.from + d ≡ c.to
+  sums : n + (c.first * k + c.last * c.from) ≡ c.first * c.to + c.last * k
+  along : IsFromTo (c.from * d) (c.to * d) (k * d)
+  across : IsFromTo (c.first * d) (c.last * d) n
 
--- the weighted mean of its ends is the place, times the run
-at_place : (c : Course) (k : ℕ) → IsOnGrid c → c.from ≤ k → k ≤ c.to → IsAtPlace c k (run c) (weighted c k)
-at_place c k on_grid from to = record {
-  inside = (from, to);
-  run = (omega (arith, on_grid.forward), omega (arith, on_grid.forward));
+-- the weighted mean of the ends is the place, times the run
+at_mean : (c : Course) (k : ℕ) → IsOnGrid c → c.from ≤ k → k ≤ c.to → IsAt c k (run c) (weighted c k)
+at_mean c k on_grid from to = record {
+  real = omega (arith, on_grid.forward);
+  run = omega (arith, on_grid.forward);
   sums =
       let before = ap (λ (m : ℕ). c.first * m) {x = c.to - k + k} {y = c.to} (omega arith) in
       let after = ap (λ (m : ℕ). c.last * m) {x = k - c.from + c.from} {y = k} (omega arith) in
       omega arith;
-  between =
+  along = omega (arith, factor_keeps c.from k (run c) from, factor_keeps k c.to (run c) to);
+  across =
       let whole : k - c.from + (c.to - k) ≡ run c = omega arith in
       subst (λ (d : ℕ). IsFromTo (c.first * d) (c.last * d) (weighted c k)) whole (up_mean (k - c.from) (c.to - k) c.first c.last);
 }
-
--- ---- the points of a column
--- the points at y are those of a column of s: the size of a side number there is d times the distance from n / d
-pub record IsMeasured (s : GridSegment) (at : ℕ → GridPoint) (first last d n : ℕ) : Type 0 where
-  pub real : 0 < d
-  pub between : IsFromTo (first * d) (last * d) n
-  pub scale : max (width s) (height s) ≡ d
-  pub size : (y : ℕ) → gap (leftward s.a s.b (at y)) (rightward s.a s.b (at y)) ≡ gap (y * d) n
-  pub box : (y : ℕ) → IsFromTo first last y → InBox s.a s.b (at y)
-
--- the points at y are column k of s, whose course is c
-abbrev IsMeasuredBy : Course → ℕ → (ℕ → GridPoint) → GridSegment → Type 0
-IsMeasuredBy c k at s = IsMeasured s at c.first c.last (run c) (weighted c k)
 
 -- the segment between two points
 abbrev between : GridPoint → GridPoint → GridSegment
 between p q = record { a = p; b = q }
 
--- a column of the flat segment with this course
-flat_column : (c : Course) (k : ℕ) → IsAtPlace c k (run c) (weighted c k)
-    → let s = between (point_at c.from c.first) (point_at c.to c.last) in height s ≤ width s → IsMeasuredBy c k (λ y. point_at k y) s
-flat_column c k place flat = record {
-  real = place.run.0;
-  between = place.between;
-  scale = omega (arith, place.run);
-  size = λ y. let at_end = ap (λ (m : ℕ). y * m) place.run.1 in omega (arith, place.sums);
-  box = λ y inside. omega (arith, place.inside);
+-- the place at n / d in column k, and in row k
+abbrev column_place : (k d n : ℕ) → RationalPoint
+column_place k d n = record { x = k * d; y = n; w = d }
+
+abbrev row_place : (k d n : ℕ) → RationalPoint
+row_place k d n = record { x = n; y = k * d; w = d }
+
+-- it is a place of the segment whose columns are those of the course
+place_of_columns : (c : Course) (k d n : ℕ) → IsAt c k d n
+    → IsPlace (between (point_at c.from c.first) (point_at c.to c.last)) (column_place k d n)
+place_of_columns c k d n at = record {
+  real = at.real;
+  line =
+      let across = ap (λ (m : ℕ). n * m) at.run in
+      let sums = ap (λ (m : ℕ). m * d) at.sums in
+      line_by (between (point_at c.from c.first) (point_at c.to c.last)) (column_place k d n) (omega arith);
+  across = at.along;
+  up = at.across;
 }
 
--- a row of the rising steep segment with this course
-rising_row : (c : Course) (k : ℕ) → IsAtPlace c k (run c) (weighted c k)
-    → let s = between (point_at c.first c.from) (point_at c.last c.to) in width s < height s → IsMeasuredBy c k (λ x. point_at x k) s
-rising_row c k place steep = record {
-  real = place.run.0;
-  between = place.between;
-  scale = omega (arith, place.run);
-  size = λ x. let at_end = ap (λ (m : ℕ). x * m) place.run.1 in omega (arith, place.sums);
-  box = λ x inside. omega (arith, place.inside);
+-- it is a place of the segment whose rows are those of the course
+place_of_rows : (c : Course) (k d n : ℕ) → IsAt c k d n
+    → IsPlace (between (point_at c.first c.from) (point_at c.last c.to)) (row_place k d n)
+place_of_rows c k d n at = record {
+  real = at.real;
+  line =
+      let across = ap (λ (m : ℕ). n * m) at.run in
+      let sums = ap (λ (m : ℕ). m * d) at.sums in
+      line_by (between (point_at c.first c.from) (point_at c.last c.to)) (row_place k d n) (omega arith);
+  across = at.across;
+  up = at.along;
 }
 
--- a row of the falling steep segment with this course, which leads up, from b to a
-falling_row : (c : Course) (k : ℕ) → IsAtPlace c k (run c) (weighted c k)
-    → let s = between (point_at c.last c.to) (point_at c.first c.from) in width s < height s → IsMeasuredBy c k (λ x. point_at x k) s
-falling_row c k place steep = record {
-  real = place.run.0;
-  between = place.between;
-  scale = omega (arith, place.run);
-  size = λ x. let at_end = ap (λ (m : ℕ). x * m) place.run.1 in omega (arith, place.sums);
-  box = λ x inside. omega (arith, place.inside);
+-- a place is one whichever end is the first
+place_turned : (p q : GridPoint) (r : RationalPoint) → IsPlace (between p q) r → IsPlace (between q p) r
+place_turned p q r place = record {
+  real = place.real;
+  line = line_by (between q p) r (omega (arith, line_is (between p q) r place));
+  across = omega (arith, place.across);
+  up = omega (arith, place.up);
 }
 
 -- ---- a segment and its course
@@ -87,14 +87,6 @@ falling_row c k place steep = record {
 by_ends : (P : GridSegment → Type 0) (s : GridSegment) (p q : GridPoint) → p ≡ s.a → q ≡ s.b → P (between p q) → P s
 by_ends P s p q at_a at_b holds =
     subst (λ (b : GridPoint). P (between s.a b)) at_b (subst (λ (a : GridPoint). P (between a q)) at_a holds)
-
--- the runs of a flat segment
-flat_is : (s : GridSegment) → is_flat s ≡ true → height s ≤ width s
-flat_is s flat = leb-true (height s) (width s) flat
-
--- the runs of a steep one
-steep_is : (s : GridSegment) → is_flat s ≡ false → width s < height s
-steep_is s steep = leb-false (height s) (width s) steep
 
 -- the point y in column k, or in row k where the segment isn't flat
 abbrev at_axis : Bool → ℕ → ℕ → GridPoint
@@ -116,22 +108,24 @@ column_of_course s c k course from to = by_axis (is_flat s) course
     by_axis false (inl ends) = omega (arith, ap (λ p. p.y) ends.0, ap (λ p. p.y) ends.1)
     by_axis false (inr ends) = omega (arith, ap (λ p. p.y) ends.0, ap (λ p. p.y) ends.1)
 
--- a column of s is measured by its course, which leads from a to b but for a steep segment that falls
-pub measured : (s : GridSegment) (c : Course) (k : ℕ) → IsBefore s.a s.b → IsCourse s c → IsOnGrid c → c.from ≤ k → k ≤ c.to
-    → IsMeasured s (at_column s k) c.first c.last (run c) (weighted c k)
-measured s c k ordered course on_grid from to = by_axis (is_flat s) refl course
-  where
-    place : IsAtPlace c k (run c) (weighted c k)
-    place = at_place c k on_grid from to
+-- a place of the segment between p and q is one of s, whichever of these is its lesser end
+place_by_ends : (s : GridSegment) (p q : GridPoint) (r : RationalPoint) → ((p ≡ s.a) × (q ≡ s.b)) ⊎ ((p ≡ s.b) × (q ≡ s.a))
+    → IsPlace (between p q) r → IsPlace s r
+place_by_ends s p q r (inl ends) place = by_ends (λ t. IsPlace t r) s p q ends.0 ends.1 place
+place_by_ends s p q r (inr ends) place = by_ends (λ t. IsPlace t r) s q p ends.1 ends.0 (place_turned p q r place)
 
-    by_axis : (flat : Bool) → is_flat s ≡ flat → Leads flat s c → IsMeasuredBy c k (at_axis flat k) s
-    by_axis true flat (inl ends) =
-        by_ends (λ t. height t ≤ width t → IsMeasuredBy c k (at_axis true k) t) s _ _ ends.0 ends.1
-        (flat_column c k place) (flat_is s flat)
-    by_axis true flat (inr ends) = absurd (omega (arith, on_grid.forward, ap (λ p. p.x) ends.0, ap (λ p. p.x) ends.1))
-    by_axis false steep (inl ends) =
-        by_ends (λ t. width t < height t → IsMeasuredBy c k (at_axis false k) t) s _ _ ends.0 ends.1
-        (rising_row c k place) (steep_is s steep)
-    by_axis false steep (inr ends) =
-        by_ends (λ t. width t < height t → IsMeasuredBy c k (at_axis false k) t) s _ _ ends.1 ends.0
-        (falling_row c k place) (steep_is s steep)
+-- the points of a column are seen from the place of the course there
+pub course_seen : (s : GridSegment) (c : Course) (k : ℕ) → IsBefore s.a s.b → IsCourse s c → IsOnGrid c → c.from ≤ k → k ≤ c.to
+    → (y : ℕ) → IsSeen s (at_column s k y) (y * run c) (weighted c k) (run c)
+course_seen s c k ordered course on_grid from to y = by_axis (is_flat s) refl course
+  where
+    at : IsAt c k (run c) (weighted c k)
+    at = at_mean c k on_grid from to
+
+    by_axis : (flat : Bool) → is_flat s ≡ flat → Leads flat s c → IsSeen s (at_axis flat k y) (y * run c) (weighted c k) (run c)
+    by_axis true flat ends =
+        let place = place_by_ends s _ _ (column_place k (run c) (weighted c k)) ends (place_of_columns c k (run c) (weighted c k) at) in
+        flat_seen s (point_at k y) _ ordered (flat_is s flat) place refl
+    by_axis false steep ends =
+        let place = place_by_ends s _ _ (row_place k (run c) (weighted c k)) ends (place_of_rows c k (run c) (weighted c k) at) in
+        steep_seen s (point_at y k) _ (steep_is s steep) place refl

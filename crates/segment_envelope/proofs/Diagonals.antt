@@ -1,8 +1,7 @@
 -- That the coordinates of the places of a diagonal have a whole difference or sum, and that of its grid points the same.
-use Rattle.std.proofs.Common.{◌≡◌, ◌≢◌, ◌⊎◌, ℕ, ◌+◌, ◌*◌, ◌<◌, ◌≤◌, true, false, ap, arith, inl, inr}
-use Rattle.std.proofs.lemmas.Bool.{eqb-true, eqb-false}
+use Rattle.std.proofs.Common.{◌≡◌, ◌⊎◌, ℕ, ◌+◌, ◌*◌, ◌<◌, ◌≤◌, ap, arith, inl, inr}
 use Rattle.grid_base.specs.Point.{GridPoint, IsBefore}
-use Rattle.grid_base.specs.Segment.{GridSegment, width, height, is_diagonal}
+use Rattle.grid_base.specs.Segment.{GridSegment, width, height}
 use Rattle.grid_base.specs.Places.{RationalPoint}
 use Rattle.grid_base.proofs.Turns.{leftward, rightward}
 use Rattle.grid_base.proofs.Balances.{gap_cancels}
@@ -19,14 +18,6 @@ pub record IsFalling (s : GridSegment) : Type 0 where
   pub across : s.a.x < s.b.x
   pub down : s.b.y < s.a.y
   pub even : s.b.x + s.b.y ≡ s.a.x + s.a.y
-
--- the runs of a diagonal are equal
-pub diagonal_is : (s : GridSegment) → is_diagonal s ≡ true → width s ≡ height s
-diagonal_is s diagonal = eqb-true (width s) (height s) diagonal
-
--- and those of any other segment aren't
-pub no_diagonal_is : (s : GridSegment) → is_diagonal s ≡ false → width s ≢ height s
-no_diagonal_is s other = eqb-false (width s) (height s) other
 
 -- a diagonal rises or falls
 pub rises_or_falls : (s : GridSegment) → IsBefore s.a s.b → width s ≡ height s → IsRising s ⊎ IsFalling s

@@ -1,10 +1,14 @@
+-- what flat, steep and diagonal segments are, by their runs
+pub mod Shapes
 -- the size of a side number, as a gap between naturals
 pub mod Sizes
 -- ranges under a factor
 pub mod Ranges
--- a segment along its own axis
+-- how far a point is from the place of its column or row
+pub mod Distances
+-- a segment along its own axis, and its place in each column
 pub mod Courses
--- a column of a segment, and the two points next to its place there
+-- the two points next to the place of a column
 pub mod Pairs
 -- grid points at most half a step from a place
 pub mod HalfSteps

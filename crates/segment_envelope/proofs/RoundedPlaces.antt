@@ -7,10 +7,11 @@ use Rattle.grid_base.specs.MeetPoint.{nearest, rounded, is_centre}
 use Rattle.grid_base.proofs.Turns.{leftward, rightward}
 use Rattle.grid_base.proofs.Lines.{line_is}
 use Rattle.segment_envelope.specs.Near.{Near}
+use Rattle.segment_envelope.proofs.Shapes.{diagonal_is, no_diagonal_is}
 use Rattle.segment_envelope.proofs.Sizes.{on_line_is_near}
 use Rattle.segment_envelope.proofs.HalfSteps.{IsHalfStepFrom, half_in_box, half_is_near}
 use Rattle.segment_envelope.proofs.Roundings.{nearest_is_rounded, rounded_half, difference_rounded, sum_rounded, tie_by, no_centre_is}
-use Rattle.segment_envelope.proofs.Diagonals.{IsRising, IsFalling, diagonal_is, no_diagonal_is, rises_or_falls}
+use Rattle.segment_envelope.proofs.Diagonals.{IsRising, IsFalling, rises_or_falls}
 use Rattle.segment_envelope.proofs.Diagonals.{rising_place, falling_place, rising_point, falling_point}
 
 -- the rounded point is at most half a step away, in each axis

@@ -10,5 +10,5 @@ mod nearness;
 mod tests;
 
 pub use columns::column_pair;
-pub use laws::{meet_point_is_near, near_is_in_envelope, on_is_near};
+pub use laws::{meet_point_is_near, near_is_in_envelope, near_is_within_one, on_is_near};
 pub use nearness::{in_envelope, near};
