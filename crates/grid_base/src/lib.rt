@@ -23,7 +23,7 @@ pub use laws::settled_is_realm;
 pub use memory::NoMemory;
 pub use original::Original;
 pub use point::{GRID_SIDE, Point, Range};
-pub use predicates::{above_at, box_meets, crosses, in_side, on};
+pub use predicates::{above_at, box_meets, crosses, in_side, on, overlaps};
 pub use reply::Reply;
 pub use segment::Segment;
 pub use sides::cross_of;

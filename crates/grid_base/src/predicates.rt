@@ -1,7 +1,9 @@
 //! Exact tests on a segment and a point, and on two segments.
-ghost use Rattle.std.specs.Prelude.{◌↔◌, IsTrue};
-ghost use Rattle.grid_base.specs.Point.{InBox};
+ghost use Rattle.std.specs.Prelude.{◌≡◌, ◌↔◌, IsTrue};
+ghost use Rattle.grid_base.specs.Point.{InBox, IsBefore};
 ghost use Rattle.grid_base.specs.Segment.{BoxesMeet, RangesMeet};
+ghost use Rattle.grid_base.specs.Sides.{On, side};
+ghost use Rattle.grid_base.specs.Places.{Overlaps};
 ghost use Rattle.grid_base.specs.Crossing.{IsOn, Inside, IsParted, Cross, IsAboveAt};
 
 use crate::point::Point;
@@ -43,6 +45,30 @@ pub fn box_meets(s: &Segment, t: &Segment) -> bool
     ensures { IsTrue result ↔ BoxesMeet s.now t.now }
 {
     meet_across(s, t) && meet_up(s, t)
+}
+
+/// Whether `s` and `t` have more than one common point. They are then on one line. Segments that
+/// cross don't overlap, nor do those that have only an end in common.
+pub fn overlaps(s: &Segment, t: &Segment) -> bool
+    ensures { IsTrue result ↔ Overlaps s.now t.now }
+{
+    interlaced(s, t) && lies_along(s, t)
+}
+
+// Whether each begins before the other ends, in the order of points.
+fn interlaced(s: &Segment, t: &Segment) -> bool
+    ensures interlaced { IsTrue result ↔ (IsBefore s.now.a t.now.b × IsBefore t.now.a s.now.b) }
+    ensures ordered { IsBefore s.now.a s.now.b × IsBefore t.now.a t.now.b }
+{
+    s.a() < t.b() && t.a() < s.b()
+}
+
+// Whether both ends of `t` are on the line of `s`.
+fn lies_along(s: &Segment, t: &Segment) -> bool
+    ensures { IsTrue result
+        ↔ ((side s.now.a s.now.b t.now.a ≡ On) × (side s.now.a s.now.b t.now.b ≡ On)) }
+{
+    cross_of(s, &t.a()) == 0 && cross_of(s, &t.b()) == 0
 }
 
 // Whether the two have a common column.

@@ -1,5 +1,5 @@
 //! Worked cases on small drawings, read off paper.
-use crate::{Point, Range, Segment, above_at, box_meets, cross_of, crosses, in_side, on};
+use crate::{Point, Range, Segment, above_at, box_meets, cross_of, crosses, in_side, on, overlaps};
 use std::test::Fail;
 
 fn segment(ends: [u64; 4]) -> Result<Segment, Fail> {
@@ -66,6 +66,29 @@ fn two_segments(rt: HostRuntime) -> Result<(), Fail> {
         assert_eq!(rt; crosses(&s, &t), cross, "at {first:?} {second:?}");
         assert_eq!(rt; crosses(&t, &s), cross, "at {second:?} {first:?}");
         assert_eq!(rt; box_meets(&s, &t), meet, "at {first:?} {second:?}");
+    }
+    Ok(())
+}
+
+// Two segments, and whether they overlap.
+#[test]
+fn segments_on_one_line(rt: HostRuntime) -> Result<(), Fail> {
+    let cases = [
+        ([0, 0, 4, 2], [2, 1, 6, 3], true),
+        ([0, 0, 9, 9], [3, 3, 5, 5], true),
+        ([0, 8, 8, 0], [0, 8, 3, 5], true),
+        ([7, 3, 7, 5], [7, 4, 7, 9], true),
+        ([0, 0, 2, 1], [2, 1, 4, 2], false),
+        ([7, 3, 7, 5], [7, 5, 7, 9], false),
+        ([0, 0, 2, 1], [4, 2, 6, 3], false),
+        ([0, 0, 4, 2], [0, 0, 4, 3], false),
+        ([0, 0, 10, 4], [0, 4, 10, 0], false),
+        ([0, 0, 5, 5], [0, 1, 5, 6], false),
+    ];
+    for (first, second, overlap) in cases {
+        let (s, t) = (segment(first)?, segment(second)?);
+        assert_eq!(rt; overlaps(&s, &t), overlap, "at {first:?} {second:?}");
+        assert_eq!(rt; overlaps(&t, &s), overlap, "at {second:?} {first:?}");
     }
     Ok(())
 }
