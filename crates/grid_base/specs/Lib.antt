@@ -14,3 +14,7 @@ pub mod MeetPoint
 pub mod Realm
 -- drawings, their points and their pieces
 pub mod Drawing
+-- the even-odd rule
+pub mod Odd
+-- sides of segments and chains in a column or row
+pub mod SideOf

@@ -1,5 +1,5 @@
 //! Worked cases on small drawings, read off paper.
-use crate::{Point, Range, Segment, above_at, box_meets, cross_of, crosses, in_side, on, overlaps};
+use crate::{Point, Range, Segment, above_at, box_meets, cross_of, crosses, in_box, in_side, on, overlaps};
 use std::test::Fail;
 
 fn segment(ends: [u64; 4]) -> Result<Segment, Fail> {
@@ -45,6 +45,25 @@ fn a_point_and_a_segment(rt: HostRuntime) -> Result<(), Fail> {
         assert_eq!(rt; on(&s, &p), is_on, "at {ends:?} {x} {y}");
         assert_eq!(rt; in_side(&s, &p), is_inside, "at {ends:?} {x} {y}");
         assert_eq!(rt; above_at(&s, &p), is_under, "at {ends:?} {x} {y}");
+    }
+    Ok(())
+}
+
+// A segment, a point, and whether the point is in the box round the segment.
+#[test]
+fn the_rim_is_in_the_box(rt: HostRuntime) -> Result<(), Fail> {
+    let cases = [
+        ([2, 7, 9, 3], [2, 3], true),
+        ([2, 7, 9, 3], [9, 7], true),
+        ([2, 7, 9, 3], [5, 5], true),
+        ([2, 7, 9, 3], [1, 5], false),
+        ([2, 7, 9, 3], [5, 8], false),
+        ([4, 1, 4, 6], [4, 6], true),
+        ([4, 1, 4, 6], [5, 6], false),
+    ];
+    for (ends, [x, y], inside) in cases {
+        let (s, p) = (segment(ends)?, Point::new(x, y)?);
+        assert_eq!(rt; in_box(&s, &p), inside, "at {ends:?} {x} {y}");
     }
     Ok(())
 }

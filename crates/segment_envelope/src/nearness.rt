@@ -1,12 +1,11 @@
 //! Grid points beside a segment: in its bounding box, and so close to its line that the side number
 //! stays below a bound.
 ghost use Rattle.std.specs.Prelude.{◌≡◌, ◌<◌, ◌^◌, ◌↔◌, IsTrue};
-ghost use Rattle.grid_base.specs.Point.{InBox};
 ghost use Rattle.grid_base.specs.Segment.{width, height};
 ghost use Rattle.segment_envelope.specs.Near.{Near};
 ghost use Rattle.segment_envelope.specs.Envelope.{Env};
 
-use grid_base::{Point, Segment, cross_of};
+use grid_base::{Point, Segment, cross_of, in_box};
 
 /// Whether `p` is near `s`: in its bounding box, the rim counted, and less than 1 above or below it;
 /// where `s` is steep, less than 1 beside it. The ends of `s` and all grid points on it are near.
@@ -41,14 +40,4 @@ pub(crate) fn run_up(s: &Segment) -> u32
     ensures below { result < 2 ^ 28 }
 {
     s.a().y().abs_diff(s.b().y())
-}
-
-// Whether `p` is in the bounding box of `s`, its rim counted.
-fn in_box(s: &Segment, p: &Point) -> bool
-    ensures { IsTrue result ↔ InBox s.now.a s.now.b p.now }
-{
-    let (a, b) = (s.a(), s.b());
-    let columns = a.x().min(b.x())..=a.x().max(b.x());
-    let rows = a.y().min(b.y())..=a.y().max(b.y());
-    columns.contains(&p.x()) && rows.contains(&p.y())
 }
