@@ -1,0 +1,10 @@
+-- Rational points between the rims of the grid.
+use Rattle.std.specs.Prelude.{◌-◌, ◌*◌, ◌^◌, ◌<◌, ◌≤◌}
+use Rattle.grid_base.specs.Places.{RationalPoint}
+
+-- q is not beyond the last column or the last row, and its numbers are small
+pub record IsWithinGrid (q : RationalPoint) : Type 0 where
+  pub real : 0 < q.w
+  pub below : q.w < 2 ^ 58
+  pub columns : q.x ≤ (2 ^ 28 - 1) * q.w
+  pub rows : q.y ≤ (2 ^ 28 - 1) * q.w

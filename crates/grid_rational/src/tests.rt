@@ -1,0 +1,240 @@
+//! Meet points and crossings as an independent exact program gave them, which intersects the two
+//! lines by fractions. In a row the first two points are the ends of the first segment, the next
+//! two those of the second.
+use crate::*;
+use grid_base::{Point, Segment};
+use std::test::Fail;
+
+const MEET_POINTS: [[[u64; 2]; 5]; 30] = [
+    [[0, 0], [10, 4], [0, 4], [10, 0], [5, 2]],
+    [[0, 0], [3, 1], [0, 1], [3, 0], [2, 1]],
+    [[0, 0], [10, 4], [6, 0], [6, 9], [6, 2]],
+    [[0, 3], [3, 0], [0, 1], [3, 2], [2, 1]],
+    [
+        [0, 0],
+        [268435455, 1],
+        [0, 1],
+        [268435455, 0],
+        [134217728, 1],
+    ],
+    // halves in one coordinate
+    [[0, 0], [1, 2], [0, 1], [5, 1], [1, 1]],
+    [[0, 2], [1, 0], [0, 1], [5, 1], [1, 1]],
+    [[0, 0], [2, 1], [1, 0], [1, 5], [1, 1]],
+    [[0, 2], [2, 1], [1, 0], [1, 5], [1, 2]],
+    [[3, 0], [4, 6], [0, 4], [7, 2], [4, 3]],
+    // halves in both
+    [[5, 5], [8, 4], [5, 4], [8, 5], [7, 5]],
+    [[10, 3], [11, 6], [10, 6], [11, 3], [11, 5]],
+    [[0, 2], [5, 3], [1, 5], [4, 0], [3, 3]],
+    // diagonals at the centre of a cell, with others
+    [[0, 0], [3, 3], [0, 1], [3, 2], [2, 2]],
+    [[0, 1], [3, 2], [0, 0], [3, 3], [2, 2]],
+    [[0, 1], [3, 2], [0, 3], [3, 0], [2, 1]],
+    [[4, 5], [5, 4], [3, 4], [6, 5], [5, 4]],
+    [[4, 4], [5, 5], [4, 6], [5, 3], [5, 5]],
+    [
+        [0, 268435455],
+        [268435455, 0],
+        [0, 1],
+        [268435455, 268435454],
+        [134217728, 134217727],
+    ],
+    [
+        [0, 0],
+        [268435455, 268435455],
+        [1, 268435455],
+        [268435454, 0],
+        [134217728, 134217728],
+    ],
+    // diagonals elsewhere
+    [[0, 0], [2, 2], [0, 2], [2, 0], [1, 1]],
+    [[0, 0], [4, 4], [0, 3], [4, 2], [2, 2]],
+    [[0, 5], [5, 0], [0, 0], [4, 5], [2, 3]],
+    // upright and level segments
+    [[7, 0], [7, 9], [0, 8], [9, 8], [7, 8]],
+    [
+        [0, 268435454],
+        [268435455, 268435454],
+        [1, 0],
+        [1, 268435455],
+        [1, 268435454],
+    ],
+    // at the rim, and as long as the grid
+    [
+        [268435452, 268435455],
+        [268435455, 268435454],
+        [268435452, 268435454],
+        [268435455, 268435455],
+        [268435454, 268435455],
+    ],
+    [
+        [0, 0],
+        [268435455, 268435454],
+        [0, 268435455],
+        [268435455, 0],
+        [134217728, 134217727],
+    ],
+    [
+        [0, 0],
+        [268435455, 268435454],
+        [134217727, 0],
+        [134217728, 268435455],
+        [134217727, 134217727],
+    ],
+    [
+        [0, 0],
+        [268435455, 268435454],
+        [1, 1],
+        [268435454, 268435452],
+        [2, 2],
+    ],
+    [
+        [0, 0],
+        [268435455, 268435454],
+        [1, 1],
+        [268435454, 268435453],
+        [134217728, 134217727],
+    ],
+];
+
+const CORNERS: [[[u64; 2]; 5]; 4] = [
+    [[0, 0], [1, 1], [0, 1], [1, 0], [0, 0]],
+    [[2, 3], [7, 8], [0, 12], [11, 1], [5, 6]],
+    [
+        [0, 0],
+        [268435455, 268435455],
+        [0, 268435455],
+        [268435455, 0],
+        [134217727, 134217727],
+    ],
+    [
+        [268435454, 268435454],
+        [268435455, 268435455],
+        [268435454, 268435455],
+        [268435455, 268435454],
+        [268435454, 268435454],
+    ],
+];
+
+const APART: [[[u64; 2]; 4]; 13] = [
+    // an end of the one is inside the other
+    [[0, 0], [4, 2], [2, 1], [5, 0]],
+    // a common end
+    [[0, 0], [4, 2], [0, 0], [3, 5]],
+    // the greater end of the one is the lesser of the other, on one line
+    [[0, 0], [2, 1], [2, 1], [4, 2]],
+    [[7, 3], [7, 5], [7, 5], [7, 9]],
+    // parallel
+    [[0, 0], [5, 5], [0, 1], [5, 6]],
+    // on one line
+    [[0, 0], [2, 1], [4, 2], [6, 3]],
+    // the lines cross beyond an end
+    [[0, 0], [10, 4], [6, 0], [6, 2]],
+    // and just beyond it
+    [
+        [0, 0],
+        [268435455, 268435454],
+        [268435454, 268435453],
+        [268435455, 0],
+    ],
+    // an overlap
+    [[0, 0], [4, 2], [2, 1], [6, 3]],
+    // the one on the other
+    [[0, 0], [9, 9], [3, 3], [5, 5]],
+    // an overlap with a common end
+    [[0, 8], [8, 0], [0, 8], [3, 5]],
+    // an upright overlap
+    [[7, 3], [7, 5], [7, 4], [7, 9]],
+    // one segment twice
+    [
+        [0, 268435455],
+        [268435455, 0],
+        [0, 268435455],
+        [268435455, 0],
+    ],
+];
+
+const CROSSINGS: [([[u64; 2]; 4], [i128; 3]); 5] = [
+    ([[0, 0], [10, 4], [0, 4], [10, 0]], [400, 160, 80]),
+    ([[0, 0], [3, 1], [0, 1], [3, 0]], [9, 3, 6]),
+    ([[0, 3], [3, 0], [0, 1], [3, 2]], [18, 18, 12]),
+    ([[6, 0], [6, 9], [0, 0], [10, 4]], [540, 216, 90]),
+    (
+        [
+            [0, 0],
+            [268435455, 268435454],
+            [0, 268435455],
+            [268435455, 0],
+        ],
+        [
+            19342812897661285486821375,
+            19342812825603691985764350,
+            144115186733678595,
+        ],
+    ),
+];
+
+fn point(p: [u64; 2]) -> Result<Point, Fail> {
+    Ok(Point::new(p[0], p[1])?)
+}
+
+fn segment(p: [u64; 2], q: [u64; 2]) -> Result<Segment, Fail> {
+    Ok(Segment::new(point(p)?, point(q)?).ok_or("one point")?)
+}
+
+#[test]
+fn segments_meet_at_the_rounded_crossing(rt: HostRuntime) -> Result<(), Fail> {
+    for [a, b, c, d, m] in MEET_POINTS {
+        let (s, t) = (segment(a, b)?, segment(c, d)?);
+        let want = Meet::At(point(m)?);
+        assert_eq!(rt; meet_point(&s, &t), want, "{s:?} {t:?}");
+        assert_eq!(rt; meet_point(&t, &s), want, "{t:?} {s:?}");
+    }
+    Ok(())
+}
+
+#[test]
+fn two_diagonals_have_a_corner_at_a_centre(rt: HostRuntime) -> Result<(), Fail> {
+    for [a, b, c, d, z] in CORNERS {
+        let (s, t) = (segment(a, b)?, segment(c, d)?);
+        let cell = point(z)?;
+        let rising_first = Meet::Corner {
+            cell,
+            falling_first: false,
+        };
+        let falling_first = Meet::Corner {
+            cell,
+            falling_first: true,
+        };
+        assert_eq!(rt; meet_point(&s, &t), rising_first, "{s:?} {t:?}");
+        assert_eq!(rt; meet_point(&t, &s), falling_first, "{t:?} {s:?}");
+    }
+    Ok(())
+}
+
+#[test]
+fn segments_that_dont_cross_are_apart(rt: HostRuntime) -> Result<(), Fail> {
+    for [a, b, c, d] in APART {
+        let (s, t) = (segment(a, b)?, segment(c, d)?);
+        assert_eq!(rt; meet_point(&s, &t), Meet::Apart, "{s:?} {t:?}");
+        assert!(rt; crossing(&s, &t).is_none(), "{s:?} {t:?}");
+    }
+    Ok(())
+}
+
+#[test]
+fn the_crossing_is_exact(rt: HostRuntime) -> Result<(), Fail> {
+    for ([a, b, c, d], [x, y, w]) in CROSSINGS {
+        let (s, t) = (segment(a, b)?, segment(c, d)?);
+        let place = crossing(&s, &t).ok_or("apart")?;
+        assert_eq!(rt; (place.x, place.y, place.w), (x, y, w), "{s:?} {t:?}");
+    }
+    Ok(())
+}
+
+#[test]
+fn the_laws_are_called() {
+    crossing_is_one();
+    meet_point_is_one();
+}
