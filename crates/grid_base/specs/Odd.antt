@@ -1,5 +1,5 @@
 -- The even-odd rule: which points a border of segments encloses.
-use Rattle.std.specs.Prelude.{◌≡◌, ℕ, ◌*◌, ◌%◌, ◌&&◌, Bool, true, false, nat_lt, nat_le, List, count_by, ℤ, pos, ◌-ℤ◌, ◌*ℤ◌}
+use Rattle.std.specs.Prelude.{◌≡◌, ◌*◌, ◌%◌, ◌&&◌, Bool, true, false, nat_lt, nat_le, List, count_by, ℤ, pos, ◌-ℤ◌, ◌*ℤ◌}
 use Rattle.grid_base.specs.Segment.{GridSegment}
 use Rattle.grid_base.specs.Sides.{Side, Left, On, Right, side_of}
 use Rattle.grid_base.specs.Places.{RationalPoint}

@@ -1,13 +1,12 @@
 -- That the distances of two points from a line that parts them are differences of the two sums that a turn counts.
-use Rattle.std.proofs.Common.{◌≡◌, ℕ, ◌+◌, ◌<◌, ℤ, pos, negsuc, ◌-ℤ◌, arith, inl, inr}
-use Rattle.std.proofs.lemmas.Int.{ints}
+use Rattle.std.proofs.Common.{◌≡◌, ℕ, ◌+◌, ◌<◌, arith, inl, inr}
 use Rattle.std.specs.Prelude.{unsigned_abs}
 use Rattle.grid_base.specs.Point.{GridPoint}
 use Rattle.grid_base.specs.Segment.{GridSegment}
 use Rattle.grid_base.specs.Sides.{side_number}
 use Rattle.grid_base.specs.Crossing.{IsParted}
 use Rattle.grid_base.proofs.Turns.{leftward, rightward, turn_is}
-use Rattle.grid_base.proofs.Crossings.{parted_is}
+use Rattle.grid_base.proofs.Crossings.{parted_is, size_above, size_below}
 
 -- the distance of p from the line of s
 abbrev pub distance : GridSegment → GridPoint → ℕ
@@ -22,16 +21,6 @@ pub record IsLeftBy (s : GridSegment) (p : GridPoint) : Type 0 where
 pub record IsRightBy (s : GridSegment) (p : GridPoint) : Type 0 where
   pub sums : distance s p + leftward s.a s.b p ≡ rightward s.a s.b p
   pub above_0 : 0 < distance s p
-
--- the size of a difference above 0
-size_above : (z : ℤ) (l r : ℕ) → z ≡ pos l -ℤ pos r → r < l → unsigned_abs z + r ≡ l
-size_above (pos n) l r is above = omega (arith, ints)
-size_above (negsuc n) l r is above = absurd (omega (arith, ints))
-
--- the size of a difference below 0
-size_below : (z : ℤ) (l r : ℕ) → z ≡ pos l -ℤ pos r → l < r → unsigned_abs z + l ≡ r
-size_below (pos n) l r is below = absurd (omega (arith, ints))
-size_below (negsuc n) l r is below = omega (arith, ints)
 
 -- a point on the left has the distance by which the sum to the left is the greater
 left_by : (s : GridSegment) (p : GridPoint) → rightward s.a s.b p < leftward s.a s.b p → IsLeftBy s p
