@@ -1,0 +1,12 @@
+//! Who owns each piece of a drawing: many originals may share a piece, which has one key as long as
+//! it has an owner. Begin at `Registry`. Only `add` and `pieces` take memory.
+#![tactic(auto)]
+
+mod ends;
+mod holding;
+mod holdings;
+mod registry;
+#[cfg(test)]
+mod tests;
+
+pub use registry::Registry;
