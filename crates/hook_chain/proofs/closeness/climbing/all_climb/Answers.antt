@@ -1,0 +1,35 @@
+use Rattle.std.proofs.Common.{refl, arith}
+use Rattle.hook_chain.proofs.Descents.{high_moved, high_descends, low_ascends, within_piece, high_climbs, descent_ends}
+use Rattle.hook_chain.proofs.closeness.climbing.all_climb.Goals as goal
+
+-- the new upper way is within the piece
+pub climbs-requires-clause-way_below : goal.climbs-requires-clause-way_below
+climbs-requires-clause-way_below c =
+    let within = within_piece _ _ _ _ _ _ _ _ (high_moved _ _ _ _ _ _ _ _ _ c.loop-under.invariant.split refl) in
+    omega arith
+
+-- a way within the piece that doesn't climb is the new upper one
+pub returns-then-not-climbs-clause-only : goal.returns-then-not-climbs-clause-only
+returns-then-not-climbs-clause-only c all =
+    let split = high_moved _ _ _ _ _ _ _ _ _ c.loop-under.invariant.split refl in
+    let high = high_climbs _ _ _ _ _ _ _ _ _ _ _ split all in
+    let here = rw (← c.moved-high.ensures.p, ← c.moved-high.ensures.q) at high in
+    c.if-not-climbs.ensures.1 here
+
+-- all ways from the new upper one on climb
+pub loop-under-preserved-else-not-climbs : goal.loop-under-preserved-else-not-climbs
+loop-under-preserved-else-not-climbs c =
+    let climbs = c.if-not-climbs.ensures.0 refl in
+    let here = rw (c.moved-high.ensures.p, c.moved-high.ensures.q) at climbs in
+    rw (c.moved-high.ensures.p, c.moved-high.ensures.q)
+    (high_descends _ _ _ _ _ _ _ _ _ _ _ _ c.loop-under.invariant refl c.if-under-over.true here)
+
+-- the lower way goes up, and the upper one stays
+pub loop-under-preserved : goal.loop-under-preserved
+loop-under-preserved c =
+    rw (c.moved-low.ensures.p, c.moved-low.ensures.q) (low_ascends _ _ _ _ _ _ _ _ _ _ _ _ c.loop-under.invariant refl)
+
+-- both parts are of one size
+pub returns-clause-steeper : goal.returns-clause-steeper
+returns-clause-steeper c _ b a steep =
+    descent_ends _ _ _ _ _ _ _ _ _ _ _ c.loop-under.invariant (omega arith) c.requires.forth b a steep

@@ -1,0 +1,22 @@
+-- Chains as lists of grid points.
+use Rattle.std.specs.Prelude.{◌≡◌, List, [], ◌∷◌}
+use Rattle.grid_base.specs.Point.{GridPoint}
+
+-- P holds of each vertex and the next
+abbrev pub AllLinks : (GridPoint → GridPoint → Type 0) → List GridPoint → Type 0
+AllLinks P [] = Unit {0}
+AllLinks P (v ∷ []) = Unit {0}
+AllLinks P (v ∷ w ∷ chain) = P v w × AllLinks P (w ∷ chain)
+
+-- P holds of each three vertices in a row
+abbrev pub AllBends : (GridPoint → GridPoint → GridPoint → Type 0) → List GridPoint → Type 0
+AllBends P [] = Unit {0}
+AllBends P (u ∷ []) = Unit {0}
+AllBends P (u ∷ v ∷ []) = Unit {0}
+AllBends P (u ∷ v ∷ w ∷ chain) = P u v w × AllBends P (v ∷ w ∷ chain)
+
+-- the list leads from a to b
+abbrev pub Leads : GridPoint → GridPoint → List GridPoint → Type 0
+Leads a b [] = ⊥
+Leads a b (v ∷ []) = (v ≡ a) × (v ≡ b)
+Leads a b (v ∷ w ∷ chain) = (v ≡ a) × Leads w b (w ∷ chain)

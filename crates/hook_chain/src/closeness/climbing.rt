@@ -1,0 +1,71 @@
+//! Whether all ways that are steeper than a piece climb against a line. The grid points above a
+//! slope have a hull whose corners Euclid's algorithm finds, and where some way doesn't climb, the
+//! way to a corner doesn't.
+ghost use Rattle.std.specs.Prelude.{◌≡◌, ◌+◌, ◌*◌, ◌^◌, ◌<◌, ◌≤◌, ◌↔◌, IsTrue};
+ghost use Rattle.hook_chain.specs.Climbs.{Climbs, AllSteeperClimb, AllSteeperWithinClimb};
+
+use crate::fraction::Fraction;
+
+/// Whether each way steeper than `piece` climbs against `line` by more than `margin`.
+pub(crate) fn all_climb(line: Fraction, margin: u64, piece: Fraction) -> bool
+    requires line_below { (line.p < 2 ^ 57) × (line.q < 2 ^ 57) × (margin < 2 ^ 57) }
+    requires piece_below { (piece.p < 2 ^ 57) × (piece.q < 2 ^ 57) }
+    requires some { (0 < piece.p) × (0 < piece.q) }
+    requires forth { line.p * piece.q ≤ line.q * piece.p }
+    ensures steeper { IsTrue result → AllSteeperClimb line.q line.p margin piece.q piece.p }
+    ensures only { AllSteeperWithinClimb line.q line.p margin piece.q piece.p → IsTrue result }
+{
+    if margin >= line.q {
+        return false;
+    }
+    let mut low = Fraction { p: 0, q: 1 };
+    let mut high = Fraction { p: 1, q: 0 };
+    let mut under = piece.p;
+    let mut over = piece.q;
+    while under != over {
+        if under < over {
+            let k = (over - 1) / under;
+            high = moved(high, k, low);
+            over -= k * under;
+            if !climbs(line, margin, high) {
+                return false;
+            }
+        } else {
+            let k = (under - 1) / over;
+            low = moved(low, k, high);
+            under -= k * over;
+        }
+    }
+    true
+}
+
+// The fraction that lies k times `by` past `from`, its numerator and its denominator each.
+fn moved(from: Fraction, k: u64, by: Fraction) -> Fraction
+    requires p_below { from.p + k * by.p < 2 ^ 57 }
+    requires q_below { from.q + k * by.q < 2 ^ 57 }
+    ensures p { result.p ≡ from.p + k * by.p }
+    ensures q { result.q ≡ from.q + k * by.q }
+{
+    Fraction {
+        p: from.p + k * by.p,
+        q: from.q + k * by.q,
+    }
+}
+
+// Whether the way climbs against `line`.
+fn climbs(line: Fraction, margin: u64, way: Fraction) -> bool
+    requires line_below { (line.p < 2 ^ 57) × (line.q < 2 ^ 57) × (margin < 2 ^ 57) }
+    requires way_below { (way.p < 2 ^ 57) × (way.q < 2 ^ 57) }
+    ensures { IsTrue result ↔ Climbs line.q line.p margin way.q way.p }
+{
+    u128::from(margin) + product(line.p, way.q) < product(line.q, way.p)
+}
+
+fn product(m: u64, n: u64) -> u128
+    requires m_below { m < 2 ^ 57 }
+    requires n_below { n < 2 ^ 57 }
+    ensures product { result ≡ m * n }
+    ensures below { result < 2 ^ 114 }
+{
+    u128::from(m) * u128::from(n)
+}
