@@ -42,7 +42,8 @@ Hook t x chain =
     ⊎ ((side t.a t.b x ≢ On) × (to : List GridPoint) × (from : List GridPoint) × (chain ≡ to ++ x ∷ from)
     × IsBent t x to from)
 
--- p lies beside the link from v to w: in one of its columns where t is flat, and in one of its rows where t is steep
+-- p lies beside the link from v to w: in one of its columns where t is flat, and in one of its rows where
+-- t is steep
 abbrev pub IsBeside : GridSegment → GridPoint → GridPoint → GridPoint → Type 0
 IsBeside t v w p = MatchBool (is_flat t) (IsFromTo v.x w.x p.x) (IsFromTo v.y w.y p.y)
 

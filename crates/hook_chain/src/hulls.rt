@@ -38,8 +38,7 @@ impl From<NoMemory> for HookError {
 pub fn hook(alloc: Global, t: &Segment, x: Point) -> Result<Chain, HookError>
     ensures hook { IfOk result (λ chain. Hook t.now x chain) }
     ensures not_near { result ≡ Err NotNear ↔ (Near t.now x → ⊥) }
-    ensures near { IfOk result (λ chain. Near t.now x) }
-    ensures no_memory { result ≡ Err Exhausted → Near t.now x }
+    ensures near { result ≢ Err NotNear → Near t.now x }
 {
     if !near(t, &x) {
         return Err(HookError::NotNear);
