@@ -1,0 +1,52 @@
+-- Reading one of several words.
+use Rattle.std.specs.Prelude.{ℕ, List, [], ◌∷◌, map, Result}
+use Rattle.rose_values.specs.declared.operators.Op.{Op}
+use Rattle.rose_values.specs.declared.operators.Op.TheVariants as ops
+use Rattle.rose_values.specs.declared.operators.Pred.{Pred}
+use Rattle.rose_values.specs.declared.operators.Pred.TheVariants as preds
+use Rattle.rose_values.specs.declared.operators.Num.{Num}
+use Rattle.rose_values.specs.declared.operators.Num.TheVariants as nums
+use Rattle.line_grammar.specs.declared.words.ChangeWord.TheVariants as changes
+use Rattle.line_grammar.specs.declared.words.QueryWord.TheVariants as queries
+use Rattle.line_grammar.specs.declared.words.Keyword.{Keyword}
+use Rattle.line_grammar.specs.declared.words.Keyword.TheVariants as lines
+use Rattle.line_grammar.specs.Words.{operator, predicate, measure, keyword}
+use Rattle.line_grammar.specs.Reading.{choose_at}
+
+abbrev pub all_operators : List Op
+all_operators =
+    ops.Intersection ∷ ops.Plus ∷ ops.Minus ∷ ops.CommonBorder ∷ ops.Vertices ∷ ops.Contour ∷ ops.Interior ∷ []
+
+abbrev pub all_predicates : List Pred
+all_predicates =
+    preds.Equal ∷ preds.Inside ∷ preds.EdgeInside ∷ preds.VertexInside ∷ preds.AreaDisjoint ∷ preds.EdgeDisjoint
+    ∷ preds.Disjoint ∷ preds.Intersects ∷ preds.Meets ∷ preds.Adjacent ∷ preds.Encloses ∷ preds.OnBorderOf
+    ∷ preds.BorderInCommon ∷ []
+
+abbrev pub all_measures : List Num
+all_measures = nums.Area2 ∷ nums.Dist2 ∷ nums.Diameter2 ∷ nums.NoOfComponents ∷ []
+
+abbrev pub all_keywords : List Keyword
+all_keywords =
+    lines.Change changes.Point ∷ lines.Change changes.Unpoint ∷ lines.Change changes.Segment
+    ∷ lines.Change changes.Points ∷ lines.Change changes.Lines ∷ lines.Change changes.Regions
+    ∷ lines.Change changes.Let ∷ lines.Change changes.Drop ∷ lines.Change changes.Delete
+    ∷ lines.Query queries.Realm ∷ lines.Query queries.Show ∷ lines.Query queries.Chain ∷ lines.Query queries.Eval
+    ∷ lines.Query queries.Ask ∷ lines.Query queries.Num ∷ lines.Query queries.Faces ∷ lines.Query queries.Trace
+    ∷ lines.Batch ∷ lines.Checkpoint ∷ []
+
+-- each with its word
+abbrev pub entries : {T : Type 0} → (T → List ℕ) → List T → List (List ℕ × T)
+entries word all = map (λ t. (word t, t)) all
+
+unfoldable pub operator_at : List ℕ → Result (Op × List ℕ) ℕ
+operator_at line = choose_at (entries operator all_operators) line
+
+unfoldable pub predicate_at : List ℕ → Result (Pred × List ℕ) ℕ
+predicate_at line = choose_at (entries predicate all_predicates) line
+
+unfoldable pub measure_at : List ℕ → Result (Num × List ℕ) ℕ
+measure_at line = choose_at (entries measure all_measures) line
+
+unfoldable pub keyword_at : List ℕ → Result (Keyword × List ℕ) ℕ
+keyword_at line = choose_at (entries keyword all_keywords) line

@@ -1,0 +1,120 @@
+-- Reading what stands behind a keyword, and whole lines.
+use Rattle.std.specs.Prelude.{ℕ, List, [], Result, Ok, Option, Some, None, Bool, true, false, codes}
+use Rattle.rose_values.specs.declared.operators.Op.{Op}
+use Rattle.rose_values.specs.declared.operators.Pred.{Pred}
+use Rattle.rose_values.specs.declared.operators.Num.{Num}
+use Rattle.line_grammar.specs.declared.command.At.{At}
+use Rattle.line_grammar.specs.declared.command.Change.{Change}
+use Rattle.line_grammar.specs.declared.command.Change.TheVariants as change
+use Rattle.line_grammar.specs.declared.command.Query.{Query}
+use Rattle.line_grammar.specs.declared.command.Query.TheVariants as query
+use Rattle.line_grammar.specs.declared.command.Command.{Command}
+use Rattle.line_grammar.specs.declared.command.Command.TheVariants as command
+use Rattle.line_grammar.specs.declared.words.ChangeWord.{ChangeWord}
+use Rattle.line_grammar.specs.declared.words.ChangeWord.TheVariants as changes
+use Rattle.line_grammar.specs.declared.words.QueryWord.{QueryWord}
+use Rattle.line_grammar.specs.declared.words.QueryWord.TheVariants as queries
+use Rattle.line_grammar.specs.declared.words.Keyword.{Keyword}
+use Rattle.line_grammar.specs.declared.words.Keyword.TheVariants as lines
+use Rattle.line_grammar.specs.Words.{takes_two, measures_two}
+use Rattle.line_grammar.specs.Reading.{◌>>=◌, literal_at, end_at, number_at, name_at, point_at, led_point_at, led_name_at, points_at}
+use Rattle.line_grammar.specs.Choosing.{operator_at, predicate_at, measure_at, keyword_at}
+use Rattle.line_grammar.specs.Listing.{lists_at}
+
+-- ---- what ends a line
+
+-- a token, and then the end
+abbrev pub last : {A : Type 0} → (List ℕ → Result (A × List ℕ) ℕ) → List ℕ → Result A ℕ
+last read line = read line >>= λ x. end_at x.1 >>= λ none. Ok x.0
+
+unfoldable pub last_number_at : List ℕ → Result ℕ ℕ
+last_number_at line = last number_at line
+
+unfoldable pub last_point_at : List ℕ → Result At ℕ
+last_point_at line = last point_at line
+
+unfoldable pub last_name_at : List ℕ → Result (List ℕ) ℕ
+last_name_at line = last name_at line
+
+unfoldable pub last_led_point_at : List ℕ → Result At ℕ
+last_led_point_at line = last led_point_at line
+
+unfoldable pub last_led_name_at : List ℕ → Result (List ℕ) ℕ
+last_led_name_at line = last led_name_at line
+
+-- ---- a token, and then what ends the line
+
+-- a token, and then the rest, which may depend on the token
+abbrev pub behind : {A B : Type 0} → (List ℕ → Result (A × List ℕ) ℕ) → (A → List ℕ → Result B ℕ) → List ℕ → Result (A × B) ℕ
+behind read rest line = read line >>= λ x. rest x.0 x.1 >>= λ b. Ok (x.0, b)
+
+unfoldable pub two_points_at : List ℕ → Result (At × At) ℕ
+two_points_at line = behind point_at (λ p. last_led_point_at) line
+
+unfoldable pub two_names_at : List ℕ → Result (List ℕ × List ℕ) ℕ
+two_names_at line = behind name_at (λ a. last_led_name_at) line
+
+unfoldable pub named_points_at : List ℕ → Result (List ℕ × List At) ℕ
+named_points_at line = behind name_at (λ n. points_at []) line
+
+unfoldable pub named_lists_at : List ℕ → Result (List ℕ × List (List At)) ℕ
+named_lists_at line = behind name_at (λ n. lists_at) line
+
+-- a second name where two are taken, and the end
+unfoldable pub second_at : Bool → List ℕ → Result (Option (List ℕ)) ℕ
+second_at true line = last_led_name_at line >>= λ b. Ok (Some b)
+second_at false line = end_at line >>= λ none. Ok None
+
+-- one name, and a second where two are taken
+unfoldable pub operands_at : Bool → List ℕ → Result (List ℕ × Option (List ℕ)) ℕ
+operands_at two line = behind name_at (λ a. second_at two) line
+
+unfoldable pub operation_at : List ℕ → Result (Op × (List ℕ × Option (List ℕ))) ℕ
+operation_at line = behind operator_at (λ op. operands_at (takes_two op)) line
+
+unfoldable pub measuring_at : List ℕ → Result (Num × (List ℕ × Option (List ℕ))) ℕ
+measuring_at line = behind measure_at (λ num. operands_at (measures_two num)) line
+
+unfoldable pub question_at : List ℕ → Result (Pred × (List ℕ × List ℕ)) ℕ
+question_at line = behind predicate_at (λ p. two_names_at) line
+
+unfoldable pub defined_at : List ℕ → Result (Op × (List ℕ × Option (List ℕ))) ℕ
+defined_at line = literal_at (codes " = ") line >>= operation_at
+
+unfoldable pub definition_at : List ℕ → Result (List ℕ × (Op × (List ℕ × Option (List ℕ)))) ℕ
+definition_at line = behind name_at (λ n. defined_at) line
+
+-- ---- lines
+
+-- what stands behind the first word of a change
+unfoldable pub change_at : ChangeWord → List ℕ → Result Change ℕ
+change_at changes.Point line = last_point_at line >>= λ p. Ok (change.Point p)
+change_at changes.Unpoint line = last_point_at line >>= λ p. Ok (change.Unpoint p)
+change_at changes.Segment line = two_points_at line >>= λ ends. Ok (change.Segment ends.0 ends.1)
+change_at changes.Points line = named_points_at line >>= λ n. Ok (change.Points n.0 n.1)
+change_at changes.Lines line = named_lists_at line >>= λ n. Ok (change.Lines n.0 n.1)
+change_at changes.Regions line = named_lists_at line >>= λ n. Ok (change.Regions n.0 n.1)
+change_at changes.Let line = definition_at line >>= λ d. Ok (change.Let d.0 d.1.0 d.1.1.0 d.1.1.1)
+change_at changes.Drop line = last_name_at line >>= λ n. Ok (change.Drop n)
+change_at changes.Delete line = last_number_at line >>= λ id. Ok (change.Delete id)
+
+-- what stands behind the first word of a query
+unfoldable pub query_at : QueryWord → List ℕ → Result Query ℕ
+query_at queries.Realm line = end_at line >>= λ none. Ok query.Realm
+query_at queries.Show line = last_name_at line >>= λ n. Ok (query.Show n)
+query_at queries.Chain line = last_number_at line >>= λ id. Ok (query.Chain id)
+query_at queries.Eval line = operation_at line >>= λ o. Ok (query.Eval o.0 o.1.0 o.1.1)
+query_at queries.Ask line = question_at line >>= λ q. Ok (query.Ask q.0 q.1.0 q.1.1)
+query_at queries.Num line = measuring_at line >>= λ m. Ok (query.Num m.0 m.1.0 m.1.1)
+query_at queries.Faces line = last_name_at line >>= λ n. Ok (query.Faces n)
+query_at queries.Trace line = last_number_at line >>= λ n. Ok (query.Trace n)
+
+-- what stands behind the first word of a line
+unfoldable pub form_at : Keyword → List ℕ → Result Command ℕ
+form_at (lines.Change word) line = change_at word line >>= λ c. Ok (command.Change c)
+form_at (lines.Query word) line = query_at word line >>= λ q. Ok (command.Query q)
+form_at lines.Batch line = last_number_at line >>= λ n. Ok (command.Batch n)
+form_at lines.Checkpoint line = end_at line >>= λ none. Ok command.Checkpoint
+
+unfoldable pub command_at : List ℕ → Result Command ℕ
+command_at line = keyword_at line >>= λ k. form_at k.0 k.1

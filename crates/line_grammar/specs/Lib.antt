@@ -1,0 +1,18 @@
+-- the words of operators, predicates, numbers and lines
+pub mod Words
+-- the one text of each command
+pub mod Spelling
+-- which commands have a text
+pub mod Spellable
+-- which texts are read, and where the others go wrong
+pub mod Lines
+-- how far two texts agree
+pub mod Agree
+-- reading tokens from left to right, with the place where it stops
+pub mod Reading
+-- reading one of several words
+pub mod Choosing
+-- reading lists with semicolons between them
+pub mod Listing
+-- reading what stands behind a keyword, and whole lines
+pub mod Forms

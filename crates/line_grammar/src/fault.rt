@@ -1,0 +1,38 @@
+//! Why a line could not be read. Within the crate a reader counts the bytes that are left behind the place where it
+//! stopped, since that number stays the same however many bytes were read before it.
+ghost use Rattle.std.specs.Prelude.{◌≡◌};
+ghost use Rattle.line_grammar.specs.declared.fault.ReadError.TheVariants.{NoMemory};
+
+use std::alloc::{AllocError, AllocFailed};
+
+/// Why a line gives no command.
+#[derive(Debug, Drop)]
+pub enum LineError {
+    /// No command has this text. The first `at` bytes are the most with which the text of some command begins.
+    Bad { at: usize },
+    /// Memory ran out.
+    NoMemory,
+}
+
+/// Why a reader stopped, `left` bytes before the end of the line.
+#[derive(Debug, Drop)]
+pub enum ReadError {
+    Stopped { left: usize },
+    NoMemory,
+}
+
+impl From<AllocError> for ReadError {
+    ghost from_gives = { λ _ e. e ≡ NoMemory };
+
+    fn from(_e: AllocError) -> ReadError {
+        ReadError::NoMemory
+    }
+}
+
+impl<T: Drop> From<AllocFailed<T>> for ReadError {
+    ghost from_gives = { λ _ e. e ≡ NoMemory };
+
+    fn from(_e: AllocFailed<T>) -> ReadError {
+        ReadError::NoMemory
+    }
+}
