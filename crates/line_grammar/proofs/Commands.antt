@@ -1,5 +1,5 @@
 -- This file shows that lines are read exactly.
-use Rattle.std.proofs.Common.{◌≡◌, ℕ, List, [], ◌++◌, Option, Result, Ok, refl, sym, ap, subst, ◌∙◌}
+use Rattle.std.proofs.Common.{◌≡◌, ℕ, List, [], ◌++◌, Option, Result, Ok, Err, arith, refl, sym, ap, subst, ◌∙◌}
 use Rattle.std.specs.Fmt.{decimal}
 use Rattle.rose_values.specs.declared.operators.Op.{Op}
 use Rattle.rose_values.specs.declared.operators.Pred.{Pred}
@@ -23,6 +23,7 @@ use Rattle.line_grammar.specs.Spellable.{IsNumber, IsName, IsPoint, IsSpellableC
 use Rattle.line_grammar.specs.Lines.{Says}
 use Rattle.line_grammar.specs.Forms.{change_at, query_at, form_at, command_at}
 use Rattle.line_grammar.specs.Reading.{◌>>=◌}
+use Rattle.line_grammar.proofs.Agreement.{agree-self}
 use Rattle.line_grammar.proofs.Exact.{Exact, Exact-same, Tail, Then, then, Spells}
 use Rattle.line_grammar.proofs.Literals.{Ended, finish, Made, made}
 use Rattle.line_grammar.proofs.Choices.{Any}
@@ -246,3 +247,13 @@ whole_formed command.Checkpoint s h = with_word lines.Checkpoint command.Checkpo
 pub exact_lines : (line : List ℕ) → Exact (λ c s. Says s c) line (command_at line)
 exact_lines line =
     Exact-same (Then keyword_token.kind Form) (λ c s. Says s c) line (command_at line) whole_said whole_formed (whole.exact line)
+
+-- what is read of a text is its only command
+one_spelled : (s : List ℕ) (r : Result Command ℕ) → Exact (λ c t. Says t c) s r → (c d : Command) → Says s c → Says s d → c ≡ d
+one_spelled s (Ok e) x c d says also = x.alone c says ∙ sym (x.alone d also)
+one_spelled s (Err left) x c d says also =
+    absurd (let whole = agree-self s in let less = x.furthest c s says in omega (arith, whole, less))
+
+pub one_command : (c d : Command) → IsSpellable c → IsSpellable d → text_of c ≡ text_of d → c ≡ d
+one_command c d fits also same =
+    one_spelled (text_of c) (command_at (text_of c)) (exact_lines (text_of c)) c d (fits, refl) (also, same)

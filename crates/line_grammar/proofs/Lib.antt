@@ -22,5 +22,7 @@ pub mod ListRows
 pub mod Ends
 -- whole lines
 pub mod Commands
+-- how the text of lists begins
+pub mod Texts
 -- where a line is refused
 pub mod Refusals

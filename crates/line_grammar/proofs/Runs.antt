@@ -7,7 +7,7 @@ use Rattle.std.proofs.lemmas.Fmt.{digits_decimal, digits_value-decimal, decimal-
 use Rattle.std.proofs.Math.Seq.{drop-cons}
 use Rattle.std.proofs.lemmas.Bool.Decides.{nat_tests}
 use Rattle.std.proofs.lemmas.Bool.{cases_lt, eq-eqb, ne_eqb}
-use Rattle.std.proofs.lemmas.List.{length-take, length-drop, take-append-drop, nil_from_length}
+use Rattle.std.proofs.lemmas.List.{length-take, length-drop, take-append-drop, take_all, nil_from_length}
 use Rattle.line_grammar.specs.Agree.{agree}
 use Rattle.line_grammar.specs.Spellable.{is_letter, is_digit, is_name_byte, IsName, IsNumber}
 use Rattle.line_grammar.specs.Reading.{run, value_from, name_at, number_at}
@@ -60,6 +60,21 @@ run_passes test (suc most) [] = rw (run-nil test (suc most)) tt
 run_passes test (suc most) (b ∷ line) = tested (test b)
     (λ holds. rw (run-pass test most b line holds) (holds, run_passes test most line))
     (λ fails. rw (run-fail test (suc most) b line fails) tt)
+
+-- a list that is all run passes
+pub run_only : (test : ℕ → Bool) (most : ℕ) (ds : List ℕ) → run test most ds ≡ length ds → Passes test ds
+run_only test most ds all =
+    let whole : front test most ds ≡ ds = take_all (run test most ds) ds (omega (arith, all)) in
+    subst (Passes test) whole (run_passes test most ds)
+
+-- a list that passes is all run
+pub run_all : (test : ℕ → Bool) (most : ℕ) (ds : List ℕ) → length ds ≤ most → Passes test ds → run test most ds ≡ length ds
+run_all test most [] le pass = run-nil test most
+run_all test zero (d ∷ ds) le pass = absurd (omega (arith, le))
+run_all test (suc most) (d ∷ ds) le pass =
+    let head = run-pass test most d ds pass.0 in
+    let rest = run_all test most ds (omega (arith, le)) pass.1 in
+    omega (arith, head, rest)
 
 -- another run of bytes that pass, with a text that goes on otherwise, parts from the line within its run
 run_apart : (test : ℕ → Bool) → (test 32 ≡ false) → (most : ℕ) (line ds t : List ℕ) → Passes test ds → length ds ≤ most → Parted t → (ds ≡ front test most line) ⊎ (agree line (ds ++ t) ≤ run test most line)

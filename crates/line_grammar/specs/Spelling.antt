@@ -35,6 +35,10 @@ lists [] = []
 lists (ps ∷ []) = points ps
 lists (ps ∷ qs ∷ more) = points ps ++ (codes " ;" ++ lists (qs ∷ more))
 
+-- a list behind a semicolon
+abbrev pub next_list : List At → List ℕ
+next_list ps = codes " ;" ++ points ps
+
 -- a name behind a space
 abbrev pub led_name : List ℕ → List ℕ
 led_name n = space ++ n

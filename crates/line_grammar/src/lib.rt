@@ -5,15 +5,21 @@
 
 mod command;
 mod fault;
+mod fitting;
+mod laws;
 mod name;
 mod path;
 mod reading;
 mod rests;
 mod tokens;
 mod words;
+mod writing;
 
 pub use command::{At, Change, Command, Query};
 pub use fault::LineError;
+pub use fitting::spellable;
+pub use laws::one_command_a_text;
 pub use name::Name;
 pub use path::{Path, Paths};
 pub use reading::read_line;
+pub use writing::write_line;

@@ -1,0 +1,133 @@
+//! Whether a command has a text. Nothing here takes memory.
+ghost use Rattle.std.specs.Prelude.{◌≡◌, ◌↔◌, ◌<◌, IsTrue, length, true};
+ghost use Rattle.std.specs.List.{AllByRecursion};
+ghost use Rattle.line_grammar.specs.Spellable.{IsNumber, IsName, IsPoint, ArePoints, IsSecond, IsSpellableChange, IsSpellableQuery, IsSpellable, is_name_byte};
+
+use crate::command::{At, Change, Command, Query};
+use crate::name::Name;
+use crate::path::Path;
+use crate::tokens::{letter, name_bytes};
+use crate::words::{number_of_two, operator_takes_two};
+
+/// Whether some line stands for the command: its numbers have at most 19 digits, its names are a letter and at most 31
+/// letters, digits and underscores, no list among its lists is empty, and its operator has as many names as it takes.
+pub fn spellable(c: &Command) -> bool
+    ensures { IsTrue result ↔ IsSpellable c.now }
+{
+    match c {
+        Command::Change(change) => change_fits(change),
+        Command::Query(query) => query_fits(query),
+        Command::Batch(count) => number_fits(*count),
+        Command::Checkpoint => true,
+    }
+}
+
+fn change_fits(change: &Change) -> bool
+    ensures { IsTrue result ↔ IsSpellableChange change.now }
+{
+    match change {
+        Change::Point(p) => point_fits(p),
+        Change::Unpoint(p) => point_fits(p),
+        Change::Segment(p, q) => point_fits(p) && point_fits(q),
+        Change::Points(name, path) => name_fits(name) && points_fit(path.places()),
+        Change::Lines(name, paths) => name_fits(name) && lists_fit(paths.paths()),
+        Change::Regions(name, paths) => name_fits(name) && lists_fit(paths.paths()),
+        Change::Let(name, op, first, second) => {
+            name_fits(name) && operands_fit(operator_takes_two(*op), first, second)
+        }
+        Change::Drop(name) => name_fits(name),
+        Change::Delete(id) => number_fits(*id),
+    }
+}
+
+fn query_fits(query: &Query) -> bool
+    ensures { IsTrue result ↔ IsSpellableQuery query.now }
+{
+    match query {
+        Query::Realm => true,
+        Query::Show(name) => name_fits(name),
+        Query::Chain(id) => number_fits(*id),
+        Query::Eval(op, first, second) => operands_fit(operator_takes_two(*op), first, second),
+        Query::Ask(_, first, second) => name_fits(first) && name_fits(second),
+        Query::Num(num, first, second) => operands_fit(number_of_two(*num), first, second),
+        Query::Faces(name) => name_fits(name),
+        Query::Trace(number) => number_fits(*number),
+    }
+}
+
+// Whether the number has at most 19 digits.
+fn number_fits(number: u64) -> bool
+    ensures { IsTrue result ↔ IsNumber number }
+{
+    number < 10_000_000_000_000_000_000
+}
+
+fn point_fits(p: &At) -> bool
+    ensures { IsTrue result ↔ IsPoint p.now }
+{
+    number_fits(p.x) && number_fits(p.y)
+}
+
+fn points_fit(places: &[At]) -> bool
+    ensures { IsTrue result ↔ AllByRecursion IsPoint places.now }
+{
+    for p in places {
+        if !point_fits(p) {
+            return false;
+        }
+    }
+    true
+}
+
+// Whether the list has a place at least, and each of them fits.
+fn list_fits(path: &Path) -> bool
+    ensures { IsTrue result ↔ ArePoints path.now }
+{
+    match path.places() {
+        [] => false,
+        [first, rest @ ..] => point_fits(first) && points_fit(rest),
+    }
+}
+
+fn lists_fit(paths: &[Path]) -> bool
+    ensures { IsTrue result ↔ AllByRecursion ArePoints paths.now }
+{
+    for path in paths {
+        if !list_fits(path) {
+            return false;
+        }
+    }
+    true
+}
+
+fn name_fits(name: &Name) -> bool
+    ensures { IsTrue result ↔ IsName name.now }
+{
+    match name.text().as_bytes() {
+        [] => false,
+        [first, rest @ ..] => letter(*first) && ending_fits(rest),
+    }
+}
+
+// Whether these bytes may stand behind the first letter of a name.
+fn ending_fits(bytes: &[u8]) -> bool
+    ensures { IsTrue result ↔ (AllByRecursion (λ c. is_name_byte c ≡ true) bytes.now × (length bytes.now < 32)) }
+{
+    bytes.len() < 32 && name_bytes(bytes) == bytes.len()
+}
+
+// Whether the second name is there exactly where two are taken.
+fn second_fits(two: bool, second: &Option<Name>) -> bool
+    ensures { IsTrue result ↔ IsSecond two second.now }
+{
+    match second {
+        None => !two,
+        Some(name) => two && name_fits(name),
+    }
+}
+
+fn operands_fit(two: bool, first: &Name, second: &Option<Name>) -> bool
+    ensures { IsTrue result ↔ (IsName first.now × IsSecond two second.now) }
+{
+    name_fits(first) && second_fits(two, second)
+}

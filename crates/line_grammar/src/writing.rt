@@ -1,0 +1,216 @@
+//! A command is written part by part, with std's own formatting of numbers, whose text is exact.
+ghost use Rattle.std.specs.Prelude.{◌≡◌, ◌++◌, IfOk, OnOk, string_bytes};
+ghost use Rattle.std.specs.Fmt.{decimal};
+ghost use Rattle.std.specs.List.{flat_map};
+ghost use Rattle.line_grammar.specs.Words.{operator, predicate, measure};
+ghost use Rattle.line_grammar.specs.Spelling.{point, led_point, points, next_list, lists, led_name, second, change_text, query_text, text_of};
+ghost use Rattle.line_grammar.specs.Spellable.{IsSpellable};
+
+use crate::command::{At, Change, Command, Query};
+use crate::name::Name;
+use crate::path::Path;
+use grid_base::{NoMemory, Reply};
+use rose_values::{Num, Op, Pred};
+use std::alloc::{AllocError, Global};
+
+/// The one text of the command, which is the line that `read_line` reads as this command. No line feed is behind it.
+pub fn write_line(alloc: Global, c: &Command) -> Result<Reply, NoMemory>
+    requires { IsSpellable c.now }
+    ensures { IfOk result (λ reply. reply ≡ text_of c.now) }
+{
+    let mut text = String::new(alloc);
+    push_command(&mut text, c)?;
+    Ok(Reply::new(text.into_bytes()))
+}
+
+fn push_command(text: &mut String, c: &Command) -> Result<(), AllocError>
+    ensures { OnOk result (string_bytes text.new ≡ string_bytes text.old ++ text_of c.now) }
+{
+    match c {
+        Command::Change(change) => push_change(text, change),
+        Command::Query(query) => push_query(text, query),
+        Command::Batch(count) => push_number(text, "batch ", *count),
+        Command::Checkpoint => text.push_str("checkpoint"),
+    }
+}
+
+fn push_change(text: &mut String, change: &Change) -> Result<(), AllocError>
+    ensures { OnOk result (string_bytes text.new ≡ string_bytes text.old ++ change_text change.now) }
+{
+    match change {
+        Change::Point(p) => push_point(text, "point ", p),
+        Change::Unpoint(p) => push_point(text, "unpoint ", p),
+        Change::Segment(p, q) => {
+            push_point(text, "segment ", p)?;
+            push_point(text, " ", q)
+        }
+        Change::Points(name, path) => {
+            push_name(text, "points ", name)?;
+            push_points(text, path.places())
+        }
+        Change::Lines(name, paths) => {
+            push_name(text, "lines ", name)?;
+            push_lists(text, paths.paths())
+        }
+        Change::Regions(name, paths) => {
+            push_name(text, "regions ", name)?;
+            push_lists(text, paths.paths())
+        }
+        Change::Let(name, op, first, second) => {
+            push_name(text, "let ", name)?;
+            text.push_str(" = ")?;
+            push_operation(text, operator_word(*op), first, second)
+        }
+        Change::Drop(name) => push_name(text, "drop ", name),
+        Change::Delete(id) => push_number(text, "delete ", *id),
+    }
+}
+
+fn push_query(text: &mut String, query: &Query) -> Result<(), AllocError>
+    ensures { OnOk result (string_bytes text.new ≡ string_bytes text.old ++ query_text query.now) }
+{
+    match query {
+        Query::Realm => text.push_str("realm"),
+        Query::Show(name) => push_name(text, "show ", name),
+        Query::Chain(id) => push_number(text, "chain ", *id),
+        Query::Eval(op, first, second) => {
+            text.push_str("eval ")?;
+            push_operation(text, operator_word(*op), first, second)
+        }
+        Query::Ask(predicate, first, second) => {
+            text.push_str("ask ")?;
+            push_name(text, predicate_word(*predicate), first)?;
+            push_name(text, " ", second)
+        }
+        Query::Num(num, first, second) => {
+            text.push_str("num ")?;
+            push_operation(text, measure_word(*num), first, second)
+        }
+        Query::Faces(name) => push_name(text, "faces ", name),
+        Query::Trace(number) => push_number(text, "trace ", *number),
+    }
+}
+
+fn push_number(text: &mut String, word: &str, number: u64) -> Result<(), AllocError>
+    ensures { OnOk result (string_bytes text.new ≡ string_bytes text.old ++ (word.now ++ decimal number)) }
+{
+    write!(text, "{word}{number}")
+}
+
+fn push_point(text: &mut String, word: &str, p: &At) -> Result<(), AllocError>
+    ensures { OnOk result (string_bytes text.new ≡ string_bytes text.old ++ (word.now ++ point p.now)) }
+{
+    let (x, y) = (p.x, p.y);
+    write!(text, "{word}{x} {y}")
+}
+
+fn push_name(text: &mut String, word: &str, name: &Name) -> Result<(), AllocError>
+    ensures { OnOk result (string_bytes text.new ≡ string_bytes text.old ++ (word.now ++ name.now)) }
+{
+    let name = name.text();
+    write!(text, "{word}{name}")
+}
+
+fn push_points(text: &mut String, places: &[At]) -> Result<(), AllocError>
+    ensures { OnOk result (string_bytes text.new ≡ string_bytes text.old ++ flat_map led_point places.now) }
+{
+    for p in places {
+        push_point(text, " ", p)?;
+    }
+    Ok(())
+}
+
+fn push_next_list(text: &mut String, path: &Path) -> Result<(), AllocError>
+    ensures { OnOk result (string_bytes text.new ≡ string_bytes text.old ++ next_list path.now) }
+{
+    text.push_str(" ;")?;
+    push_points(text, path.places())
+}
+
+fn push_next_lists(text: &mut String, paths: &[Path]) -> Result<(), AllocError>
+    ensures { OnOk result (string_bytes text.new ≡ string_bytes text.old ++ flat_map next_list paths.now) }
+{
+    for path in paths {
+        push_next_list(text, path)?;
+    }
+    Ok(())
+}
+
+fn push_lists(text: &mut String, paths: &[Path]) -> Result<(), AllocError>
+    ensures { OnOk result (string_bytes text.new ≡ string_bytes text.old ++ lists paths.now) }
+{
+    match paths {
+        [] => Ok(()),
+        [first, more @ ..] => {
+            push_points(text, first.places())?;
+            push_next_lists(text, more)
+        }
+    }
+}
+
+// The word of an operator or a number operator, and one name or two.
+fn push_operation(
+    text: &mut String,
+    word: &str,
+    first: &Name,
+    other: &Option<Name>,
+) -> Result<(), AllocError>
+    ensures { OnOk result (string_bytes text.new ≡ string_bytes text.old ++ (word.now ++ (first.now ++ second other.now))) }
+{
+    push_name(text, word, first)?;
+    push_second(text, other)
+}
+
+fn push_second(text: &mut String, other: &Option<Name>) -> Result<(), AllocError>
+    ensures { OnOk result (string_bytes text.new ≡ string_bytes text.old ++ second other.now) }
+{
+    match other {
+        None => Ok(()),
+        Some(name) => push_name(text, " ", name),
+    }
+}
+
+fn operator_word(op: Op) -> &'static str
+    ensures { result.now ≡ operator op }
+{
+    match op {
+        Op::Intersection => "intersection ",
+        Op::Plus => "plus ",
+        Op::Minus => "minus ",
+        Op::CommonBorder => "common_border ",
+        Op::Vertices => "vertices ",
+        Op::Contour => "contour ",
+        Op::Interior => "interior ",
+    }
+}
+
+fn predicate_word(asked: Pred) -> &'static str
+    ensures { result.now ≡ predicate asked }
+{
+    match asked {
+        Pred::Equal => "equal ",
+        Pred::Inside => "inside ",
+        Pred::EdgeInside => "edge_inside ",
+        Pred::VertexInside => "vertex_inside ",
+        Pred::AreaDisjoint => "area_disjoint ",
+        Pred::EdgeDisjoint => "edge_disjoint ",
+        Pred::Disjoint => "disjoint ",
+        Pred::Intersects => "intersects ",
+        Pred::Meets => "meets ",
+        Pred::Adjacent => "adjacent ",
+        Pred::Encloses => "encloses ",
+        Pred::OnBorderOf => "on_border_of ",
+        Pred::BorderInCommon => "border_in_common ",
+    }
+}
+
+fn measure_word(num: Num) -> &'static str
+    ensures { result.now ≡ measure num }
+{
+    match num {
+        Num::Area2 => "area2 ",
+        Num::Dist2 => "dist2 ",
+        Num::Diameter2 => "diameter2 ",
+        Num::NoOfComponents => "no_of_components ",
+    }
+}
