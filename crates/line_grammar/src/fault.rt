@@ -6,7 +6,7 @@ ghost use Rattle.line_grammar.specs.declared.fault.ReadError.TheVariants.{NoMemo
 use std::alloc::{AllocError, AllocFailed};
 
 /// Why a line gives no command.
-#[derive(Debug, Drop)]
+#[derive(Clone, Copy, Debug, PartialEq, Eq)]
 pub enum LineError {
     /// No command has this text. The first `at` bytes are the most with which the text of some command begins.
     Bad { at: usize },

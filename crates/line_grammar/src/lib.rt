@@ -23,3 +23,6 @@ pub use name::Name;
 pub use path::{Path, Paths};
 pub use reading::read_line;
 pub use writing::write_line;
+
+#[cfg(test)]
+mod tests;

@@ -1,0 +1,346 @@
+//! Lines, and the places where they go wrong, worked out on paper from the grammar in `docs/formats/LINES.md`.
+use crate::{
+    At, Change, Command, LineError, Name, Path, Paths, Query, one_command_a_text, read_line,
+    spellable, write_line,
+};
+use grid_base::Reply;
+use rose_values::{Num, Op, Pred};
+use std::alloc::Global;
+use std::test::Fail;
+
+// The first word, and what may not follow it.
+const WORDS: [(&str, usize); 26] = [
+    ("", 0),
+    (" ", 0),
+    ("x", 0),
+    ("Point 1 1", 0),
+    (" point 1 1", 0),
+    ("p", 1),
+    ("begin", 1),
+    ("dp", 1),
+    ("point", 5),
+    ("pointx", 5),
+    ("points", 6),
+    ("pointsx", 6),
+    ("unpoint", 7),
+    ("unpoints 1 1", 7),
+    ("seg", 3),
+    ("segments", 7),
+    ("real", 4),
+    ("realms", 5),
+    ("realm ", 5),
+    ("realm\r", 5),
+    ("reg", 3),
+    ("chew", 3),
+    ("cha", 3),
+    ("check", 5),
+    ("checkpoint ", 10),
+    ("checkpoint\r", 10),
+];
+
+// Numbers and places.
+const NUMBERS: [(&str, usize); 35] = [
+    ("point ", 6),
+    ("point 1", 7),
+    ("point 1 ", 8),
+    ("point  1 1", 6),
+    ("point 1  1", 8),
+    ("point 01 2", 7),
+    ("point 1 02", 9),
+    ("point 00 1", 7),
+    ("point -1 2", 6),
+    ("point 1,2", 7),
+    ("point 1\t2", 7),
+    ("point 1 2 3", 9),
+    ("point 1 2 ", 9),
+    ("point 1 2\r", 9),
+    ("point 12345678901234567890 1", 25),
+    ("point 1 12345678901234567890", 27),
+    ("unpoint 1 01", 11),
+    ("segment 0 0 10", 14),
+    ("segment 01 0 1 1", 9),
+    ("segment 0 0 10 ", 15),
+    ("segment 0 0 10 4 5", 16),
+    ("segment 0 0 ten 4", 12),
+    ("segment 0 0\n1 1", 11),
+    ("delete", 6),
+    ("delete x", 7),
+    ("delete 07", 8),
+    ("delete 1 ", 8),
+    ("delete 18446744073709551616", 26),
+    ("chain p", 6),
+    ("chain 1 2", 7),
+    ("trace r", 6),
+    ("trace 1 1", 7),
+    ("batch -1", 6),
+    ("batch 1x", 7),
+    ("batch 10000000000000000000", 25),
+];
+
+// Places and lists of places behind a name.
+const LISTS: [(&str, usize); 25] = [
+    ("points ", 7),
+    ("points P", 7),
+    ("points _a", 7),
+    ("points 1 1", 7),
+    ("points p ", 9),
+    ("points p 1", 10),
+    ("points p 1 1 2", 14),
+    ("points p 1 1 ; 2 2", 13),
+    ("points p  1 1", 9),
+    ("points p-q", 8),
+    ("points p1 1 1x", 13),
+    ("points abcdefghijklmnopqrstuvwxyz_012345", 39),
+    ("lines", 5),
+    ("lines l ", 8),
+    ("lines l 0 0 ;", 13),
+    ("lines l ; 0 0", 8),
+    ("lines l 0 0 ; ; 1 1", 14),
+    ("lines l 0 0; 1 1", 11),
+    ("lines l 0 0 ;1 1", 13),
+    ("lines l 0 ; 1 1", 10),
+    ("regions r 0 0 ;", 15),
+    ("regions r 0 0 ; ", 16),
+    ("regions r 0 0 ; 1", 17),
+    ("regions r 0 0 ; 1 1 ; ", 22),
+    ("regions r 0 0  ; 1 1", 14),
+];
+
+// Names, operators, predicates and numbers of values.
+const NAMES: [(&str, usize); 39] = [
+    ("let p", 5),
+    ("let p=plus q r", 5),
+    ("let p =", 7),
+    ("let p =  plus q r", 8),
+    ("let p == plus q r", 7),
+    ("let p = inx q", 10),
+    ("let p = plus", 12),
+    ("let p = plus q", 14),
+    ("let p = plus q ", 15),
+    ("let p = plus q r s", 16),
+    ("let p = contour q r", 17),
+    ("let p = common q r", 14),
+    ("let p = equal q r", 8),
+    ("let 1 = plus q r", 4),
+    ("let p = plus q 1", 15),
+    ("drop", 4),
+    ("drop ", 5),
+    ("drop p q", 6),
+    ("drop 7", 5),
+    ("show P", 5),
+    ("show p ", 6),
+    ("show é", 5),
+    ("eval plus p", 11),
+    ("eval vertices p q", 15),
+    ("eval p", 6),
+    ("eval area2 r", 5),
+    ("ask equal p", 11),
+    ("ask equal p q r", 13),
+    ("ask on_border p q", 13),
+    ("ask edge p q", 8),
+    ("ask plus p q", 4),
+    ("num area2", 9),
+    ("num area2 r s", 11),
+    ("num dist2 p", 11),
+    ("num area r", 8),
+    ("num diameter r", 12),
+    ("num no_of_components", 20),
+    ("faces r s", 7),
+    ("faces 1", 6),
+];
+
+// Every form, operator, predicate and number, with the longest name and the longest number.
+const GOOD: [&str; 46] = [
+    "point 0 9999999999999999999",
+    "unpoint 7 0",
+    "segment 4 5 6 7",
+    "points p",
+    "points p 1 1 2 2 1 1",
+    "points abcdefghijklmnopqrstuvwxyz_01234 1 1",
+    "lines l",
+    "lines l 0 0",
+    "lines l 0 0 1 1 ; 2 2",
+    "regions r",
+    "regions r 0 0 4 0 4 4 ; 9 9 8 8 9 8 ; 1 2",
+    "let p = intersection q r",
+    "let p = plus p p",
+    "let p = minus q r",
+    "let p = common_border q r",
+    "let p = vertices q",
+    "let p = contour q",
+    "let p = interior q",
+    "drop z9_",
+    "delete 0",
+    "realm",
+    "show p",
+    "chain 12",
+    "eval minus a b",
+    "eval interior a",
+    "ask equal a b",
+    "ask inside a b",
+    "ask edge_inside a b",
+    "ask vertex_inside a b",
+    "ask area_disjoint a b",
+    "ask edge_disjoint a b",
+    "ask disjoint a b",
+    "ask intersects a b",
+    "ask meets a b",
+    "ask adjacent a b",
+    "ask encloses a b",
+    "ask on_border_of a b",
+    "ask border_in_common a b",
+    "num area2 r",
+    "num dist2 p q",
+    "num diameter2 r",
+    "num no_of_components r",
+    "faces r",
+    "trace 3",
+    "batch 2",
+    "checkpoint",
+];
+
+// Where the line is refused.
+fn refused_at(alloc: Global, line: &str) -> Option<usize> {
+    match read_line(alloc, line.as_bytes()) {
+        Err(LineError::Bad { at }) => Some(at),
+        _ => None,
+    }
+}
+
+#[test]
+fn other_first_words_are_refused(rt: HostRuntime) {
+    for (line, place) in WORDS {
+        assert_eq!(rt; refused_at(rt.alloc(), line), Some(place), "{line}");
+    }
+}
+
+#[test]
+fn other_numbers_are_refused(rt: HostRuntime) {
+    for (line, place) in NUMBERS {
+        assert_eq!(rt; refused_at(rt.alloc(), line), Some(place), "{line}");
+    }
+}
+
+#[test]
+fn other_lists_are_refused(rt: HostRuntime) {
+    for (line, place) in LISTS {
+        assert_eq!(rt; refused_at(rt.alloc(), line), Some(place), "{line}");
+    }
+}
+
+#[test]
+fn other_names_are_refused(rt: HostRuntime) {
+    for (line, place) in NAMES {
+        assert_eq!(rt; refused_at(rt.alloc(), line), Some(place), "{line}");
+    }
+}
+
+// The line of the command that the line is read as.
+fn written_again(alloc: Global, line: &str) -> Option<Reply> {
+    match read_line(alloc, line.as_bytes()) {
+        Ok(command) => write_line(alloc, &command).ok(),
+        Err(_) => None,
+    }
+}
+
+#[test]
+fn every_form_is_read_and_written(rt: HostRuntime) -> Result<(), Fail> {
+    for line in GOOD {
+        let reply = written_again(rt.alloc(), line).ok_or("refused")?;
+        assert_eq!(rt; reply.bytes(), line.as_bytes(), "{line}");
+    }
+    Ok(())
+}
+
+#[test]
+fn the_parts_of_a_line_are_its_command(rt: HostRuntime) -> Result<(), Fail> {
+    let Ok(Command::Change(Change::Regions(name, paths))) = read_line(
+        rt.alloc(),
+        b"regions r2 1 2 3 4 ; 5 6",
+    ) else {
+        return Err(Fail::new("another command"));
+    };
+    assert_eq!(rt; name.text(), "r2");
+    let mut paths = paths.into_paths();
+    let last = paths.pop().ok_or("no list")?;
+    let first = paths.pop().ok_or("one list")?;
+    assert!(rt; paths.is_empty());
+    assert_eq!(rt; last.places(), [At { x: 5, y: 6 }].as_slice());
+    let places = first.into_places();
+    assert_eq!(rt; places.as_slice(), [At { x: 1, y: 2 }, At { x: 3, y: 4 }].as_slice());
+    Ok(())
+}
+
+fn name(alloc: Global, text: &str) -> Result<Name, Fail> {
+    Ok(Name::new(String::from_str(alloc, text)?))
+}
+
+#[test]
+fn some_names_have_no_line(rt: HostRuntime) -> Result<(), Fail> {
+    let names = [
+        ("p", true),
+        ("z_9", true),
+        ("abcdefghijklmnopqrstuvwxyz_01234", true),
+        ("abcdefghijklmnopqrstuvwxyz_012345", false),
+        ("", false),
+        ("P", false),
+        ("9", false),
+        ("a b", false),
+        ("a-b", false),
+    ];
+    for (text, expected) in names {
+        let command = Command::Query(Query::Show(name(rt.alloc(), text)?));
+        assert_eq!(rt; spellable(&command), expected, "{text}");
+    }
+    Ok(())
+}
+
+#[test]
+fn an_operator_has_as_many_names_as_it_takes(rt: HostRuntime) -> Result<(), Fail> {
+    let alloc = rt.alloc();
+    let two = [(Op::Plus, true), (Op::Contour, false)];
+    for (op, expected) in two {
+        let both = Query::Eval(op, name(alloc, "p")?, Some(name(alloc, "q")?));
+        assert_eq!(rt; spellable(&Command::Query(both)), expected);
+        let one = Query::Eval(op, name(alloc, "p")?, None);
+        assert_eq!(rt; spellable(&Command::Query(one)), !expected);
+    }
+    let one = Query::Num(Num::Dist2, name(alloc, "p")?, None);
+    assert!(rt; !spellable(&Command::Query(one)));
+    let asked = Query::Ask(Pred::Meets, name(alloc, "p")?, name(alloc, "q")?);
+    assert!(rt; spellable(&Command::Query(asked)));
+    Ok(())
+}
+
+#[test]
+fn an_empty_list_among_lists_has_no_line(rt: HostRuntime) -> Result<(), Fail> {
+    let alloc = rt.alloc();
+    let none = Change::Lines(name(alloc, "l")?, Paths::new(Vec::new(alloc)));
+    assert!(rt; spellable(&Command::Change(none)));
+    let mut paths = Vec::new(alloc);
+    paths.push(Path::new(Vec::new(alloc)))?;
+    let empty = Change::Lines(name(alloc, "l")?, Paths::new(paths));
+    assert!(rt; !spellable(&Command::Change(empty)));
+    Ok(())
+}
+
+#[test]
+fn numbers_of_20_digits_have_no_line(rt: HostRuntime) {
+    assert!(rt; spellable(&Command::Batch(9_999_999_999_999_999_999)));
+    assert!(rt; !spellable(&Command::Batch(10_000_000_000_000_000_000)));
+    one_command_a_text();
+}
+
+// A line of a million bytes, with 250,000 places.
+#[test]
+fn a_long_line_is_read(rt: HostRuntime) -> Result<(), Fail> {
+    let mut line = String::from_str(rt.alloc(), "points p")?;
+    for _ in 0..250_000 {
+        line.push_str(" 1 1")?;
+    }
+    let Ok(Command::Change(Change::Points(_, path))) = read_line(rt.alloc(), line.as_bytes()) else {
+        return Err(Fail::new("refused"));
+    };
+    assert_eq!(rt; path.places().len(), 250_000);
+    Ok(())
+}
