@@ -12,26 +12,35 @@ use Rattle.line_grammar.proofs.Literals.{IsLiteral, literal_is}
 
 -- ---- the loop over the words
 
-choose_next : {X T : Type 0} (f : X → List ℕ × T) (left : ℕ) (table : List X) (i : ℕ) (e : X) (line : List ℕ) → i < length table → e ≡ get_or table i e
-    → choose_from left (map f (drop i table)) line ≡ or_else (literal_at (f e).0 line) (f e).1 left (λ there. choose_from there (map f (drop (i + 1) table)) line)
+choose_next : {X T : Type 0} (f : X → List ℕ × T) (left : ℕ) (table : List X) (i : ℕ) (e : X) (line : List ℕ) → i < length table
+    → e ≡ get_or table i e
+    → choose_from left (map f (drop i table)) line ≡ or_else (literal_at (f e).0 line) (f e).1 left
+    (λ there. choose_from there (map f (drop (i + 1) table)) line)
 unfolding choose_from
 choose_next f left table i e line lt is =
     let cells : drop i table ≡ e ∷ drop (i + 1) table = rw (add-one, drop-cons table i e lt, ← is) refl in
     rw cells refl
 
 -- the word of the entry at i is at the front
-pub choose_found : {X T : Type 0} (f : X → List ℕ × T) (left : ℕ) (table : List X) (i : ℕ) (e : X) (line word rest : List ℕ) → i < length table → e ≡ get_or table i e → word ≡ (f e).0 → literal_at word line ≡ Ok rest
+pub choose_found : {X T : Type 0} (f : X → List ℕ × T) (left : ℕ) (table : List X) (i : ℕ) (e : X) (line word rest : List ℕ)
+    → i < length table → e ≡ get_or table i e → word ≡ (f e).0 → literal_at word line ≡ Ok rest
     → choose_from left (map f (drop i table)) line ≡ Ok ((f e).1, rest)
 choose_found f left table i e line word rest lt is same found =
-    choose_next f left table i e line lt is ∙ ap (λ (r : Result (List ℕ) ℕ). or_else r (f e).1 left (λ there. choose_from there (map f (drop (i + 1) table)) line)) (ap (λ (w : List ℕ). literal_at w line) (sym same) ∙ found)
+    choose_next f left table i e line lt is
+    ∙ ap (λ (r : Result (List ℕ) ℕ). or_else r (f e).1 left (λ there. choose_from there (map f (drop (i + 1) table)) line))
+    (ap (λ (w : List ℕ). literal_at w line) (sym same) ∙ found)
 
 -- the word of the entry at i isn't
-pub choose_passed : {X T : Type 0} (f : X → List ℕ × T) (left : ℕ) (table : List X) (i : ℕ) (e : X) (line word : List ℕ) (there : ℕ) → i < length table → e ≡ get_or table i e → word ≡ (f e).0 → literal_at word line ≡ Err there
+pub choose_passed : {X T : Type 0} (f : X → List ℕ × T) (left : ℕ) (table : List X) (i : ℕ) (e : X) (line word : List ℕ) (there : ℕ)
+    → i < length table → e ≡ get_or table i e → word ≡ (f e).0 → literal_at word line ≡ Err there
     → choose_from left (map f (drop i table)) line ≡ choose_from (min left there) (map f (drop (i + 1) table)) line
 choose_passed f left table i e line word there lt is same stopped =
-    choose_next f left table i e line lt is ∙ ap (λ (r : Result (List ℕ) ℕ). or_else r (f e).1 left (λ there. choose_from there (map f (drop (i + 1) table)) line)) (ap (λ (w : List ℕ). literal_at w line) (sym same) ∙ stopped)
+    choose_next f left table i e line lt is
+    ∙ ap (λ (r : Result (List ℕ) ℕ). or_else r (f e).1 left (λ there. choose_from there (map f (drop (i + 1) table)) line))
+    (ap (λ (w : List ℕ). literal_at w line) (sym same) ∙ stopped)
 
-pub choose_ended : {X T : Type 0} (f : X → List ℕ × T) (left : ℕ) (table : List X) (i : ℕ) (line : List ℕ) → length table ≤ i → choose_from left (map f (drop i table)) line ≡ Err left
+pub choose_ended : {X T : Type 0} (f : X → List ℕ × T) (left : ℕ) (table : List X) (i : ℕ) (line : List ℕ) → length table ≤ i
+    → choose_from left (map f (drop i table)) line ≡ Err left
 unfolding choose_from
 choose_ended f left table i line le = rw (nil_from_length (drop i table) (let len = length-drop i table in omega (arith, len))) refl
 
@@ -70,7 +79,8 @@ both_true : (a b : Bool) → (a && b) ≡ true → (a ≡ true) × (b ≡ true)
 both_true true b e = (refl, e)
 both_true false b e = absurd cc
 
-differs_from : {T : Type 0} (word : T → List ℕ) (t s : T) (all : List T) → differs word t all ≡ true → Member s all → (differ (word t) (word s) ≡ true) × (differ (word s) (word t) ≡ true)
+differs_from : {T : Type 0} (word : T → List ℕ) (t s : T) (all : List T) → differs word t all ≡ true → Member s all
+    → (differ (word t) (word s) ≡ true) × (differ (word s) (word t) ≡ true)
 differs_from word t s [] d m = absurd m
 differs_from {T = T} word t s (r ∷ all) d m =
     let split = both_true (differ (word t) (word r) && differ (word r) (word t)) (differs word t all) d in
@@ -81,7 +91,8 @@ differs_from {T = T} word t s (r ∷ all) d m =
     ]
 
 -- two of the words are one, or they differ
-one_or_differ : {T : Type 0} (word : T → List ℕ) (all : List T) → all_differ word all ≡ true → (t s : T) → Member t all → Member s all → (s ≡ t) ⊎ (differ (word t) (word s) ≡ true)
+one_or_differ : {T : Type 0} (word : T → List ℕ) (all : List T) → all_differ word all ≡ true → (t s : T) → Member t all → Member s all
+    → (s ≡ t) ⊎ (differ (word t) (word s) ≡ true)
 one_or_differ word [] d t s mt ms = absurd mt
 one_or_differ {T = T} word (r ∷ all) d t s mt ms =
     let split = both_true (differs word r all) (all_differ word all) d in
@@ -127,15 +138,20 @@ goes_on {T = T} word t all left line stop h (Err there) chose = (
   ],
 )
 
-tries : {T : Type 0} (word : T → List ℕ) (t : T) (all : List T) (left : ℕ) (line : List ℕ) → ((there : ℕ) → Chose word all there line (choose_from there (entries word all) line))
-    → (r : Result (List ℕ) ℕ) → IsLiteral (word t) line r → Chose word (t ∷ all) left line (or_else r t left (λ there. choose_from there (entries word all) line))
+tries : {T : Type 0} (word : T → List ℕ) (t : T) (all : List T) (left : ℕ) (line : List ℕ)
+    → ((there : ℕ) → Chose word all there line (choose_from there (entries word all) line))
+    → (r : Result (List ℕ) ℕ) → IsLiteral (word t) line r
+    → Chose word (t ∷ all) left line (or_else r t left (λ there. choose_from there (entries word all) line))
 tries word t all left line next (Ok rest) e = (e, inl refl)
-tries word t all left line next (Err stop) h = goes_on word t all left line stop h (choose_from (min left stop) (entries word all) line) (next (min left stop))
+tries word t all left line next (Err stop) h = goes_on word t all left line stop h (choose_from (min left stop) (entries word all) line)
+    (next (min left stop))
 
-chooses : {T : Type 0} (word : T → List ℕ) (all : List T) (left : ℕ) (line : List ℕ) → Chose word all left line (choose_from left (entries word all) line)
+chooses : {T : Type 0} (word : T → List ℕ) (all : List T) (left : ℕ) (line : List ℕ)
+    → Chose word all left line (choose_from left (entries word all) line)
 unfolding choose_from
 chooses word [] left line = (omega arith, λ t s m. absurd m, inl refl)
-chooses word (t ∷ all) left line = tries word t all left line (λ there. chooses word all there line) (literal_at (word t) line) (literal_is (word t) line)
+chooses word (t ∷ all) left line = tries word t all left line (λ there. chooses word all there line) (literal_at (word t) line)
+    (literal_is (word t) line)
 
 abbrev pub Any : List ℕ → Type 0
 Any t = Unit {0}

@@ -188,7 +188,8 @@ then_reads k U next line (Err left) stuck tails =
 
 -- a token and then an exact rest are exact
 pub then : {A C : Type 0} (tok : Token A) (Before : List ℕ → Type 0) (U : A → C → List ℕ → Type 0) (next : A → List ℕ → Result C ℕ)
-    → ((a : A) → tok.kind.fits a → Tail tok.kind.follow (U a) (next a)) → ((a : A) (t : List ℕ) → tok.kind.fits a → Before (tok.kind.text a ++ t))
+    → ((a : A) → tok.kind.fits a → Tail tok.kind.follow (U a) (next a))
+    → ((a : A) (t : List ℕ) → tok.kind.fits a → Before (tok.kind.text a ++ t))
     → Tail Before (Then tok.kind U) (λ line. tok.read line >>= λ x. next x.0 x.1)
 then tok Before U next tails before =
     let tail = tails tok.sample tok.sample_fits in

@@ -8,18 +8,30 @@ pub mod Literals
 pub mod Pairs
 -- rows of tokens to the end of the line
 pub mod Rows
--- names and numbers
+-- runs of bytes that pass a test
 pub mod Runs
+-- names
+pub mod Names
+-- numbers
+pub mod Numbers
 -- one of several words
 pub mod Choices
 -- the words of the lines
 pub mod WordLemmas
 -- places, and rows of them
 pub mod PlaceRows
+-- a place with or without a semicolon before it
+pub mod Semicolons
+-- the texts of lists
+pub mod ListTexts
 -- lists of places with semicolons between them
 pub mod ListRows
--- what stands behind a keyword
+-- the texts of a token and a rest, and of a word and a rest
+pub mod Compounds
+-- what ends a line
 pub mod Ends
+-- what stands behind each keyword
+pub mod FormLemmas
 -- whole lines
 pub mod Commands
 -- how the text of lists begins

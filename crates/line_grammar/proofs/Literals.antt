@@ -28,7 +28,11 @@ literal_is (w ∷ word) (b ∷ line) =
           let here = one_more b word line (literal_at word line) (literal_is word line) in
           subst (λ (x : ℕ). IsLiteral (x ∷ word) (b ∷ line) (literal_at (x ∷ word) (b ∷ line))) (sym same) (rw (eq-eqb b b refl) here)
       | inr apart ↦
-          rw (ne_eqb w b apart) (omega arith, λ t. let none = agree-other_head b w line (word ++ t) (λ e. apart (sym e)) in omega (arith, none))
+          rw (ne_eqb w b apart) (
+            omega arith,
+            λ t. let none = agree-other_head b w line (word ++ t) (λ e. apart (sym e)) in
+                omega (arith, none),
+          )
     ]
 
 -- ---- the loop over the word
@@ -36,18 +40,23 @@ literal_is (w ∷ word) (b ∷ line) =
 pub literal_goes : (word line : List ℕ) (i : ℕ) → i < length word → i < length line → get_or word i 0 ≡ get_or line i 0
     → literal_at (drop i word) (drop i line) ≡ literal_at (drop (i + 1) word) (drop (i + 1) line)
 unfolding literal_at
-literal_goes word line i in_word in_line same = rw (add-one, drop-cons word i 0 in_word, drop-cons line i 0 in_line, eq-eqb (get_or word i 0) (get_or line i 0) same) refl
+literal_goes word line i in_word in_line same =
+    let one_byte = eq-eqb (get_or word i 0) (get_or line i 0) same in
+    rw (add-one, drop-cons word i 0 in_word, drop-cons line i 0 in_line, one_byte) refl
 
 pub literal_parts : (word line : List ℕ) (i : ℕ) → i < length word → i < length line → (get_or word i 0 ≡ get_or line i 0 → ⊥)
     → literal_at (drop i word) (drop i line) ≡ Err (length line - i)
 unfolding literal_at
 literal_parts word line i in_word in_line apart =
     let len = length-drop (suc i) line in
-    rw (drop-cons word i 0 in_word, drop-cons line i 0 in_line, ne_eqb (get_or word i 0) (get_or line i 0) apart) (ap (λ (n : ℕ). Err n) (omega (arith, len)))
+    rw (drop-cons word i 0 in_word, drop-cons line i 0 in_line, ne_eqb (get_or word i 0) (get_or line i 0) apart)
+    (ap (λ (n : ℕ). Err n) (omega (arith, len)))
 
 pub literal_short : (word line : List ℕ) (i : ℕ) → i < length word → length line ≤ i → literal_at (drop i word) (drop i line) ≡ Err 0
 unfolding literal_at
-literal_short word line i in_word le = rw (drop-cons word i 0 in_word, nil_from_length (drop i line) (let len = length-drop i line in omega (arith, len))) refl
+literal_short word line i in_word le =
+    let none = nil_from_length (drop i line) (let len = length-drop i line in omega (arith, len)) in
+    rw (drop-cons word i 0 in_word, none) refl
 
 pub literal_done : (word line : List ℕ) (i : ℕ) → length word ≤ i → literal_at (drop i word) (drop i line) ≡ Ok (drop i line)
 unfolding literal_at

@@ -84,7 +84,8 @@ second_reads k l line a rest first joins (Err left) second =
       furthest = both_furthest k l line a rest left first joins second len;
     }
 
-pub first_reads : {A B : Type 0} (k : Kind A) (tok : Token B) (line : List ℕ) → Joins k tok.kind → (r : Result (A × List ℕ) ℕ) → Reads k line r
+pub first_reads : {A B : Type 0} (k : Kind A) (tok : Token B) (line : List ℕ) → Joins k tok.kind → (r : Result (A × List ℕ) ℕ)
+    → Reads k line r
     → Reads (both_kinds k tok.kind) line (r >>= λ x. tok.read x.1 >>= λ y. Ok ((x.0, y.0), y.1))
 first_reads k tok line joins (Ok x) took = second_reads k tok.kind line x.0 x.1 took joins (tok.read x.1) (tok.reads x.1)
 first_reads k tok line joins (Err left) stuck = record {

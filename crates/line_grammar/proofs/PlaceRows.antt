@@ -12,7 +12,8 @@ use Rattle.line_grammar.proofs.Exact.{Kind, Reads, Token, Tail, Tail-same, Spell
 use Rattle.line_grammar.proofs.Literals.{led}
 use Rattle.line_grammar.proofs.Pairs.{pair}
 use Rattle.line_grammar.proofs.Rows.{Row, added, IsRowToken, rows, Shrinks, shrinks, rows_more, rows_ended}
-use Rattle.line_grammar.proofs.Runs.{Parted, number}
+use Rattle.line_grammar.proofs.Runs.{Parted}
+use Rattle.line_grammar.proofs.Numbers.{number}
 
 -- two numbers with a space between them
 abbrev two_numbers : Token (ℕ × ℕ)
@@ -28,7 +29,8 @@ abbrev pub place_kind : Kind At
 place_kind = record { text = point; fits = IsPoint; follow = Parted }
 
 -- two numbers, made a place
-point_reads : (line : List ℕ) (r : Result ((ℕ × ℕ) × List ℕ) ℕ) → Reads two_numbers.kind line r → Reads place_kind line (r >>= λ x. Ok (at_of x.0, x.1))
+point_reads : (line : List ℕ) (r : Result ((ℕ × ℕ) × List ℕ) ℕ) → Reads two_numbers.kind line r
+    → Reads place_kind line (r >>= λ x. Ok (at_of x.0, x.1))
 point_reads line (Ok x) took = record {
   fits = took.fits;
   parts = took.parts;
@@ -76,7 +78,8 @@ point_is r = bind-bind r second_number make_place ∙ bind-same r (λ x. second_
 
 pub place_reads : (line : List ℕ) → Reads place_kind line (point_at line)
 unfolding point_at
-place_reads line = subst (Reads place_kind line) (point_is (number_at line)) (point_reads line (two_numbers.read line) (two_numbers.reads line))
+place_reads line = subst (Reads place_kind line) (point_is (number_at line))
+    (point_reads line (two_numbers.read line) (two_numbers.reads line))
 
 pub origin : At
 origin = record { x = 0; y = 0 }
@@ -93,7 +96,13 @@ unfolding led_point_at
 led_place_reads line = (led space place).reads line
 
 abbrev pub led_place : Token At
-led_place = record { kind = (led space place).kind; read = led_point_at; reads = led_place_reads; sample = origin; sample_fits = origin_fits }
+led_place = record {
+  kind = (led space place).kind;
+  read = led_point_at;
+  reads = led_place_reads;
+  sample = origin;
+  sample_fits = origin_fits;
+}
 
 place_row : IsRowToken led_place.kind
 place_row = record {
@@ -121,14 +130,16 @@ rows_of_places = rows led_place push [] place_row
 
 -- places up to the end of the line are read exactly
 pub places : Tail Parted (Spells (AllByRecursion IsPoint) points) (points_at [])
-places = Tail-same Parted (Row led_place.kind push []) (Spells (AllByRecursion IsPoint) points) (points_at []) row_spells spells_row rows_of_places
+places = Tail-same Parted (Row led_place.kind push []) (Spells (AllByRecursion IsPoint) points)
+    (points_at []) row_spells spells_row rows_of_places
 
 -- ---- the loop over the places
 
 led_point_shrinks : Shrinks led_point_at
 led_point_shrinks = shrinks led_place place_row
 
-points_more : (ps : List At) (line : List ℕ) → 0 < length line → points_at ps line ≡ (led_point_at line >>= λ x. points_at (push ps x.0) x.1)
+points_more : (ps : List At) (line : List ℕ) → 0 < length line
+    → points_at ps line ≡ (led_point_at line >>= λ x. points_at (push ps x.0) x.1)
 unfolding points_at
 points_more ps line some = rows_more led_point_at push led_point_shrinks ps line some
 

@@ -29,7 +29,8 @@ begins_there line left x =
     let front = agree_front line x.text (omega (arith, reached)) in
     (x.value, front.0, x.spelled.0, sym x.spelled.1 ∙ front.1 ∙ ap (λ (n : ℕ). take n line ++ front.0) at)
 
-no_further : (line : List ℕ) (left : ℕ) → Stops (λ c s. Says s c) line left → (k : ℕ) → k ≤ length line → Begins (take k line) → k ≤ length line - left
+no_further : (line : List ℕ) (left : ℕ) → Stops (λ c s. Says s c) line left → (k : ℕ) → k ≤ length line → Begins (take k line)
+    → k ≤ length line - left
 no_further line left x k within b =
     let less = x.furthest b.0 (text_of b.0) (b.2, refl) in
     let shared : k ≤ agree line (text_of b.0) = rw (b.3) (agree_take k line b.1 within) in

@@ -72,7 +72,8 @@ every_keyword : (k : Keyword) → Member k all_keywords
 every_keyword (lines.Change word) = every_change word
 every_keyword (lines.Query word) = every_query word
 every_keyword lines.Batch = inr (inr (inr (inr (inr (inr (inr (inr (inr (inr (inr (inr (inr (inr (inr (inr (inr (inl refl)))))))))))))))))
-every_keyword lines.Checkpoint = inr (inr (inr (inr (inr (inr (inr (inr (inr (inr (inr (inr (inr (inr (inr (inr (inr (inr (inl refl))))))))))))))))))
+every_keyword lines.Checkpoint = inr
+    (inr (inr (inr (inr (inr (inr (inr (inr (inr (inr (inr (inr (inr (inr (inr (inr (inr (inl refl))))))))))))))))))
 
 pub operators : (line : List ℕ) → Reads (word_kind operator) line (operator_at line)
 unfolding operator_at

@@ -1,5 +1,5 @@
--- How far two texts agree. Their common end counts as a place, so a text agrees with itself on more places than with
--- any other.
+-- How far two texts agree. Their common end counts as a place, so a text agrees with itself on more
+-- places than with any other.
 use Rattle.std.specs.Prelude.{ℕ, suc, List, [], ◌∷◌, ◌==◌, if◌then◌else◌}
 
 -- on how many places xs and ys agree from the front, their common end counted as one more place

@@ -15,13 +15,14 @@ use Rattle.line_grammar.specs.Reading.{choose_at}
 
 abbrev pub all_operators : List Op
 all_operators =
-    ops.Intersection ∷ ops.Plus ∷ ops.Minus ∷ ops.CommonBorder ∷ ops.Vertices ∷ ops.Contour ∷ ops.Interior ∷ []
+    ops.Intersection ∷ ops.Plus ∷ ops.Minus ∷ ops.CommonBorder ∷ ops.Vertices ∷ ops.Contour
+    ∷ ops.Interior ∷ []
 
 abbrev pub all_predicates : List Pred
 all_predicates =
-    preds.Equal ∷ preds.Inside ∷ preds.EdgeInside ∷ preds.VertexInside ∷ preds.AreaDisjoint ∷ preds.EdgeDisjoint
-    ∷ preds.Disjoint ∷ preds.Intersects ∷ preds.Meets ∷ preds.Adjacent ∷ preds.Encloses ∷ preds.OnBorderOf
-    ∷ preds.BorderInCommon ∷ []
+    preds.Equal ∷ preds.Inside ∷ preds.EdgeInside ∷ preds.VertexInside ∷ preds.AreaDisjoint
+    ∷ preds.EdgeDisjoint ∷ preds.Disjoint ∷ preds.Intersects ∷ preds.Meets ∷ preds.Adjacent
+    ∷ preds.Encloses ∷ preds.OnBorderOf ∷ preds.BorderInCommon ∷ []
 
 abbrev pub all_measures : List Num
 all_measures = nums.Area2 ∷ nums.Dist2 ∷ nums.Diameter2 ∷ nums.NoOfComponents ∷ []
@@ -31,9 +32,9 @@ all_keywords =
     lines.Change changes.Point ∷ lines.Change changes.Unpoint ∷ lines.Change changes.Segment
     ∷ lines.Change changes.Points ∷ lines.Change changes.Lines ∷ lines.Change changes.Regions
     ∷ lines.Change changes.Let ∷ lines.Change changes.Drop ∷ lines.Change changes.Delete
-    ∷ lines.Query queries.Realm ∷ lines.Query queries.Show ∷ lines.Query queries.Chain ∷ lines.Query queries.Eval
-    ∷ lines.Query queries.Ask ∷ lines.Query queries.Num ∷ lines.Query queries.Faces ∷ lines.Query queries.Trace
-    ∷ lines.Batch ∷ lines.Checkpoint ∷ []
+    ∷ lines.Query queries.Realm ∷ lines.Query queries.Show ∷ lines.Query queries.Chain
+    ∷ lines.Query queries.Eval ∷ lines.Query queries.Ask ∷ lines.Query queries.Num
+    ∷ lines.Query queries.Faces ∷ lines.Query queries.Trace ∷ lines.Batch ∷ lines.Checkpoint ∷ []
 
 -- each with its word
 abbrev pub entries : {T : Type 0} → (T → List ℕ) → List T → List (List ℕ × T)

@@ -45,7 +45,8 @@ last_led_name_at line = last led_name_at line
 -- ---- a token, and then what ends the line
 
 -- a token, and then the rest, which may depend on the token
-abbrev pub behind : {A B : Type 0} → (List ℕ → Result (A × List ℕ) ℕ) → (A → List ℕ → Result B ℕ) → List ℕ → Result (A × B) ℕ
+abbrev pub behind : {A B : Type 0} → (List ℕ → Result (A × List ℕ) ℕ) → (A → List ℕ → Result B ℕ)
+    → List ℕ → Result (A × B) ℕ
 behind read rest line = read line >>= λ x. rest x.0 x.1 >>= λ b. Ok (x.0, b)
 
 unfoldable pub two_points_at : List ℕ → Result (At × At) ℕ

@@ -8,11 +8,13 @@ use Rattle.line_grammar.specs.Reading.{◌>>=◌, literal_at, point_at, led_poin
 unfoldable pub semicolon_at : List ℕ → Result (Bool × List ℕ) ℕ
 semicolon_at [] = Ok (false, [])
 semicolon_at (b ∷ line) =
-    if b == 59 then (literal_at (codes "; ") (b ∷ line) >>= λ rest. Ok (true, rest)) else Ok (false, b ∷ line)
+    if b == 59 then (literal_at (codes "; ") (b ∷ line) >>= λ rest. Ok (true, rest))
+    else Ok (false, b ∷ line)
 
 -- a place behind a space, or behind a semicolon between spaces
 unfoldable pub item_at : List ℕ → Result ((Bool × At) × List ℕ) ℕ
-item_at line = (literal_at space line >>= semicolon_at) >>= λ s. point_at s.1 >>= λ p. Ok ((s.0, p.0), p.1)
+item_at line =
+    (literal_at space line >>= semicolon_at) >>= λ s. point_at s.1 >>= λ p. Ok ((s.0, p.0), p.1)
 
 -- the lists before the last, and the last
 abbrev pub Lists : Type 0

@@ -1,5 +1,5 @@
--- Reading tokens from left to right. What stops says how many bytes are left of the line behind the place where it stopped:
--- that number stays the same however many bytes were read before.
+-- Reading tokens from left to right. What stops says how many bytes of the line are left behind the
+-- place where it stopped: that number stays the same however many bytes were read before.
 use Rattle.std.specs.Prelude.{◌≡◌, ℕ, zero, suc, ◌+◌, ◌*◌, ◌-◌, List, [], ◌∷◌, ◌++◌, length, take, drop, min, Result, Ok, Err, Bool, ◌==◌, if◌then◌else◌}
 use Rattle.line_grammar.specs.declared.command.At.{At}
 use Rattle.line_grammar.specs.declared.fault.ReadError.{ReadError}
@@ -45,7 +45,8 @@ run test (suc most) (b ∷ line) = if test b then suc (run test most line) else 
 unfoldable pub name_at : List ℕ → Result (List ℕ × List ℕ) ℕ
 name_at [] = Err 0
 name_at (b ∷ line) =
-    if is_letter b then (let n = run is_name_byte 32 (b ∷ line) in Ok (take n (b ∷ line), drop n (b ∷ line)))
+    if is_letter b then (let n = run is_name_byte 32 (b ∷ line) in
+    Ok (take n (b ∷ line), drop n (b ∷ line)))
     else Err (suc (length line))
 
 -- the number that digits stand for, behind those that made n
@@ -58,7 +59,8 @@ unfoldable pub number_at : List ℕ → Result (ℕ × List ℕ) ℕ
 number_at [] = Err 0
 number_at (b ∷ line) =
     if b == 48 then Ok (0, line)
-    else if is_digit b then (let n = run is_digit 19 (b ∷ line) in Ok (value_from 0 (take n (b ∷ line)), drop n (b ∷ line)))
+    else if is_digit b then (let n = run is_digit 19 (b ∷ line) in
+    Ok (value_from 0 (take n (b ∷ line)), drop n (b ∷ line)))
     else Err (suc (length line))
 
 -- the place at the front
@@ -79,11 +81,13 @@ led_name_at line = literal_at space line >>= name_at
 
 -- ---- one of several words
 
-abbrev pub or_else : {T : Type 0} → Result (List ℕ) ℕ → T → ℕ → (ℕ → Result (T × List ℕ) ℕ) → Result (T × List ℕ) ℕ
+abbrev pub or_else : {T : Type 0} → Result (List ℕ) ℕ → T → ℕ → (ℕ → Result (T × List ℕ) ℕ)
+    → Result (T × List ℕ) ℕ
 or_else (Ok rest) t left more = Ok (t, rest)
 or_else (Err there) t left more = more (min left there)
 
--- the first entry whose word is at the front, or the furthest place at which a word stopped, no nearer than `left`
+-- the first entry whose word is at the front, or the furthest place at which a word stopped, no
+-- nearer than `left`
 unfoldable pub choose_from : {T : Type 0} → ℕ → List (List ℕ × T) → List ℕ → Result (T × List ℕ) ℕ
 choose_from left [] line = Err left
 choose_from left (entry ∷ table) line =
@@ -94,13 +98,17 @@ choose_at table line = choose_from (length line) table line
 
 -- ---- rows of tokens, to the end of the line
 
-unfoldable pub rows_from : {A S : Type 0} → (List ℕ → Result (A × List ℕ) ℕ) → (S → A → S) → ℕ → S → List ℕ → Result S ℕ
+unfoldable pub rows_from : {A S : Type 0} → (List ℕ → Result (A × List ℕ) ℕ) → (S → A → S) → ℕ → S
+    → List ℕ → Result S ℕ
 rows_from read add n so_far [] = Ok so_far
 rows_from read add zero so_far (b ∷ line) = Err 0
-rows_from read add (suc n) so_far (b ∷ line) = read (b ∷ line) >>= λ x. rows_from read add n (add so_far x.0) x.1
+rows_from read add (suc n) so_far (b ∷ line) =
+    read (b ∷ line) >>= λ x. rows_from read add n (add so_far x.0) x.1
 
--- Each token is added to what was read so far. Each takes a byte at least, so there are no more than the line has bytes.
-abbrev pub rows_at : {A S : Type 0} → (List ℕ → Result (A × List ℕ) ℕ) → (S → A → S) → S → List ℕ → Result S ℕ
+-- Each token is added to what was read so far. Each takes a byte at least, so there are no more than
+-- the line has bytes.
+abbrev pub rows_at : {A S : Type 0} → (List ℕ → Result (A × List ℕ) ℕ) → (S → A → S) → S → List ℕ
+    → Result S ℕ
 rows_at read add so_far line = rows_from read add (length line) so_far line
 
 abbrev pub push : {A : Type 0} → List A → A → List A

@@ -1,5 +1,5 @@
--- Which commands have a text: numbers of at most 19 digits, names as a line may have them, no empty list among lists, and
--- as many names as the operator takes.
+-- Which commands have a text: numbers of at most 19 digits, names as a line may have them, no empty
+-- list among lists, and as many names as the operator takes.
 use Rattle.std.specs.Prelude.{◌≡◌, ℕ, ◌<◌, ◌^◌, List, [], ◌∷◌, length, Option, Some, None, Bool, true, false, ◌&&◌, ◌||◌, nat_le, ◌==◌}
 use Rattle.std.specs.List.{AllByRecursion}
 use Rattle.line_grammar.specs.declared.command.At.{At}
@@ -33,7 +33,8 @@ is_name_byte b = is_letter b || is_digit b || b == 95
 -- a letter and at most 31 letters, digits and underscores
 abbrev pub IsName : List ℕ → Type 0
 IsName [] = ⊥
-IsName (b ∷ bs) = (is_letter b ≡ true) × AllByRecursion (λ c. is_name_byte c ≡ true) bs × (length bs < 32)
+IsName (b ∷ bs) =
+    (is_letter b ≡ true) × AllByRecursion (λ c. is_name_byte c ≡ true) bs × (length bs < 32)
 
 abbrev pub IsPoint : At → Type 0
 IsPoint p = IsNumber p.x × IsNumber p.y

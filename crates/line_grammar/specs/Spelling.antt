@@ -1,4 +1,5 @@
--- The one text of each command. One space stands between two tokens, and none before the first or behind the last.
+-- The one text of each command. One space stands between two tokens, and none before the first or
+-- behind the last.
 use Rattle.std.specs.Prelude.{ℕ, List, [], ◌∷◌, ◌++◌, Option, Some, None, codes}
 use Rattle.std.specs.List.{flat_map}
 use Rattle.std.specs.Fmt.{decimal}

@@ -1,4 +1,5 @@
--- The words of operators, predicates, numbers and lines. Each has the space behind it, but for the two that end a line.
+-- The words of operators, predicates, numbers and lines. Each has the space behind it, but for the two
+-- that end a line.
 use Rattle.std.specs.Prelude.{ℕ, List, codes, Bool, true, false}
 use Rattle.rose_values.specs.declared.operators.Op.{Op}
 use Rattle.rose_values.specs.declared.operators.Op.TheVariants as ops

@@ -1,5 +1,5 @@
-//! Why a line could not be read. Within the crate a reader counts the bytes that are left behind the place where it
-//! stopped, since that number stays the same however many bytes were read before it.
+//! Why a line could not be read. Within the crate a reader counts the bytes that are left behind the
+//! place where it stopped, since that number stays the same however many bytes were read before it.
 ghost use Rattle.std.specs.Prelude.{◌≡◌};
 ghost use Rattle.line_grammar.specs.declared.fault.ReadError.TheVariants.{NoMemory};
 
@@ -8,7 +8,8 @@ use std::alloc::{AllocError, AllocFailed};
 /// Why a line gives no command.
 #[derive(Clone, Copy, Debug, PartialEq, Eq)]
 pub enum LineError {
-    /// No command has this text. The first `at` bytes are the most with which the text of some command begins.
+    /// No command has this text. The first `at` bytes are the most with which some command's text
+    /// begins, so `at` is the length of the line where a command goes on with the line's text.
     Bad { at: usize },
     /// Memory ran out.
     NoMemory,

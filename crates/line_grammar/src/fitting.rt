@@ -9,8 +9,9 @@ use crate::path::Path;
 use crate::tokens::{letter, name_bytes};
 use crate::words::{number_of_two, operator_takes_two};
 
-/// Whether some line stands for the command: its numbers have at most 19 digits, its names are a letter and at most 31
-/// letters, digits and underscores, no list among its lists is empty, and its operator has as many names as it takes.
+/// Whether some line stands for the command: its numbers have at most 19 digits, its names are a letter
+/// and at most 31 letters, digits and underscores, no list among its lists is empty, and its operator
+/// has as many names as it takes.
 pub fn spellable(c: &Command) -> bool
     ensures { IsTrue result ↔ IsSpellable c.now }
 {
@@ -111,7 +112,8 @@ fn name_fits(name: &Name) -> bool
 
 // Whether these bytes may stand behind the first letter of a name.
 fn ending_fits(bytes: &[u8]) -> bool
-    ensures { IsTrue result ↔ (AllByRecursion (λ c. is_name_byte c ≡ true) bytes.now × (length bytes.now < 32)) }
+    ensures { IsTrue result
+        ↔ (AllByRecursion (λ c. is_name_byte c ≡ true) bytes.now × (length bytes.now < 32)) }
 {
     bytes.len() < 32 && name_bytes(bytes) == bytes.len()
 }

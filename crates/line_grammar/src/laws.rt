@@ -1,4 +1,5 @@
-//! Laws of the definitions, for crates above: functions with nothing to do, whose contracts are the laws.
+//! Laws of the definitions, for crates above: functions with nothing to do, whose contracts are the
+//! laws.
 ghost use Rattle.std.specs.Prelude.{◌≡◌};
 ghost use Rattle.line_grammar.specs.declared.command.Command.{Command};
 ghost use Rattle.line_grammar.specs.Spelling.{text_of};

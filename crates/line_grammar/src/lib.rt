@@ -1,6 +1,7 @@
-//! The lines of a user: each command has one text, and a line that is the text of no command is refused at the
-//! place up to which some command could still have been meant.
-//! Begin with `Command`, then `read_line` and `write_line`. Nothing here looks at the state or the grid.
+//! The lines of a user: each command has one text, and a line that is the text of no command is refused
+//! at the place up to which some command could still have been meant.
+//! Begin with `Command`, then `read_line` and `write_line`. Nothing here looks at the state or the
+//! grid.
 #![tactic(auto)]
 
 mod command;

@@ -21,7 +21,8 @@ pub fn read_line(alloc: Global, line: &[u8]) -> Result<Command, LineError>
     // What is read is the command of this text.
     ensures command { IfOk result (λ c. Says line.now c) }
     // The command of this text is read, unless memory runs out.
-    ensures only { (c : Command) → Says line.now c → MatchResult result (λ d. d ≡ c) (λ e. e ≡ NoMemory) }
+    ensures only { (c : Command) → Says line.now c
+        → MatchResult result (λ d. d ≡ c) (λ e. e ≡ NoMemory) }
     // A line is refused at the end of the longest front with which a command's text begins.
     ensures bad { IfErr result (λ e. IsRefusal line.now e) }
 {

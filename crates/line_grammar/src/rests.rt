@@ -138,7 +138,8 @@ fn add(
     last: &mut Vec<At>,
     item: (bool, At),
 ) -> Result<(), ReadError>
-    ensures added { OnOk result ((before.new.items, last.new.items) ≡ add_item (before.old.items, last.old.items) item) }
+    ensures added { OnOk result ((before.new.items, last.new.items)
+        ≡ add_item (before.old.items, last.old.items) item) }
     ensures cause { IfErr result (λ e. e ≡ NoMemory) }
 {
     let (begins, place) = item;

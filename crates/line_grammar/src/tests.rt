@@ -1,4 +1,5 @@
-//! Lines, and the places where they go wrong, worked out on paper from the grammar in `docs/formats/LINES.md`.
+//! Lines, and the places where they go wrong, worked out on paper from the grammar in
+//! `docs/formats/LINES.md`.
 use crate::{
     At, Change, Command, LineError, Name, Path, Paths, Query, one_command_a_text, read_line,
     spellable, write_line,
@@ -267,7 +268,10 @@ fn the_parts_of_a_line_are_its_command(rt: HostRuntime) -> Result<(), Fail> {
     assert!(rt; paths.is_empty());
     assert_eq!(rt; last.places(), [At { x: 5, y: 6 }].as_slice());
     let places = first.into_places();
-    assert_eq!(rt; places.as_slice(), [At { x: 1, y: 2 }, At { x: 3, y: 4 }].as_slice());
+    assert_eq!(rt;
+        places.as_slice(),
+        [At { x: 1, y: 2 }, At { x: 3, y: 4 }].as_slice()
+    );
     Ok(())
 }
 

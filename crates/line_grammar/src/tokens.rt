@@ -1,5 +1,5 @@
-//! The smallest parts of a line: fixed words, numbers, names and places. The longest reading is the right one, since
-//! only a space or nothing may follow a number or a name.
+//! The smallest parts of a line: fixed words, numbers, names and places. The longest reading is the
+//! right one, since only a space or nothing may follow a number or a name.
 ghost use Rattle.std.specs.Prelude.{◌≡◌, ◌≤◌, ◌<◌, ◌^◌, length, IfOk, IfErr, string_bytes, true};
 ghost use Rattle.std.specs.List.{AllByRecursion};
 ghost use Rattle.line_grammar.specs.declared.fault.ReadError.TheVariants.{NoMemory};

@@ -1,5 +1,5 @@
-//! The words of which one has to stand somewhere in a line: keywords, operators, predicates and numbers. Each has the
-//! space behind it, so that no word is the front of another.
+//! The words of which one has to stand somewhere in a line: keywords, operators, predicates and
+//! numbers. Each has the space behind it, so that no word is the front of another.
 ghost use Rattle.std.specs.Prelude.{◌≡◌, map};
 ghost use Rattle.line_grammar.specs.Words.{keyword, operator, predicate, measure, takes_two, measures_two};
 ghost use Rattle.line_grammar.specs.Reading.{Gives, choose_at};
@@ -47,7 +47,8 @@ pub enum Keyword {
 
 // The entry whose word is at the front, and the line behind the word.
 fn choose<'a, T: Copy>(table: &[(&str, T)], line: &'a [u8]) -> Result<(T, &'a [u8]), ReadError>
-    ensures { Gives (λ x. (x.0, x.1.now)) result (choose_at (map (λ e. (e.0.now, e.1)) table.now) line.now) }
+    ensures { Gives (λ x. (x.0, x.1.now)) result
+        (choose_at (map (λ e. (e.0.now, e.1)) table.now) line.now) }
 {
     let mut left = line.len();
     for (word, value) in table {

@@ -13,7 +13,7 @@ use grid_base::{NoMemory, Reply};
 use rose_values::{Num, Op, Pred};
 use std::alloc::{AllocError, Global};
 
-/// The one text of the command, which is the line that `read_line` reads as this command. No line feed is behind it.
+/// The one text of the command: the line that `read_line` reads as this command, without a line feed.
 pub fn write_line(alloc: Global, c: &Command) -> Result<Reply, NoMemory>
     requires { IsSpellable c.now }
     ensures { IfOk result (λ reply. reply ≡ text_of c.now) }
@@ -35,7 +35,8 @@ fn push_command(text: &mut String, c: &Command) -> Result<(), AllocError>
 }
 
 fn push_change(text: &mut String, change: &Change) -> Result<(), AllocError>
-    ensures { OnOk result (string_bytes text.new ≡ string_bytes text.old ++ change_text change.now) }
+    ensures { OnOk result (string_bytes text.new
+        ≡ string_bytes text.old ++ change_text change.now) }
 {
     match change {
         Change::Point(p) => push_point(text, "point ", p),
@@ -92,27 +93,31 @@ fn push_query(text: &mut String, query: &Query) -> Result<(), AllocError>
 }
 
 fn push_number(text: &mut String, word: &str, number: u64) -> Result<(), AllocError>
-    ensures { OnOk result (string_bytes text.new ≡ string_bytes text.old ++ (word.now ++ decimal number)) }
+    ensures { OnOk result (string_bytes text.new
+        ≡ string_bytes text.old ++ (word.now ++ decimal number)) }
 {
     write!(text, "{word}{number}")
 }
 
 fn push_point(text: &mut String, word: &str, p: &At) -> Result<(), AllocError>
-    ensures { OnOk result (string_bytes text.new ≡ string_bytes text.old ++ (word.now ++ point p.now)) }
+    ensures { OnOk result (string_bytes text.new
+        ≡ string_bytes text.old ++ (word.now ++ point p.now)) }
 {
     let (x, y) = (p.x, p.y);
     write!(text, "{word}{x} {y}")
 }
 
 fn push_name(text: &mut String, word: &str, name: &Name) -> Result<(), AllocError>
-    ensures { OnOk result (string_bytes text.new ≡ string_bytes text.old ++ (word.now ++ name.now)) }
+    ensures { OnOk result (string_bytes text.new
+        ≡ string_bytes text.old ++ (word.now ++ name.now)) }
 {
     let name = name.text();
     write!(text, "{word}{name}")
 }
 
 fn push_points(text: &mut String, places: &[At]) -> Result<(), AllocError>
-    ensures { OnOk result (string_bytes text.new ≡ string_bytes text.old ++ flat_map led_point places.now) }
+    ensures { OnOk result (string_bytes text.new
+        ≡ string_bytes text.old ++ flat_map led_point places.now) }
 {
     for p in places {
         push_point(text, " ", p)?;
@@ -128,7 +133,8 @@ fn push_next_list(text: &mut String, path: &Path) -> Result<(), AllocError>
 }
 
 fn push_next_lists(text: &mut String, paths: &[Path]) -> Result<(), AllocError>
-    ensures { OnOk result (string_bytes text.new ≡ string_bytes text.old ++ flat_map next_list paths.now) }
+    ensures { OnOk result (string_bytes text.new
+        ≡ string_bytes text.old ++ flat_map next_list paths.now) }
 {
     for path in paths {
         push_next_list(text, path)?;
@@ -155,7 +161,8 @@ fn push_operation(
     first: &Name,
     other: &Option<Name>,
 ) -> Result<(), AllocError>
-    ensures { OnOk result (string_bytes text.new ≡ string_bytes text.old ++ (word.now ++ (first.now ++ second other.now))) }
+    ensures { OnOk result (string_bytes text.new
+        ≡ string_bytes text.old ++ (word.now ++ (first.now ++ second other.now))) }
 {
     push_name(text, word, first)?;
     push_second(text, other)

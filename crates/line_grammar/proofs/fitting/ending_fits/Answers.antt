@@ -1,4 +1,4 @@
-use Rattle.std.proofs.Common.{◌≡◌, length, arith}
+use Rattle.std.proofs.Common.{◌≡◌, length, arith, IsTrue, nat_eq}
 use Rattle.std.proofs.lemmas.Bool.Decides.{nat_tests}
 use Rattle.line_grammar.specs.Spellable.{is_name_byte}
 use Rattle.line_grammar.proofs.Runs.{run_only, run_all}
@@ -8,7 +8,8 @@ use Rattle.line_grammar.proofs.fitting.ending_fits.Goals as goal
 pub returns-then-bytes-lt32 : goal.returns-then-bytes-lt32
 returns-then-bytes-lt32 c =
     let bytes = c.args.bytes.now in
-    let counted = c.name_bytes.ensures.run in (
-      λ h. (run_only is_name_byte 32 bytes (let same : c.name_bytes.result ≡ length bytes = grind (arith, nat_tests, h) in omega (arith, same, counted)), omega arith),
-      λ h. let all = run_all is_name_byte 32 bytes (omega arith) h.0 in grind (arith, nat_tests, all, counted),
-    )
+    let counted = c.name_bytes.ensures.run in
+    let all_pass = λ (h : IsTrue (nat_eq c.name_bytes.result (length bytes))).
+    let same : c.name_bytes.result ≡ length bytes = grind (arith, nat_tests, h) in
+    run_only is_name_byte 32 bytes (omega (arith, same, counted)) in
+    (λ h. (all_pass h, omega arith), λ h. let all = run_all is_name_byte 32 bytes (omega arith) h.0 in grind (arith, nat_tests, all, counted))
