@@ -23,7 +23,8 @@ use Rattle.line_grammar.proofs.Exact.{Exact, Exact-same, Then, Spells}
 use Rattle.line_grammar.proofs.Literals.{Made}
 use Rattle.line_grammar.proofs.WordLemmas.{keyword_token}
 use Rattle.line_grammar.proofs.Ends.{definition_text, operation_text, question_text, measuring_text}
-use Rattle.line_grammar.proofs.FormLemmas.{make_segment, make_points, make_lines, make_regions, make_let, make_eval, make_ask, make_num, ChangeForm, QueryForm, Form, whole}
+use Rattle.line_grammar.proofs.FormLemmas.{make_segment, make_points, make_lines, make_regions, make_let, make_eval, make_ask, make_num}
+use Rattle.line_grammar.proofs.FormLemmas.{ChangeForm, QueryForm, Form, whole}
 
 -- ---- the forms are texts of commands
 

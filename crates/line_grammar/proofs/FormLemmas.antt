@@ -26,7 +26,9 @@ use Rattle.line_grammar.proofs.Literals.{Ended, finish, Made, made}
 use Rattle.line_grammar.proofs.Choices.{Any}
 use Rattle.line_grammar.proofs.WordLemmas.{keyword_token}
 use Rattle.line_grammar.proofs.Ends as ends
-use Rattle.line_grammar.proofs.Ends.{EndsFit, ends_text, NamedPlacesFit, named_places_text, NamedListsFit, named_lists_text, DefinitionFits, definition_text, OperationFits, operation_text, QuestionFits, question_text, MeasuringFits, measuring_text}
+use Rattle.line_grammar.proofs.Ends.{EndsFit, ends_text, NamedPlacesFit, named_places_text, NamedListsFit, named_lists_text, DefinitionFits}
+use Rattle.line_grammar.proofs.Ends.{definition_text, OperationFits, operation_text, QuestionFits, question_text, MeasuringFits}
+use Rattle.line_grammar.proofs.Ends.{measuring_text}
 
 -- ---- the forms
 

@@ -13,7 +13,8 @@ use Rattle.line_grammar.specs.declared.words.QueryWord.TheVariants as queries
 use Rattle.line_grammar.specs.declared.words.Keyword.{Keyword}
 use Rattle.line_grammar.specs.declared.words.Keyword.TheVariants as lines
 use Rattle.line_grammar.specs.Words.{operator, predicate, measure, keyword}
-use Rattle.line_grammar.specs.Choosing.{all_operators, all_predicates, all_measures, all_keywords, operator_at, predicate_at, measure_at, keyword_at}
+use Rattle.line_grammar.specs.Choosing.{all_operators, all_predicates, all_measures, all_keywords, operator_at, predicate_at, measure_at}
+use Rattle.line_grammar.specs.Choosing.{keyword_at}
 use Rattle.line_grammar.proofs.Exact.{Reads, Token}
 use Rattle.line_grammar.proofs.Choices.{Member, word_kind, choice}
 

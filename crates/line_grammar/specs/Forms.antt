@@ -17,7 +17,8 @@ use Rattle.line_grammar.specs.declared.words.QueryWord.TheVariants as queries
 use Rattle.line_grammar.specs.declared.words.Keyword.{Keyword}
 use Rattle.line_grammar.specs.declared.words.Keyword.TheVariants as lines
 use Rattle.line_grammar.specs.Words.{takes_two, measures_two}
-use Rattle.line_grammar.specs.Reading.{◌>>=◌, literal_at, end_at, number_at, name_at, point_at, led_point_at, led_name_at, points_at}
+use Rattle.line_grammar.specs.Reading.{◌>>=◌, literal_at, end_at, number_at, name_at, point_at}
+use Rattle.line_grammar.specs.Reading.{led_point_at, led_name_at, points_at}
 use Rattle.line_grammar.specs.Choosing.{operator_at, predicate_at, measure_at, keyword_at}
 use Rattle.line_grammar.specs.Listing.{lists_at}
 

@@ -1,5 +1,6 @@
 -- Reading lists of places with semicolons between them, up to the end of the line.
-use Rattle.std.specs.Prelude.{ℕ, List, [], ◌∷◌, Result, Ok, Bool, true, false, codes, ◌==◌, if◌then◌else◌}
+use Rattle.std.specs.Prelude.{ℕ, List, [], ◌∷◌, Result, Ok, Bool, true, false, codes, ◌==◌}
+use Rattle.std.specs.Prelude.{if◌then◌else◌}
 use Rattle.line_grammar.specs.declared.command.At.{At}
 use Rattle.line_grammar.specs.Spelling.{space}
 use Rattle.line_grammar.specs.Reading.{◌>>=◌, literal_at, point_at, led_point_at, rows_at, push}

@@ -1,6 +1,7 @@
 -- Reading tokens from left to right. What stops says how many bytes of the line are left behind the
 -- place where it stopped: that number stays the same however many bytes were read before.
-use Rattle.std.specs.Prelude.{◌≡◌, ℕ, zero, suc, ◌+◌, ◌*◌, ◌-◌, List, [], ◌∷◌, ◌++◌, length, take, drop, min, Result, Ok, Err, Bool, ◌==◌, if◌then◌else◌}
+use Rattle.std.specs.Prelude.{◌≡◌, ℕ, zero, suc, ◌+◌, ◌*◌, ◌-◌, List, [], ◌∷◌, ◌++◌, length, take, drop}
+use Rattle.std.specs.Prelude.{min, Result, Ok, Err, Bool, ◌==◌, if◌then◌else◌}
 use Rattle.line_grammar.specs.declared.command.At.{At}
 use Rattle.line_grammar.specs.declared.fault.ReadError.{ReadError}
 use Rattle.line_grammar.specs.declared.fault.ReadError.TheVariants as errors

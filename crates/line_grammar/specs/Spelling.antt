@@ -5,9 +5,11 @@ use Rattle.std.specs.List.{flat_map}
 use Rattle.std.specs.Fmt.{decimal}
 use Rattle.line_grammar.specs.declared.command.At.{At}
 use Rattle.line_grammar.specs.declared.command.Change.{Change}
-use Rattle.line_grammar.specs.declared.command.Change.TheVariants.{Point, Unpoint, Segment, Points, Lines, Regions, Let, Drop, Delete}
+use Rattle.line_grammar.specs.declared.command.Change.TheVariants.{Point, Unpoint, Segment, Points}
+use Rattle.line_grammar.specs.declared.command.Change.TheVariants.{Lines, Regions, Let, Drop, Delete}
 use Rattle.line_grammar.specs.declared.command.Query.{Query}
-use Rattle.line_grammar.specs.declared.command.Query.TheVariants.{Realm, Show, Chain, Eval, Ask, Num, Faces, Trace}
+use Rattle.line_grammar.specs.declared.command.Query.TheVariants.{Realm, Show, Chain, Eval, Ask, Num}
+use Rattle.line_grammar.specs.declared.command.Query.TheVariants.{Faces, Trace}
 use Rattle.line_grammar.specs.declared.command.Command.{Command}
 use Rattle.line_grammar.specs.declared.command.Command.TheVariants.{Batch, Checkpoint}
 use Rattle.line_grammar.specs.declared.command.Command.TheVariants as commands
