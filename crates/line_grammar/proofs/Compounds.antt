@@ -77,8 +77,9 @@ spells_after : {C : Type 0} (word : List ℕ) (fits : C → Type 0) (text : C �
     → Spells fits (λ d. word ++ text d) c s → After word (Spells fits text) c s
 spells_after word fits text c s h = record { rest = text c; parts = h.1; spelled = (h.0, refl) }
 
-pub past : {C : Type 0} (word : List ℕ) (Follow Before : List ℕ → Type 0) (fits : C → Type 0) (text : C → List ℕ) (next : List ℕ → Result C ℕ)
-    → Tail Follow (Spells fits text) next → ((t : List ℕ) → Before (word ++ t))
+-- the texts of a word and a rest are the word and then the rest's
+pub past : {C : Type 0} (word : List ℕ) (Follow Before : List ℕ → Type 0) (fits : C → Type 0) (text : C → List ℕ)
+    → (next : List ℕ → Result C ℕ) → Tail Follow (Spells fits text) next → ((t : List ℕ) → Before (word ++ t))
     → Tail Before (Spells fits (λ d. word ++ text d)) (λ line. literal_at word line >>= next)
 past word Follow Before fits text next tail before =
     Tail-same Before (After word (Spells fits text)) (Spells fits (λ d. word ++ text d)) (λ line. literal_at word line >>= next)

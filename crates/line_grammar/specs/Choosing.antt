@@ -13,20 +13,24 @@ use Rattle.line_grammar.specs.declared.words.Keyword.TheVariants as lines
 use Rattle.line_grammar.specs.Words.{operator, predicate, measure, keyword}
 use Rattle.line_grammar.specs.Reading.{choose_at}
 
+-- every operator
 abbrev pub all_operators : List Op
 all_operators =
     ops.Intersection ∷ ops.Plus ∷ ops.Minus ∷ ops.CommonBorder ∷ ops.Vertices ∷ ops.Contour
     ∷ ops.Interior ∷ []
 
+-- every predicate
 abbrev pub all_predicates : List Pred
 all_predicates =
     preds.Equal ∷ preds.Inside ∷ preds.EdgeInside ∷ preds.VertexInside ∷ preds.AreaDisjoint
     ∷ preds.EdgeDisjoint ∷ preds.Disjoint ∷ preds.Intersects ∷ preds.Meets ∷ preds.Adjacent
     ∷ preds.Encloses ∷ preds.OnBorderOf ∷ preds.BorderInCommon ∷ []
 
+-- every number of values
 abbrev pub all_measures : List Num
 all_measures = nums.Area2 ∷ nums.Dist2 ∷ nums.Diameter2 ∷ nums.NoOfComponents ∷ []
 
+-- every first word
 abbrev pub all_keywords : List Keyword
 all_keywords =
     lines.Change changes.Point ∷ lines.Change changes.Unpoint ∷ lines.Change changes.Segment
@@ -40,14 +44,18 @@ all_keywords =
 abbrev pub entries : {T : Type 0} → (T → List ℕ) → List T → List (List ℕ × T)
 entries word all = map (λ t. (word t, t)) all
 
+-- the operator at the front
 unfoldable pub operator_at : List ℕ → Result (Op × List ℕ) ℕ
 operator_at line = choose_at (entries operator all_operators) line
 
+-- the predicate at the front
 unfoldable pub predicate_at : List ℕ → Result (Pred × List ℕ) ℕ
 predicate_at line = choose_at (entries predicate all_predicates) line
 
+-- the number of values at the front
 unfoldable pub measure_at : List ℕ → Result (Num × List ℕ) ℕ
 measure_at line = choose_at (entries measure all_measures) line
 
+-- the first word of the line
 unfoldable pub keyword_at : List ℕ → Result (Keyword × List ℕ) ℕ
 keyword_at line = choose_at (entries keyword all_keywords) line

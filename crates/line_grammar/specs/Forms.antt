@@ -28,18 +28,23 @@ use Rattle.line_grammar.specs.Listing.{lists_at}
 abbrev pub last : {A : Type 0} → (List ℕ → Result (A × List ℕ) ℕ) → List ℕ → Result A ℕ
 last read line = read line >>= λ x. end_at x.1 >>= λ none. Ok x.0
 
+-- a number that ends the line
 unfoldable pub last_number_at : List ℕ → Result ℕ ℕ
 last_number_at line = last number_at line
 
+-- a place that ends the line
 unfoldable pub last_point_at : List ℕ → Result At ℕ
 last_point_at line = last point_at line
 
+-- a name that ends the line
 unfoldable pub last_name_at : List ℕ → Result (List ℕ) ℕ
 last_name_at line = last name_at line
 
+-- a place behind a space, which ends the line
 unfoldable pub last_led_point_at : List ℕ → Result At ℕ
 last_led_point_at line = last led_point_at line
 
+-- a name behind a space, which ends the line
 unfoldable pub last_led_name_at : List ℕ → Result (List ℕ) ℕ
 last_led_name_at line = last led_name_at line
 
@@ -50,15 +55,19 @@ abbrev pub behind : {A B : Type 0} → (List ℕ → Result (A × List ℕ) ℕ)
     → List ℕ → Result (A × B) ℕ
 behind read rest line = read line >>= λ x. rest x.0 x.1 >>= λ b. Ok (x.0, b)
 
+-- two places that end the line
 unfoldable pub two_points_at : List ℕ → Result (At × At) ℕ
 two_points_at line = behind point_at (λ p. last_led_point_at) line
 
+-- two names that end the line
 unfoldable pub two_names_at : List ℕ → Result (List ℕ × List ℕ) ℕ
 two_names_at line = behind name_at (λ a. last_led_name_at) line
 
+-- a name, and places to the end of the line
 unfoldable pub named_points_at : List ℕ → Result (List ℕ × List At) ℕ
 named_points_at line = behind name_at (λ n. points_at []) line
 
+-- a name, and lists of places to the end of the line
 unfoldable pub named_lists_at : List ℕ → Result (List ℕ × List (List At)) ℕ
 named_lists_at line = behind name_at (λ n. lists_at) line
 
@@ -71,18 +80,23 @@ second_at false line = end_at line >>= λ none. Ok None
 unfoldable pub operands_at : Bool → List ℕ → Result (List ℕ × Option (List ℕ)) ℕ
 operands_at two line = behind name_at (λ a. second_at two) line
 
+-- an operator, and as many names as it takes
 unfoldable pub operation_at : List ℕ → Result (Op × (List ℕ × Option (List ℕ))) ℕ
 operation_at line = behind operator_at (λ op. operands_at (takes_two op)) line
 
+-- a number of values, and as many names as it takes
 unfoldable pub measuring_at : List ℕ → Result (Num × (List ℕ × Option (List ℕ))) ℕ
 measuring_at line = behind measure_at (λ num. operands_at (measures_two num)) line
 
+-- a predicate and two names
 unfoldable pub question_at : List ℕ → Result (Pred × (List ℕ × List ℕ)) ℕ
 question_at line = behind predicate_at (λ p. two_names_at) line
 
+-- what stands behind a defined name
 unfoldable pub defined_at : List ℕ → Result (Op × (List ℕ × Option (List ℕ))) ℕ
 defined_at line = literal_at (codes " = ") line >>= operation_at
 
+-- a name, and what it is to name
 unfoldable pub definition_at : List ℕ → Result (List ℕ × (Op × (List ℕ × Option (List ℕ)))) ℕ
 definition_at line = behind name_at (λ n. defined_at) line
 
@@ -118,5 +132,6 @@ form_at (lines.Query word) line = query_at word line >>= λ q. Ok (command.Query
 form_at lines.Batch line = last_number_at line >>= λ n. Ok (command.Batch n)
 form_at lines.Checkpoint line = end_at line >>= λ none. Ok command.Checkpoint
 
+-- the command of which the line is the text
 unfoldable pub command_at : List ℕ → Result Command ℕ
 command_at line = keyword_at line >>= λ k. form_at k.0 k.1

@@ -21,6 +21,7 @@ item_at line =
 abbrev pub Lists : Type 0
 Lists = List (List At) × List At
 
+-- the place begins a new list, or joins the last
 abbrev pub added_item : Bool → List (List At) → List At → At → Lists
 added_item true before last p = (push before last, p ∷ [])
 added_item false before last p = (before, push last p)
@@ -29,9 +30,11 @@ added_item false before last p = (before, push last p)
 abbrev pub add_item : Lists → Bool × At → Lists
 add_item ls item = added_item item.0 ls.0 ls.1 item.1
 
+-- the lists with the last behind the others
 abbrev pub all_lists : Lists → List (List At)
 all_lists ls = push ls.0 ls.1
 
+-- items up to the end of the line, behind those that were read before
 unfoldable pub items_at : Lists → List ℕ → Result Lists ℕ
 items_at ls line = rows_at item_at add_item ls line
 

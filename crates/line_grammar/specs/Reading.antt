@@ -14,6 +14,7 @@ abbrev pub ◌>>=◌ : {A B : Type 0} → Result A ℕ → (A → Result B ℕ) 
 (Ok x) >>= f = f x
 (Err left) >>= f = Err left
 
+-- why a function gave nothing is why reading stops, unless memory ran out
 abbrev pub Fails : {Y : Type 0} → ReadError → Result Y ℕ → Type 0
 Fails errors.NoMemory read = Unit {0}
 Fails (errors.Stopped left) read = read ≡ Err left
@@ -82,6 +83,7 @@ led_name_at line = literal_at space line >>= name_at
 
 -- ---- one of several words
 
+-- a word that is at the front decides, and another leaves the choice to the rest of the table
 abbrev pub or_else : {T : Type 0} → Result (List ℕ) ℕ → T → ℕ → (ℕ → Result (T × List ℕ) ℕ)
     → Result (T × List ℕ) ℕ
 or_else (Ok rest) t left more = Ok (t, rest)
@@ -94,11 +96,13 @@ choose_from left [] line = Err left
 choose_from left (entry ∷ table) line =
     or_else (literal_at entry.0 line) entry.1 left (λ there. choose_from there table line)
 
+-- the entry whose word is at the front, or the furthest place at which a word stopped
 abbrev pub choose_at : {T : Type 0} → List (List ℕ × T) → List ℕ → Result (T × List ℕ) ℕ
 choose_at table line = choose_from (length line) table line
 
 -- ---- rows of tokens, to the end of the line
 
+-- at most n tokens, each added to what was read so far
 unfoldable pub rows_from : {A S : Type 0} → (List ℕ → Result (A × List ℕ) ℕ) → (S → A → S) → ℕ → S
     → List ℕ → Result S ℕ
 rows_from read add n so_far [] = Ok so_far
@@ -112,6 +116,7 @@ abbrev pub rows_at : {A S : Type 0} → (List ℕ → Result (A × List ℕ) ℕ
     → Result S ℕ
 rows_at read add so_far line = rows_from read add (length line) so_far line
 
+-- xs with x behind it
 abbrev pub push : {A : Type 0} → List A → A → List A
 push xs x = xs ++ x ∷ []
 

@@ -39,9 +39,11 @@ IsName [] = ⊥
 IsName (b ∷ bs) =
     (is_letter b ≡ true) × AllByRecursion (λ c. is_name_byte c ≡ true) bs × (length bs < 32)
 
+-- a place with two such numbers
 abbrev pub IsPoint : At → Type 0
 IsPoint p = IsNumber p.x × IsNumber p.y
 
+-- a list with one item or more
 abbrev pub IsNonempty : {A : Type 0} → List A → Type 0
 IsNonempty [] = ⊥
 IsNonempty (x ∷ xs) = Unit {0}
@@ -59,6 +61,7 @@ IsSecond false (Some b) = ⊥
 
 -- ---- the commands
 
+-- some line stands for the change
 abbrev pub IsSpellableChange : Change → Type 0
 IsSpellableChange (Point p) = IsPoint p
 IsSpellableChange (Unpoint p) = IsPoint p
@@ -70,6 +73,7 @@ IsSpellableChange (Let n op a b) = IsName n × IsName a × IsSecond (takes_two o
 IsSpellableChange (Drop n) = IsName n
 IsSpellableChange (Delete id) = IsNumber id
 
+-- some line stands for the query
 abbrev pub IsSpellableQuery : Query → Type 0
 IsSpellableQuery Realm = Unit {0}
 IsSpellableQuery (Show n) = IsName n

@@ -17,6 +17,7 @@ use Rattle.line_grammar.specs.Words.{operator, predicate, measure}
 
 -- ---- the parts of a text
 
+-- what stands between two tokens
 abbrev pub space : List ℕ
 space = 32 ∷ []
 
@@ -53,6 +54,7 @@ second (Some b) = led_name b
 
 -- ---- the texts
 
+-- the text of a change
 abbrev pub change_text : Change → List ℕ
 change_text (Point p) = codes "point " ++ point p
 change_text (Unpoint p) = codes "unpoint " ++ point p
@@ -64,6 +66,7 @@ change_text (Let n op a b) = codes "let " ++ (n ++ (codes " = " ++ (operator op 
 change_text (Drop n) = codes "drop " ++ n
 change_text (Delete id) = codes "delete " ++ decimal id
 
+-- the text of a query
 abbrev pub query_text : Query → List ℕ
 query_text Realm = codes "realm"
 query_text (Show n) = codes "show " ++ n

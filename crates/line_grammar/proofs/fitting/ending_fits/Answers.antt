@@ -9,7 +9,8 @@ pub returns-then-bytes-lt32 : goal.returns-then-bytes-lt32
 returns-then-bytes-lt32 c =
     let bytes = c.args.bytes.now in
     let counted = c.name_bytes.ensures.run in
-    let all_pass = λ (h : IsTrue (nat_eq c.name_bytes.result (length bytes))).
+    let none_fails = λ (h : IsTrue (nat_eq c.name_bytes.result (length bytes))).
     let same : c.name_bytes.result ≡ length bytes = grind (arith, nat_tests, h) in
     run_only is_name_byte 32 bytes (omega (arith, same, counted)) in
-    (λ h. (all_pass h, omega arith), λ h. let all = run_all is_name_byte 32 bytes (omega arith) h.0 in grind (arith, nat_tests, all, counted))
+    let all = run_all is_name_byte 32 bytes (omega arith) in
+    (λ h. (none_fails h, omega arith), λ h. let whole = all h.0 in grind (arith, nat_tests, whole, counted))
