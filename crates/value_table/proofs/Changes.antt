@@ -1,0 +1,68 @@
+-- This file shows that the counts stay those of the values where one comes or goes.
+use Rattle.std.proofs.Common.{◌≡◌, ℕ, ◌+◌, ◌≤◌, Bool, cond, refl, sym, ap, ◌∙◌, arith}
+use Rattle.std.proofs.Common.{List, [], ◌∷◌, ◌++◌, count_by, String, Option, Some, None, IsSome}
+use Rattle.std.specs.Map.{lookup, values_of, remove_entry}
+use Rattle.std.specs.HashMap.{HashMap}
+use Rattle.std.specs.Str.{bytes_eq}
+use Rattle.std.specs.String.{string_bytes, string_eq}
+use Rattle.std.proofs.lemmas.List.{map-append}
+use Rattle.indexmap.specs.IndexMap.{IndexMap, insert_entry}
+use Rattle.indexmap.proofs.CallerLemmas.{insert_entry-new}
+use Rattle.value_table.specs.declared.value.Value.{Value}
+use Rattle.value_table.specs.Table.{NamedValues, value_named, IsNamed}
+use Rattle.value_table.specs.Kept.{named, seen_of}
+use Rattle.value_table.specs.Uses.{uses_in}
+use Rattle.value_table.proofs.Tables.{lookup-seen}
+use Rattle.value_table.proofs.Counts.{count_push, count_removed}
+
+-- what clauses see where an entry comes last
+pub seen_push : {Y : Type 0} (es : List (String Y × Value)) (s : String Y) (v : Value)
+    → seen_of (es ++ (s, v) ∷ []) ≡ seen_of es ++ (string_bytes s, v) ∷ []
+seen_push es s v = map-append named es ((s, v) ∷ [])
+
+none_of : {X : Type 0} (found : Option X) → (IsSome found → ⊥) → found ≡ None
+none_of None never = refl
+none_of (Some x) never = absurd (never refl)
+
+-- a name that clauses don't see isn't a key
+pub not_a_key : {Y : Type 0} (es : List (String Y × Value)) (table : NamedValues) (name : List ℕ) (s : String Y)
+    → seen_of es ≡ table → string_bytes s ≡ name → (IsNamed name table → ⊥) → lookup (string_eq s) es ≡ None
+not_a_key es table name s view same never =
+    sym (lookup-seen (string_bytes s) es) ∙ ap (lookup (bytes_eq (string_bytes s))) view
+    ∙ ap (λ bs. value_named bs table) same ∙ none_of (value_named name table) never
+
+-- what clauses see after a new name is put into a map with room
+pub seen_defined : {Y S : Type 0} (values room after : IndexMap (String Y) Value S) (table : NamedValues) (name : List ℕ)
+    (s : String Y) (v : Value) → seen_of values.entries ≡ table → string_bytes s ≡ name → (IsNamed name table → ⊥)
+    → room.entries ≡ values.entries → after.entries ≡ insert_entry string_eq room.entries s v
+    → seen_of after.entries ≡ seen_of values.entries ++ (name, v) ∷ []
+seen_defined values room after table name s v view same never stays put =
+    let new = not_a_key room.entries table name s (ap seen_of stays ∙ view) same never in
+    let last = put ∙ insert_entry-new string_eq room s v new ∙ ap (λ es. es ++ (s, v) ∷ []) stays in
+    ap seen_of last ∙ seen_push values.entries s v ∙ ap (λ bs. seen_of values.entries ++ (bs, v) ∷ []) same
+
+module _ {K S Y : Type 0} (eq : K → K → Bool) (q : K) (passes : Value → Bool) (v : Value) (es : List (String Y × Value)) where
+  -- a value came, and what it names is used once more
+  pub counted_more : (old mid new : HashMap K ℕ S) (name : List ℕ) (table : NamedValues)
+      → uses_in eq old q ≡ count_by passes (values_of (seen_of es))
+      → uses_in eq mid q ≡ uses_in eq old q
+      → uses_in eq new q ≡ uses_in eq mid q + cond (passes v) 1 0
+      → table ≡ seen_of es ++ (name, v) ∷ []
+      → uses_in eq new q ≡ count_by passes (values_of table)
+  counted_more old mid new name table counted stays more push =
+      let pushed = ap (λ t. count_by passes (values_of t)) push ∙ count_push passes (seen_of es) name v in
+      omega (arith, counted, stays, more, pushed)
+
+  -- a value went, and what it names is used once less
+  pub counted_fewer : (old new : HashMap K ℕ S) (test : String Y → Bool)
+      → uses_in eq old q ≡ count_by passes (values_of (seen_of es))
+      → lookup test es ≡ Some v
+      → uses_in eq new q + cond (passes v) 1 0 ≡ uses_in eq old q
+      → uses_in eq new q ≡ count_by passes (values_of (seen_of (remove_entry test es)))
+  counted_fewer old new test counted there fewer = omega (arith, counted, fewer, count_removed passes test es v there)
+
+  -- a value that is there uses what it names
+  pub counted_enough : (old : HashMap K ℕ S) (test : String Y → Bool)
+      → uses_in eq old q ≡ count_by passes (values_of (seen_of es))
+      → lookup test es ≡ Some v → cond (passes v) 1 0 ≤ uses_in eq old q
+  counted_enough old test counted there = omega (arith, counted, count_removed passes test es v there)

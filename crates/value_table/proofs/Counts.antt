@@ -1,0 +1,118 @@
+-- This file shows how counts change with a value, whose parts name each key at most once.
+use Rattle.std.proofs.Common.{◌≡◌, ℕ, ◌+◌, ◌<◌, ◌≤◌, ◌^◌, Bool, true, false, cond, refl, ap, ◌∙◌, arith}
+use Rattle.std.proofs.Common.{List, [], ◌∷◌, ◌++◌, All, AllPairs, suc, length, nat_eq, String, Some, count_by}
+use Rattle.std.specs.List.{list_any}
+use Rattle.std.specs.Cmp.{IsEquivalence}
+use Rattle.std.proofs.lemmas.List.Elements.{All-head, All-tail}
+use Rattle.std.proofs.lemmas.List.{map-append}
+use Rattle.std.proofs.lemmas.List.Sums.{sum_by-cons}
+use Rattle.std.specs.Map.{lookup, values_of, remove_entry}
+use Rattle.std.specs.Cmp.{nat_eq_equiv}
+use Rattle.std.proofs.lemmas.Cmp.{on_equiv, and_equiv}
+use Rattle.std.proofs.lemmas.Bool.Decides.{nat_tests}
+use Rattle.std.proofs.lemmas.List.Sums.{sum_by_push, count_by-le-length}
+use Rattle.std.proofs.lemmas.Map.Entries.{length-values_of, sum_by-remove_entry}
+use Rattle.grid_base.specs.Point.{GridPoint, IsBefore, is_point}
+use Rattle.value_table.specs.declared.value.Value.{Value}
+use Rattle.value_table.specs.Value.{ids_among, points_among, names_id, names_point}
+use Rattle.value_table.specs.Table.{NamedValues}
+use Rattle.value_table.specs.Kept.{seen_of}
+use Rattle.value_table.specs.Uses.{times_among}
+use Rattle.value_table.proofs.Tables.{values-seen}
+
+module _ {K : Type 0} {eq : K → K → Bool} (laws : IsEquivalence eq) (B : K → K → Type 0)
+    (tells : (x y : K) → B x y → eq x y ≡ false) where
+  -- a key that ties with x doesn't stand among later keys
+  none_later : (q x : K) → eq q x ≡ true → (xs : List K) → All (B x) xs
+      → (times_among eq xs q ≡ 0) × (list_any (eq q) xs ≡ false)
+  none_later q x tie [] later = (refl, refl)
+  none_later q x tie (y ∷ ys) later =
+      let passed : eq q y ≡ false = laws.congr q x y tie ∙ tells x y (All-head (B x) y ys later) in
+      let rest = none_later q x tie ys (All-tail (B x) y ys later) in
+      let more = sum_by-cons (λ k. cond (eq q k) 1 0) y ys in
+      (more ∙ rw passed (omega (arith, rest.0)), rw passed rest.1)
+
+  -- the later keys ascend
+  rest_ascends : (x : K) (xs : List K) → AllPairs B (x ∷ xs) → AllPairs B xs
+  rest_ascends x xs ascending = λ i j d before within. ascending (suc i) (suc j) d (omega (arith, before)) (omega (arith, within))
+
+  first_before : (x : K) (xs : List K) → AllPairs B (x ∷ xs) → All (B x) xs
+  first_before x xs ascending = λ k d within. ascending 0 (suc k) d (omega arith) (omega (arith, within))
+
+  -- a key stands at most once among keys that ascend
+  pub times_once : (xs : List K) → AllPairs B xs → (q : K) → times_among eq xs q ≡ cond (list_any (eq q) xs) 1 0
+  times_once [] ascending q = refl
+  times_once (x ∷ xs) ascending q =
+      by (eq q x) refl (times_once xs (rest_ascends x xs ascending) q) (λ tie. none_later q x tie xs (first_before x xs ascending))
+    where
+      by : (b : Bool) → eq q x ≡ b → times_among eq xs q ≡ cond (list_any (eq q) xs) 1 0
+          → (eq q x ≡ true → (times_among eq xs q ≡ 0) × (list_any (eq q) xs ≡ false))
+          → times_among eq (x ∷ xs) q ≡ cond (list_any (eq q) (x ∷ xs)) 1 0
+      by true tie rest none = sum_by-cons (λ k. cond (eq q k) 1 0) x xs ∙ rw tie (omega (arith, (none tie).0))
+      by false other rest none = sum_by-cons (λ k. cond (eq q k) 1 0) x xs ∙ rw other (omega (arith, rest))
+
+  -- and so not more than once
+  pub times_at_most_once : (xs : List K) → AllPairs B xs → (q : K) → times_among eq xs q ≤ 1
+  times_at_most_once xs ascending q = at_most (list_any (eq q) xs) (times_once xs ascending q)
+    where
+      at_most : (b : Bool) → times_among eq xs q ≡ cond b 1 0 → times_among eq xs q ≤ 1
+      at_most true e = omega (arith, e)
+      at_most false e = omega (arith, e)
+
+-- numbers that ascend differ
+pub nat_apart : (m n : ℕ) → m < n → nat_eq m n ≡ false
+nat_apart m n before = grind (arith, nat_tests)
+
+-- and so do points
+pub point_apart : (p q : GridPoint) → IsBefore p q → is_point p q ≡ false
+point_apart p q before = grind (arith, nat_tests)
+
+pub is_point-equiv : IsEquivalence is_point
+is_point-equiv = and_equiv (on_equiv (λ p. p.x) nat_eq_equiv) (on_equiv (λ p. p.y) nat_eq_equiv)
+
+-- how often an id stands among the ids of a value
+pub id_times : (v : Value) (ids : List ℕ) → ids ≡ ids_among v.parts → AllPairs (λ m n. m < n) ids
+    → (id : ℕ) → times_among nat_eq ids id ≡ cond (names_id id v) 1 0
+id_times v ids are ascending id =
+    times_once nat_eq_equiv (λ m n. m < n) nat_apart ids ascending id ∙ ap (λ xs. cond (list_any (nat_eq id) xs) 1 0) are
+
+-- how often a point stands among the points of a value
+pub point_times : (v : Value) (points : List GridPoint) → points ≡ points_among v.parts → AllPairs IsBefore points
+    → (p : GridPoint) → times_among is_point points p ≡ cond (names_point p v) 1 0
+point_times v points are ascending p =
+    times_once is_point-equiv IsBefore point_apart points ascending p
+    ∙ ap (λ xs. cond (list_any (is_point p) xs) 1 0) are
+
+-- a count that is at most the number of values
+pub count_small : {Y : Type 0} (passes : Value → Bool) (es : List (String Y × Value))
+    → count_by passes (values_of (seen_of es)) ≤ length es
+count_small passes es =
+    rw values-seen (omega (arith, count_by-le-length passes (values_of es), length-values_of es))
+
+-- one more value
+pub count_push : (passes : Value → Bool) (table : NamedValues) (name : List ℕ) (v : Value)
+    → count_by passes (values_of (table ++ (name, v) ∷ [])) ≡ count_by passes (values_of table) + cond (passes v) 1 0
+count_push passes table name v =
+    ap (count_by passes) (map-append (λ e. e.1) table ((name, v) ∷ []))
+    ∙ sum_by_push (λ w. cond (passes w) 1 0) (values_of table) v
+
+-- one value fewer
+pub count_removed : {Y : Type 0} (passes : Value → Bool) (test : String Y → Bool) (es : List (String Y × Value)) (v : Value)
+    → lookup test es ≡ Some v
+    → count_by passes (values_of (seen_of (remove_entry test es))) + cond (passes v) 1 0
+    ≡ count_by passes (values_of (seen_of es))
+count_removed passes test es v there =
+    let removed = sum_by-remove_entry (λ w. cond (passes w) 1 0) test es in
+    rw (values-seen (remove_entry test es), values-seen es) (rw there at removed)
+
+-- one use at most still fits
+pub fits_once : (uses times : ℕ) → uses + 1 < 2 ^ 64 → times ≤ 1 → uses + times < 2 ^ 64
+fits_once uses times fits once = omega arith
+
+-- an id stands at most once among the ids of a value
+pub id_at_most_once : (ids : List ℕ) → AllPairs (λ m n. m < n) ids → (id : ℕ) → times_among nat_eq ids id ≤ 1
+id_at_most_once = times_at_most_once nat_eq_equiv (λ m n. m < n) nat_apart
+
+-- and a point among its points
+pub point_at_most_once : (points : List GridPoint) → AllPairs IsBefore points → (p : GridPoint) → times_among is_point points p ≤ 1
+point_at_most_once = times_at_most_once is_point-equiv IsBefore point_apart

@@ -1,0 +1,84 @@
+-- This file shows how what clauses see of a table follows from its entries.
+use Rattle.std.proofs.Common.{◌≡◌, ◌≢◌, ℕ, Bool, true, false, cond, refl, sym, ap, ◌∙◌, subst, Option, Some, None, option_map}
+use Rattle.std.proofs.Common.{List, [], ◌∷◌, map, slice_get, AllPairs, String}
+use Rattle.std.specs.Map.{lookup, keys_of, values_of, remove_entry}
+use Rattle.std.specs.List.{IsDistinct, AllByRecursion}
+use Rattle.std.specs.Str.{bytes_eq}
+use Rattle.std.specs.String.{string_bytes, string_eq}
+use Rattle.std.proofs.lemmas.Option.{slice_get-map}
+use Rattle.std.proofs.lemmas.Slice.Eq.{bytes_eq-Decides}
+use Rattle.std.proofs.lemmas.Map.Made.{AllPairs-from_IsDistinct}
+use Rattle.value_table.specs.declared.value.Value.{Value}
+use Rattle.value_table.specs.Table.{without, HasDistinctNames}
+use Rattle.value_table.specs.Kept.{seen_of}
+
+module _ {Y : Type 0} where
+  -- a look-up by name finds what a look-up by the name's bytes does
+  pub lookup-seen : (name : List ℕ) (es : List (String Y × Value))
+      → lookup (bytes_eq name) (seen_of es) ≡ lookup (λ k. bytes_eq name (string_bytes k)) es
+  lookup-seen name [] = refl
+  lookup-seen name (e ∷ es) =
+      ap (λ rest. cond (bytes_eq name (string_bytes e.0)) (Some e.1) rest) (lookup-seen name es)
+
+  -- the values are the same
+  pub values-seen : (es : List (String Y × Value)) → values_of (seen_of es) ≡ values_of es
+  values-seen [] = refl
+  values-seen (e ∷ es) = ap (λ rest. e.1 ∷ rest) (values-seen es)
+
+  -- the names are the bytes of the keys
+  pub keys-seen : (es : List (String Y × Value)) → keys_of (seen_of es) ≡ map string_bytes (keys_of es)
+  keys-seen [] = refl
+  keys-seen (e ∷ es) = ap (λ rest. string_bytes e.0 ∷ rest) (keys-seen es)
+
+  -- the name at a place
+  pub name_at-seen : (es : List (String Y × Value)) (k : ℕ)
+      → slice_get (keys_of (seen_of es)) k ≡ option_map (λ e. string_bytes e.0) (slice_get es k)
+  name_at-seen es k =
+      ap (λ names. slice_get names k) (keys-seen es)
+      ∙ slice_get-map string_bytes (keys_of es) k
+      ∙ ap (option_map string_bytes) (slice_get-map (λ e. e.0) es k)
+      ∙ in_turn (slice_get es k)
+    where
+      in_turn : (entry : Option (String Y × Value))
+          → option_map string_bytes (option_map (λ e. e.0) entry) ≡ option_map (λ e. string_bytes e.0) entry
+      in_turn None = refl
+      in_turn (Some e) = refl
+
+  -- the first key isn't among the later ones
+  apart : (name : List ℕ) (x : String Y) → bytes_eq name (string_bytes x) ≡ true → (es : List (String Y × Value))
+      → AllByRecursion (λ y. string_eq x y ≡ false) (keys_of es) → without name (seen_of es) ≡ seen_of es
+  apart name x same [] later = refl
+  apart name x same (e ∷ es) later =
+      let is = (bytes_eq-Decides name (string_bytes x)).0 same in
+      let other : bytes_eq name (string_bytes e.0) ≡ false =
+      subst (λ bs. bytes_eq bs (string_bytes e.0) ≡ false) (sym is) later.0 in
+      rw other (ap (λ rest. (string_bytes e.0, e.1) ∷ rest) (apart name x same es later.1))
+
+  -- the entries without the first of a name are those without the name
+  pub without-seen : (name : List ℕ) (es : List (String Y × Value)) → IsDistinct string_eq (keys_of es)
+      → seen_of (remove_entry (λ k. bytes_eq name (string_bytes k)) es) ≡ without name (seen_of es)
+  unfolding IsDistinct
+  without-seen name [] distinct = refl
+  without-seen name (e ∷ es) distinct = by (bytes_eq name (string_bytes e.0)) refl (without-seen name es distinct.1)
+    where
+      by : (b : Bool) → bytes_eq name (string_bytes e.0) ≡ b
+          → seen_of (remove_entry (λ k. bytes_eq name (string_bytes k)) es) ≡ without name (seen_of es)
+          → seen_of (remove_entry (λ k. bytes_eq name (string_bytes k)) (e ∷ es)) ≡ without name (seen_of (e ∷ es))
+      by true same rest = rw same (sym (apart name e.0 same es distinct.0))
+      by false other rest = rw other (ap (λ later. (string_bytes e.0, e.1) ∷ later) rest)
+
+  bytes_distinct : (ks : List (String Y)) → IsDistinct string_eq ks → IsDistinct bytes_eq (map string_bytes ks)
+  unfolding IsDistinct
+  bytes_distinct [] distinct = tt
+  bytes_distinct (k ∷ ks) distinct = (later ks distinct.0, bytes_distinct ks distinct.1)
+    where
+      later : (xs : List (String Y)) → AllByRecursion (λ y. string_eq k y ≡ false) xs
+          → AllByRecursion (λ y. bytes_eq (string_bytes k) y ≡ false) (map string_bytes xs)
+      later [] all = tt
+      later (x ∷ xs) all = (all.0, later xs all.1)
+
+  -- names of keys that differ differ
+  pub distinct-seen : (es : List (String Y × Value)) → IsDistinct string_eq (keys_of es) → HasDistinctNames (seen_of es)
+  distinct-seen es distinct =
+      subst (AllPairs (λ name other. name ≢ other)) (sym (keys-seen es))
+      (AllPairs-from_IsDistinct bytes_eq-Decides _ (bytes_distinct (keys_of es) distinct))

@@ -1,0 +1,24 @@
+-- How a table is kept: its values in a map, and beside it how many values name each id and each point.
+-- No public clause cites this file.
+use Rattle.std.specs.Prelude.{◌≡◌, ℕ, nat_eq, List, map, String}
+use Rattle.std.specs.String.{string_bytes, string_eq}
+use Rattle.std.specs.HashMap.{HashMap, IsUnique}
+use Rattle.grid_base.specs.Point.{GridPoint, is_point}
+use Rattle.value_table.specs.declared.value.Value.{Value}
+use Rattle.value_table.specs.Table.{NamedValues, users_of, users_of_point}
+use Rattle.value_table.specs.Uses.{uses_in}
+
+-- an entry, with the bytes of its name
+abbrev pub named : {Y : Type 0} → String Y × Value → List ℕ × Value
+named entry = (string_bytes entry.0, entry.1)
+
+-- what clauses see of the entries
+abbrev pub seen_of : {Y : Type 0} → List (String Y × Value) → NamedValues
+seen_of entries = map named entries
+
+-- no two names are the same, and the counts are those of the values
+pub record IsKept {Y R S T : Type 0} (values : HashMap (String Y) Value R) (ids : HashMap ℕ ℕ S)
+    (points : HashMap GridPoint ℕ T) : Type 0 where
+  pub distinct : IsUnique string_eq values
+  pub ids_counted : (id : ℕ) → uses_in nat_eq ids id ≡ users_of (seen_of values.entries) id
+  pub points_counted : (p : GridPoint) → uses_in is_point points p ≡ users_of_point (seen_of values.entries) p

@@ -1,0 +1,154 @@
+//! Values by name, in the order in which they were defined. Room is made in all three maps before
+//! one is changed, so want of memory leaves nothing to undo.
+ghost use Rattle.std.specs.Prelude.{◌≡◌, ◌↔◌, ◌++◌, ◌∷◌, [], Err, IsTrue, OnOk, OnErr};
+ghost use Rattle.std.specs.Prelude.{length, slice_get};
+ghost use Rattle.std.specs.Option.{option_copied};
+ghost use Rattle.std.specs.Map.{keys_of};
+ghost use Rattle.value_table.specs.Table.{value_named, IsNamed, without, HasDistinctNames};
+ghost use Rattle.value_table.specs.Table.{users_of, users_of_point};
+
+use crate::value::Value;
+use crate::{users, uses};
+use grid_base::{NoMemory, Point};
+use indexmap::IndexMap;
+use std::alloc::Global;
+use std::collections::HashMap;
+use std::marker::Model;
+
+/// Why a value isn't defined.
+#[derive(Clone, Copy, Debug, PartialEq, Eq)]
+pub enum TableError {
+    /// The name is there already; drop it first.
+    Taken,
+    /// Memory ran out.
+    NoMemory,
+}
+
+/// Values by name, in the order in which they were defined. Contracts see the list of names with
+/// their values.
+#[derive(Drop)]
+pub struct Table {
+    values: IndexMap<String, Value>,
+    ids: HashMap<u32, u64>,
+    points: HashMap<Point, u64>,
+    alloc: Global,
+}
+
+impl Model for Table {
+    ghost use Rattle.value_table.specs.Table.{NamedValues};
+
+    ghost Value = { NamedValues };
+
+    ghost use Rattle.value_table.specs.Kept.{seen_of, IsKept};
+
+    ghost view = { λ t. seen_of t.values.entries };
+
+    ghost invariant = { λ t. IsKept t.values t.ids t.points };
+}
+
+impl Table {
+    /// A table without values.
+    pub fn new(alloc: Global) -> Table
+        ensures { result ≡ [] }
+    {
+        Table {
+            values: IndexMap::new(alloc),
+            ids: HashMap::new(alloc),
+            points: HashMap::new(alloc),
+            alloc,
+        }
+    }
+
+    /// Gives `name` to `v`, after all others.
+    pub fn define(&mut self, name: &str, v: Value) -> Result<(), TableError>
+        ensures ok { OnOk result (self.new ≡ self.old ++ (name.now, v) ∷ []) }
+        ensures taken { (result ≡ Err TableError.Taken) ↔ IsNamed name.now self.old }
+        ensures unchanged { OnErr result (self.new ≡ self.old) }
+    {
+        if self.has(name) {
+            return Err(TableError::Taken);
+        }
+        match self.add(name, v) {
+            Ok(()) => Ok(()),
+            Err(NoMemory) => Err(TableError::NoMemory),
+        }
+    }
+
+    // Whether the name is there.
+    fn has(&self, name: &str) -> bool
+        ensures { IsTrue result ↔ IsNamed name.now self.now }
+    {
+        self.values.contains_key(name)
+    }
+
+    // Gives a name that isn't there to `v`, after all others.
+    fn add(&mut self, name: &str, v: Value) -> Result<(), NoMemory>
+        requires { ¬ IsNamed name.now self.old }
+        ensures ok { OnOk result (self.new ≡ self.old ++ (name.now, v) ∷ []) }
+        ensures unchanged { OnErr result (self.new ≡ self.old) }
+    {
+        let name = String::from_str(self.alloc, name)?;
+        self.values.reserve(1)?;
+        users::make_room(&mut self.ids, &mut self.points, &v)?;
+        // The length of a map is below 2^63, so each count is.
+        let _ = self.values.len();
+        users::note(&mut self.ids, &mut self.points, &v);
+        match self.values.insert(name, v) {
+            Ok(_) => Ok(()),
+            Err(_) => unreachable!(),
+        }
+    }
+
+    /// Takes `name` and its value out, and says whether it was there.
+    pub fn drop_name(&mut self, name: &str) -> bool
+        ensures found { IsTrue result ↔ IsNamed name.now self.old }
+        ensures others { self.new ≡ without name.now self.old }
+    {
+        match self.values.shift_remove(name) {
+            Some(v) => {
+                users::forget(&mut self.ids, &mut self.points, v);
+                true
+            }
+            None => false,
+        }
+    }
+
+    /// How many values there are.
+    pub fn len(&self) -> usize
+        ensures len { result ≡ length self.now }
+        ensures distinct { HasDistinctNames self.now }
+    {
+        self.values.len()
+    }
+
+    /// The name at place `k` from 0, in the order of definition; none past the last.
+    pub fn name_at(&self, k: usize) -> Option<&str>
+        ensures { option_copied result ≡ slice_get (keys_of self.now) k }
+    {
+        match self.values.get_index(k) {
+            Some((name, _)) => Some(name.as_str()),
+            None => None,
+        }
+    }
+
+    /// The value with this name.
+    pub fn get(&self, name: &str) -> Option<&Value>
+        ensures { option_copied result ≡ value_named name.now self.now }
+    {
+        self.values.get(name)
+    }
+
+    /// How many values name the id among their parts.
+    pub fn users_of(&self, id: u32) -> u64
+        ensures { result ≡ users_of self.now id }
+    {
+        uses::uses_of(&self.ids, &id)
+    }
+
+    /// How many values name the point among their parts.
+    pub fn users_of_point(&self, p: &Point) -> u64
+        ensures { result ≡ users_of_point self.now p.now }
+    {
+        uses::uses_of(&self.points, p)
+    }
+}

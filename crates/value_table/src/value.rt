@@ -1,0 +1,80 @@
+//! Values, by what they are made of.
+ghost use Rattle.std.specs.Prelude.{◌≡◌, ◌<◌, AllPairs};
+ghost use Rattle.rose_values.specs.Border.{ArePointsAscending};
+ghost use Rattle.value_table.specs.Value.{ids_among, points_among};
+
+use grid_base::{Kind, Point};
+use rose_values::PointsValue;
+use std::marker::Model;
+
+/// Ids of originals, ascending without repeats. Contracts see the list.
+#[derive(Debug, Drop)]
+pub struct IdList {
+    list: Vec<u32>,
+}
+
+impl Model for IdList {
+    ghost use Rattle.std.specs.Prelude.{◌<◌, ℕ, List, AllPairs};
+
+    ghost Value = { List ℕ };
+
+    ghost view = { λ l. l.list.items };
+
+    ghost invariant = { λ l. AllPairs (λ m n. m < n) l.list.items };
+}
+
+impl IdList {
+    /// The list of these ids, which ascend without repeats; there may be none.
+    pub fn new(list: Vec<u32>) -> IdList
+        requires { AllPairs (λ m n. m < n) list.items }
+        ensures { result ≡ list.items }
+    {
+        IdList { list }
+    }
+
+    /// Its ids, ascending.
+    pub fn ids(&self) -> &[u32]
+        ensures ids { result.now ≡ self.now }
+        ensures ascending { AllPairs (λ m n. m < n) self.now }
+    {
+        self.list.as_slice()
+    }
+}
+
+/// What a value is made of: explicit points, or originals by their ids.
+#[derive(Debug, Drop)]
+pub enum Parts {
+    Points(PointsValue),
+    Ids(IdList),
+}
+
+impl Parts {
+    // The ids among the parts, ascending.
+    pub(crate) fn ids(&self) -> &[u32]
+        ensures ids { result.now ≡ ids_among self.now }
+        ensures ascending { AllPairs (λ m n. m < n) result.now }
+    {
+        match self {
+            Parts::Points(_) => &[],
+            Parts::Ids(list) => list.ids(),
+        }
+    }
+
+    // The points among the parts, ascending.
+    pub(crate) fn points(&self) -> &[Point]
+        ensures points { result.now ≡ points_among self.now }
+        ensures ascending { ArePointsAscending result.now }
+    {
+        match self {
+            Parts::Points(value) => value.points(),
+            Parts::Ids(_) => &[],
+        }
+    }
+}
+
+/// What a name stands for. Its segments are led by the present chains of its parts.
+#[derive(Debug, Drop)]
+pub struct Value {
+    pub kind: Kind,
+    pub parts: Parts,
+}
