@@ -1,0 +1,4 @@
+-- a tree seen as a finite map
+pub mod TreeMaps
+-- keys picked from entries
+pub mod Picked
