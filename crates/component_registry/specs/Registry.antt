@@ -6,9 +6,10 @@ use Rattle.std.specs.Option.{option_map}
 use Rattle.std.specs.List.Sorted.{IsStrictlyIncreasing}
 use Rattle.std.specs.Coded.{Coded, code_by, coded×, coded_ℕ, coded_list}
 use Rattle.std.specs.FinMap as map
-use Rattle.grid_base.specs.Point.{GridPoint, point_at, is_point}
+use Rattle.grid_base.specs.Point.{GridPoint, is_point}
 use Rattle.grid_base.specs.Segment.{GridSegment}
-use Rattle.grid_base.proofs.Orders.{segment_cmp, segment_between}
+use Rattle.grid_base.specs.contracts.segment.Segment.{the_row}
+use Rattle.grid_base.proofs.Orders.{segment_cmp}
 
 -- what is held of a piece: its key, and its owners, ascending
 pub record Holding : Type 0 where
@@ -23,18 +24,6 @@ holding_of k ids = record { key = k; owners = ids }
 abbrev pub Holdings : Type 0
 Holdings = map.FinMap segment_cmp Holding
 
--- points are stored as the pairs of their coordinates
-abbrev point_code : Coded GridPoint
-point_code =
-    code_by (ℕ × ℕ) (coded× coded_ℕ coded_ℕ) (λ p. (p.x, p.y)) (λ c. point_at c.0 c.1) (λ _. refl)
-
--- segments are stored as the pairs of their ends
-abbrev segment_code : Coded GridSegment
-segment_code =
-    let ends_code = coded× point_code point_code in
-    let from_ends = λ (c : GridPoint × GridPoint). segment_between c.0 c.1 in
-    code_by (GridPoint × GridPoint) ends_code (λ s. (s.a, s.b)) from_ends (λ _. refl)
-
 -- what is held is stored as the pair of its key and its owners
 abbrev pub holding_code : Coded Holding
 holding_code =
@@ -43,7 +32,7 @@ holding_code =
 
 -- a registry is stored as the list of its pieces, each with what is held of it
 abbrev pub holdings_code : Coded Holdings
-holdings_code = map.code segment_code holding_code
+holdings_code = map.code the_row.coded holding_code
 
 -- s is a piece: it has an owner
 abbrev pub IsPiece : Holdings → GridSegment → Type 0

@@ -16,36 +16,44 @@ abbrev flip : Bool → ℤ → ℤ
 flip false z = z
 flip true z = neg_ℤ z
 
+-- a turn is that of other points where the sums are the same
+turn_kept : (p q r p1 q1 r1 : GridPoint)
+    → leftward p q r + rightward p1 q1 r1 ≡ rightward p q r + leftward p1 q1 r1
+    → turn p q r ≡ turn p1 q1 r1
+turn_kept p q r p1 q1 r1 sums =
+    let grid = turn_is p q r in
+    let walk = turn_is p1 q1 r1 in
+    omega (arith, ints)
+
+-- and the opposite one where they are exchanged
+turn_flipped : (p q r p1 q1 r1 : GridPoint)
+    → leftward p q r + leftward p1 q1 r1 ≡ rightward p q r + rightward p1 q1 r1
+    → turn p q r ≡ neg_ℤ (turn p1 q1 r1)
+turn_flipped p q r p1 q1 r1 sums =
+    let grid = turn_is p q r in
+    let walk = turn_is p1 q1 r1 in
+    omega (arith, ints)
+
 -- columns of the grid for those of a walk
 turn_across : (back : Bool) (start n1 n2 n3 m1 m2 m3 y1 y2 y3 : ℕ) → IsAcross back start n1 m1 → IsAcross back start n2 m2
     → IsAcross back start n3 m3
     → turn (point_at m1 y1) (point_at m2 y2) (point_at m3 y3) ≡ flip back (turn (point_at n1 y1) (point_at n2 y2) (point_at n3 y3))
 turn_across false start n1 n2 n3 m1 m2 m3 y1 y2 y3 e1 e2 e3 =
-    let grid = turn_is (point_at m1 y1) (point_at m2 y2) (point_at m3 y3) in
-    let walk = turn_is (point_at n1 y1) (point_at n2 y2) (point_at n3 y3) in
     let a1 = ap (λ (t : ℕ). t * y2) e1 in
     let a2 = ap (λ (t : ℕ). t * y3) e2 in
     let a3 = ap (λ (t : ℕ). t * y1) e3 in
     let b1 = ap (λ (t : ℕ). t * y3) e1 in
     let b2 = ap (λ (t : ℕ). t * y1) e2 in
     let b3 = ap (λ (t : ℕ). t * y2) e3 in
-    let sums : leftward (point_at m1 y1) (point_at m2 y2) (point_at m3 y3) + rightward (point_at n1 y1) (point_at n2 y2) (point_at n3 y3)
-    ≡ rightward (point_at m1 y1) (point_at m2 y2) (point_at m3 y3) + leftward (point_at n1 y1) (point_at n2 y2)
-    (point_at n3 y3) = omega arith in
-    omega (arith, ints)
+    turn_kept (point_at m1 y1) (point_at m2 y2) (point_at m3 y3) (point_at n1 y1) (point_at n2 y2) (point_at n3 y3) (omega arith)
 turn_across true start n1 n2 n3 m1 m2 m3 y1 y2 y3 e1 e2 e3 =
-    let grid = turn_is (point_at m1 y1) (point_at m2 y2) (point_at m3 y3) in
-    let walk = turn_is (point_at n1 y1) (point_at n2 y2) (point_at n3 y3) in
     let a1 = ap (λ (t : ℕ). t * y2) e1 in
     let a2 = ap (λ (t : ℕ). t * y3) e2 in
     let a3 = ap (λ (t : ℕ). t * y1) e3 in
     let b1 = ap (λ (t : ℕ). t * y3) e1 in
     let b2 = ap (λ (t : ℕ). t * y1) e2 in
     let b3 = ap (λ (t : ℕ). t * y2) e3 in
-    let sums : leftward (point_at m1 y1) (point_at m2 y2) (point_at m3 y3) + leftward (point_at n1 y1) (point_at n2 y2) (point_at n3 y3)
-    ≡ rightward (point_at m1 y1) (point_at m2 y2) (point_at m3 y3) + rightward (point_at n1 y1) (point_at n2 y2)
-    (point_at n3 y3) = omega arith in
-    omega (arith, ints)
+    turn_flipped (point_at m1 y1) (point_at m2 y2) (point_at m3 y3) (point_at n1 y1) (point_at n2 y2) (point_at n3 y3) (omega arith)
 
 -- rows of the grid for those of a walk
 turn_up : (under sheared : Bool) (start n1 n2 n3 k1 k2 k3 o1 o2 o3 : ℕ) → IsUp under sheared start n1 k1 o1
@@ -53,57 +61,37 @@ turn_up : (under sheared : Bool) (start n1 n2 n3 k1 k2 k3 o1 o2 o3 : ℕ) → Is
     → IsUp under sheared start n3 k3 o3
     → turn (point_at n1 o1) (point_at n2 o2) (point_at n3 o3) ≡ flip under (turn (point_at n1 k1) (point_at n2 k2) (point_at n3 k3))
 turn_up false false start n1 n2 n3 k1 k2 k3 o1 o2 o3 e1 e2 e3 =
-    let grid = turn_is (point_at n1 o1) (point_at n2 o2) (point_at n3 o3) in
-    let walk = turn_is (point_at n1 k1) (point_at n2 k2) (point_at n3 k3) in
     let a1 = ap (λ (t : ℕ). t * n2) e1 in
     let a2 = ap (λ (t : ℕ). t * n3) e2 in
     let a3 = ap (λ (t : ℕ). t * n1) e3 in
     let b1 = ap (λ (t : ℕ). t * n3) e1 in
     let b2 = ap (λ (t : ℕ). t * n1) e2 in
     let b3 = ap (λ (t : ℕ). t * n2) e3 in
-    let sums : leftward (point_at n1 o1) (point_at n2 o2) (point_at n3 o3) + rightward (point_at n1 k1) (point_at n2 k2) (point_at n3 k3)
-    ≡ rightward (point_at n1 o1) (point_at n2 o2) (point_at n3 o3) + leftward (point_at n1 k1) (point_at n2 k2)
-    (point_at n3 k3) = omega arith in
-    omega (arith, ints)
+    turn_kept (point_at n1 o1) (point_at n2 o2) (point_at n3 o3) (point_at n1 k1) (point_at n2 k2) (point_at n3 k3) (omega arith)
 turn_up false true start n1 n2 n3 k1 k2 k3 o1 o2 o3 e1 e2 e3 =
-    let grid = turn_is (point_at n1 o1) (point_at n2 o2) (point_at n3 o3) in
-    let walk = turn_is (point_at n1 k1) (point_at n2 k2) (point_at n3 k3) in
     let a1 = ap (λ (t : ℕ). t * n2) e1 in
     let a2 = ap (λ (t : ℕ). t * n3) e2 in
     let a3 = ap (λ (t : ℕ). t * n1) e3 in
     let b1 = ap (λ (t : ℕ). t * n3) e1 in
     let b2 = ap (λ (t : ℕ). t * n1) e2 in
     let b3 = ap (λ (t : ℕ). t * n2) e3 in
-    let sums : leftward (point_at n1 o1) (point_at n2 o2) (point_at n3 o3) + rightward (point_at n1 k1) (point_at n2 k2) (point_at n3 k3)
-    ≡ rightward (point_at n1 o1) (point_at n2 o2) (point_at n3 o3) + leftward (point_at n1 k1) (point_at n2 k2)
-    (point_at n3 k3) = omega arith in
-    omega (arith, ints)
+    turn_kept (point_at n1 o1) (point_at n2 o2) (point_at n3 o3) (point_at n1 k1) (point_at n2 k2) (point_at n3 k3) (omega arith)
 turn_up true false start n1 n2 n3 k1 k2 k3 o1 o2 o3 e1 e2 e3 =
-    let grid = turn_is (point_at n1 o1) (point_at n2 o2) (point_at n3 o3) in
-    let walk = turn_is (point_at n1 k1) (point_at n2 k2) (point_at n3 k3) in
     let a1 = ap (λ (t : ℕ). t * n2) e1 in
     let a2 = ap (λ (t : ℕ). t * n3) e2 in
     let a3 = ap (λ (t : ℕ). t * n1) e3 in
     let b1 = ap (λ (t : ℕ). t * n3) e1 in
     let b2 = ap (λ (t : ℕ). t * n1) e2 in
     let b3 = ap (λ (t : ℕ). t * n2) e3 in
-    let sums : leftward (point_at n1 o1) (point_at n2 o2) (point_at n3 o3) + leftward (point_at n1 k1) (point_at n2 k2) (point_at n3 k3)
-    ≡ rightward (point_at n1 o1) (point_at n2 o2) (point_at n3 o3) + rightward (point_at n1 k1) (point_at n2 k2)
-    (point_at n3 k3) = omega arith in
-    omega (arith, ints)
+    turn_flipped (point_at n1 o1) (point_at n2 o2) (point_at n3 o3) (point_at n1 k1) (point_at n2 k2) (point_at n3 k3) (omega arith)
 turn_up true true start n1 n2 n3 k1 k2 k3 o1 o2 o3 e1 e2 e3 =
-    let grid = turn_is (point_at n1 o1) (point_at n2 o2) (point_at n3 o3) in
-    let walk = turn_is (point_at n1 k1) (point_at n2 k2) (point_at n3 k3) in
     let a1 = ap (λ (t : ℕ). t * n2) e1 in
     let a2 = ap (λ (t : ℕ). t * n3) e2 in
     let a3 = ap (λ (t : ℕ). t * n1) e3 in
     let b1 = ap (λ (t : ℕ). t * n3) e1 in
     let b2 = ap (λ (t : ℕ). t * n1) e2 in
     let b3 = ap (λ (t : ℕ). t * n2) e3 in
-    let sums : leftward (point_at n1 o1) (point_at n2 o2) (point_at n3 o3) + leftward (point_at n1 k1) (point_at n2 k2) (point_at n3 k3)
-    ≡ rightward (point_at n1 o1) (point_at n2 o2) (point_at n3 o3) + rightward (point_at n1 k1) (point_at n2 k2)
-    (point_at n3 k3) = omega arith in
-    omega (arith, ints)
+    turn_flipped (point_at n1 o1) (point_at n2 o2) (point_at n3 o3) (point_at n1 k1) (point_at n2 k2) (point_at n3 k3) (omega arith)
 
 -- ---- both coordinates
 -- a point of the grid as the walk sees its coordinates

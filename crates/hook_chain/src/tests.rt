@@ -33,9 +33,21 @@ fn is_path(rt: &impl Abort, chain: &Chain, want: &[[u64; 2]]) -> bool {
             .all(|(p, at)| *p == point(rt, *at))
 }
 
+// A piece, a point, and the hook of the piece there.
+type Row<'a> = ([u64; 4], [u64; 2], &'a [[u64; 2]]);
+
+// Whether each hook is the one of its row.
+fn compare(rt: &impl Abort, alloc: Global, rows: &[Row<'_>]) {
+    for row in rows {
+        let (ends, at, want) = *row;
+        let chain = hook_at(rt, alloc, ends, at).expect(rt, "a near point");
+        assert!(rt; is_path(rt, &chain, want), "{ends:?} at {at:?}");
+    }
+}
+
 #[test]
-fn a_hook_goes_round_the_points_between(rt: HostRuntime) {
-    let rows: [([u64; 4], [u64; 2], &[[u64; 2]]); 27] = [
+fn hooks_of_flat_rising_pieces(rt: HostRuntime) {
+    let rows: [Row<'static>; 7] = [
         ([0, 0, 10, 4], [6, 2], &[[0, 0], [5, 2], [6, 2], [10, 4]]),
         // flat and rising, the point on the left
         (
@@ -69,6 +81,13 @@ fn a_hook_goes_round_the_points_between(rt: HostRuntime) {
             [13, 18],
             &[[7, 15], [12, 18], [13, 18], [14, 19], [17, 21]],
         ),
+    ];
+    compare(&rt, rt.alloc(), &rows);
+}
+
+#[test]
+fn hooks_of_flat_falling_pieces(rt: HostRuntime) {
+    let rows: [Row<'static>; 6] = [
         // flat and falling, the point on the left
         (
             [4, 13, 21, 8],
@@ -101,6 +120,13 @@ fn a_hook_goes_round_the_points_between(rt: HostRuntime) {
             [18, 16],
             &[[9, 22], [14, 19], [17, 17], [18, 16], [19, 16], [21, 15]],
         ),
+    ];
+    compare(&rt, rt.alloc(), &rows);
+}
+
+#[test]
+fn hooks_of_steep_rising_pieces(rt: HostRuntime) {
+    let rows: [Row<'static>; 6] = [
         // steep and rising, the point on the left
         (
             [0, 4, 5, 19],
@@ -133,6 +159,13 @@ fn a_hook_goes_round_the_points_between(rt: HostRuntime) {
             [7, 7],
             &[[4, 4], [7, 7], [7, 8], [9, 11], [16, 21]],
         ),
+    ];
+    compare(&rt, rt.alloc(), &rows);
+}
+
+#[test]
+fn hooks_of_steep_falling_pieces(rt: HostRuntime) {
+    let rows: [Row<'static>; 6] = [
         // steep and falling, the point on the left
         (
             [14, 21, 23, 1],
@@ -165,6 +198,13 @@ fn a_hook_goes_round_the_points_between(rt: HostRuntime) {
             [10, 9],
             &[[6, 21], [10, 10], [10, 9], [11, 7], [13, 2]],
         ),
+    ];
+    compare(&rt, rt.alloc(), &rows);
+}
+
+#[test]
+fn hooks_across_the_grid(rt: HostRuntime) {
+    let rows: [Row<'static>; 2] = [
         // across the whole grid, with no grid point between, and with many
         (
             [0, 0, 268435455, 1],
@@ -183,15 +223,12 @@ fn a_hook_goes_round_the_points_between(rt: HostRuntime) {
             ],
         ),
     ];
-    for (ends, at, want) in rows {
-        let chain = hook_at(&rt, rt.alloc(), ends, at).expect(&rt, "a near point");
-        assert!(rt; is_path(&rt, &chain, want), "{ends:?} at {at:?}");
-    }
+    compare(&rt, rt.alloc(), &rows);
 }
 
 #[test]
 fn a_hook_at_a_point_on_the_piece_is_straight(rt: HostRuntime) {
-    let rows: [([u64; 4], [u64; 2], &[[u64; 2]]); 4] = [
+    let rows: [Row<'static>; 4] = [
         // an end, and the other
         ([0, 0, 10, 4], [0, 0], &[[0, 0], [10, 4]]),
         ([0, 0, 10, 4], [10, 4], &[[0, 0], [10, 4]]),
@@ -199,10 +236,7 @@ fn a_hook_at_a_point_on_the_piece_is_straight(rt: HostRuntime) {
         ([0, 0, 10, 4], [5, 2], &[[0, 0], [5, 2], [10, 4]]),
         ([3, 2, 3, 9], [3, 5], &[[3, 2], [3, 5], [3, 9]]),
     ];
-    for (ends, at, want) in rows {
-        let chain = hook_at(&rt, rt.alloc(), ends, at).expect(&rt, "a near point");
-        assert!(rt; is_path(&rt, &chain, want), "{ends:?} at {at:?}");
-    }
+    compare(&rt, rt.alloc(), &rows);
     one_hook();
 }
 

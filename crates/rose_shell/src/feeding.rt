@@ -115,6 +115,9 @@ fn end_line<W: Outside, D: Desk<W>>(
 ) -> Result<(), Halt>
     requires ready { D.ready desk.old }
     requires stand { W.tells world.old → AllStand D.stands (W.view world.old) desk.old }
+    ensures later { KeepsCounts (W.source_faults world.old) (W.source_faults world.new)
+        (W.sink_faults world.old) (W.sink_faults world.new) }
+    ensures still { W.tells world.new → W.tells world.old }
     ensures kept { OnOk result (kept.new.items ≡ []) }
     ensures went { OnOk result ((part : List ℕ) → IsKept kept.old.items part → W.tells world.new
         → Went D.answers D.stands (W.view world.old) (W.view world.new) desk.old desk.new
@@ -128,9 +131,6 @@ fn end_line<W: Outside, D: Desk<W>>(
     ensures ready { OnOk result (D.ready desk.new) }
     ensures sink_ready { IsErrOf result Halt.Sink → D.ready desk.new }
     ensures stand { OnOk result (W.tells world.new → AllStand D.stands (W.view world.new) desk.new) }
-    ensures later { KeepsCounts (W.source_faults world.old) (W.source_faults world.new)
-        (W.sink_faults world.old) (W.sink_faults world.new) }
-    ensures still { W.tells world.new → W.tells world.old }
 {
     match keep(kept, bytes) {
         Ok(()) => {}
@@ -163,6 +163,9 @@ fn answer_line<W: Outside, D: Desk<W>>(
 ) -> Result<(), Halt>
     requires ready { D.ready desk.old }
     requires stand { W.tells world.old → AllStand D.stands (W.view world.old) desk.old }
+    ensures later { KeepsCounts (W.source_faults world.old) (W.source_faults world.new)
+        (W.sink_faults world.old) (W.sink_faults world.new) }
+    ensures still { W.tells world.new → W.tells world.old }
     ensures went { OnOk result ((line : List ℕ) → IsKept kept.now line → W.tells world.new
         → Went D.answers D.stands (W.view world.old) (W.view world.new) desk.old desk.new
         (line ∷ [])) }
@@ -174,9 +177,6 @@ fn answer_line<W: Outside, D: Desk<W>>(
     ensures ready { OnOk result (D.ready desk.new) }
     ensures sink_ready { IsErrOf result Halt.Sink → D.ready desk.new }
     ensures stand { OnOk result (W.tells world.new → AllStand D.stands (W.view world.new) desk.new) }
-    ensures later { KeepsCounts (W.source_faults world.old) (W.source_faults world.new)
-        (W.sink_faults world.old) (W.sink_faults world.new) }
-    ensures still { W.tells world.new → W.tells world.old }
 {
     if kept.len() > LONGEST_LINE {
         return match refuse_long(world) {

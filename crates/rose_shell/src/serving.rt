@@ -57,6 +57,9 @@ fn serve_by_chunks<W: Outside, D: Desk<W>>(
     requires room { 0 < length chunk.old }
     requires ready { D.ready desk.old }
     requires stand { W.tells world.old → AllStand D.stands (W.view world.old) desk.old }
+    ensures later { KeepsCounts (W.source_faults world.old) (W.source_faults world.new)
+        (W.sink_faults world.old) (W.sink_faults world.new) }
+    ensures still { W.tells world.new → W.tells world.old }
     ensures told { W.tells world.new
         → Served D.answers D.stands (W.view world.old) (W.view world.new) desk.old desk.new budget result }
     ensures never_usage { result ≢ Status.Usage }
@@ -65,9 +68,6 @@ fn serve_by_chunks<W: Outside, D: Desk<W>>(
     ensures sink_fault { result ≡ Status.SinkFault
         → Rose (W.sink_faults world.old) (W.sink_faults world.new) }
     ensures ready { result ≢ Status.NoMemory → D.ready desk.new }
-    ensures later { KeepsCounts (W.source_faults world.old) (W.source_faults world.new)
-        (W.sink_faults world.old) (W.sink_faults world.new) }
-    ensures still { W.tells world.new → W.tells world.old }
 {
     let mut kept = Vec::new(alloc);
     let mut room = budget;

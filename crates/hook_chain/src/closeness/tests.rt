@@ -6,6 +6,7 @@ ghost use Rattle.grid_base.specs.Point.{InBox};
 
 use super::close;
 use grid_base::{Point, Segment};
+use std::process::Abort;
 use std::test::Fail;
 
 fn segment(ends: [u64; 4]) -> Result<Segment, Fail> {
@@ -23,6 +24,20 @@ fn in_box(s: &Segment, p: &Point) -> bool
     columns.contains(&p.x()) && rows.contains(&p.y())
 }
 
+// Whether `close` says of each piece what stands beside it.
+fn compare(rt: &impl Abort, cases: &[([u64; 4], [u64; 4], bool)]) -> Result<(), Fail> {
+    for case in cases {
+        let (original, piece, is_close) = *case;
+        let (o, p) = (segment(original)?, segment(piece)?);
+        assert!(rt;
+            in_box(&o, &p.a()) && in_box(&o, &p.b()),
+            "at {original:?} {piece:?}"
+        );
+        assert_eq!(rt; close(&o, &p), is_close, "at {original:?} {piece:?}");
+    }
+    Ok(())
+}
+
 // The grid point (5, 2) is on the longer original, and (0, 0) on the shorter.
 #[test]
 fn a_grid_point_on_the_original_counts(rt: HostRuntime) -> Result<(), Fail> {
@@ -34,15 +49,7 @@ fn a_grid_point_on_the_original_counts(rt: HostRuntime) -> Result<(), Fail> {
         ([0, 0, 5, 1], [0, 1, 4, 1], false),
         ([0, 0, 5, 1], [1, 1, 4, 1], true),
     ];
-    for (original, piece, is_close) in cases {
-        let (o, p) = (segment(original)?, segment(piece)?);
-        assert!(rt;
-            in_box(&o, &p.a()) && in_box(&o, &p.b()),
-            "at {original:?} {piece:?}"
-        );
-        assert_eq!(rt; close(&o, &p), is_close, "at {original:?} {piece:?}");
-    }
-    Ok(())
+    compare(&rt, &cases)
 }
 
 // Flat originals: the columns tell.
@@ -70,15 +77,7 @@ fn pieces_of_flat_originals(rt: HostRuntime) -> Result<(), Fail> {
         ([0, 3, 7, 3], [2, 3, 6, 3], true),
         ([0, 3, 7, 3], [1, 3, 5, 3], true),
     ];
-    for (original, piece, is_close) in cases {
-        let (o, p) = (segment(original)?, segment(piece)?);
-        assert!(rt;
-            in_box(&o, &p.a()) && in_box(&o, &p.b()),
-            "at {original:?} {piece:?}"
-        );
-        assert_eq!(rt; close(&o, &p), is_close, "at {original:?} {piece:?}");
-    }
-    Ok(())
+    compare(&rt, &cases)
 }
 
 // Diagonals are flat.
@@ -102,15 +101,7 @@ fn pieces_of_diagonals(rt: HostRuntime) -> Result<(), Fail> {
         ([0, 6, 6, 0], [2, 5, 6, 0], false),
         ([0, 6, 6, 0], [3, 3, 5, 0], false),
     ];
-    for (original, piece, is_close) in cases {
-        let (o, p) = (segment(original)?, segment(piece)?);
-        assert!(rt;
-            in_box(&o, &p.a()) && in_box(&o, &p.b()),
-            "at {original:?} {piece:?}"
-        );
-        assert_eq!(rt; close(&o, &p), is_close, "at {original:?} {piece:?}");
-    }
-    Ok(())
+    compare(&rt, &cases)
 }
 
 // Steep originals: the rows tell.
@@ -138,20 +129,12 @@ fn pieces_of_steep_originals(rt: HostRuntime) -> Result<(), Fail> {
         ([4, 0, 4, 8], [4, 2, 4, 7], true),
         ([4, 0, 4, 8], [4, 0, 4, 8], true),
     ];
-    for (original, piece, is_close) in cases {
-        let (o, p) = (segment(original)?, segment(piece)?);
-        assert!(rt;
-            in_box(&o, &p.a()) && in_box(&o, &p.b()),
-            "at {original:?} {piece:?}"
-        );
-        assert_eq!(rt; close(&o, &p), is_close, "at {original:?} {piece:?}");
-    }
-    Ok(())
+    compare(&rt, &cases)
 }
 
 // Originals as long as the grid.
 #[test]
-fn long_pieces(rt: HostRuntime) -> Result<(), Fail> {
+fn pieces_across_the_grid(rt: HostRuntime) -> Result<(), Fail> {
     let cases = [
         (
             [0, 0, 268_435_455, 268_435_455],
@@ -173,6 +156,13 @@ fn long_pieces(rt: HostRuntime) -> Result<(), Fail> {
             [0, 268_435_455, 268_435_454, 0],
             true,
         ),
+    ];
+    compare(&rt, &cases)
+}
+
+#[test]
+fn long_pieces_on_slopes(rt: HostRuntime) -> Result<(), Fail> {
+    let cases = [
         (
             [6_253_200, 212_162_136, 238_336_075, 40_472_753],
             [6_253_200, 212_162_136, 117_097_888, 130_161_876],
@@ -204,13 +194,5 @@ fn long_pieces(rt: HostRuntime) -> Result<(), Fail> {
             false,
         ),
     ];
-    for (original, piece, is_close) in cases {
-        let (o, p) = (segment(original)?, segment(piece)?);
-        assert!(rt;
-            in_box(&o, &p.a()) && in_box(&o, &p.b()),
-            "at {original:?} {piece:?}"
-        );
-        assert_eq!(rt; close(&o, &p), is_close, "at {original:?} {piece:?}");
-    }
-    Ok(())
+    compare(&rt, &cases)
 }
