@@ -14,17 +14,17 @@ pub struct At {
 /// A line that asks for a change of the state.
 #[derive(Debug, Drop)]
 pub enum Change {
-    /// A new original, which is a point.
+    /// The point becomes explicit.
     Point(At),
-    /// No original point there any more.
+    /// The point is no longer explicit.
     Unpoint(At),
     /// A new original between two ends, in either order.
     Segment(At, At),
-    /// A value of points, maybe of none.
+    /// Explicit points, maybe none, and a name for them.
     Points(Name, Path),
-    /// A value of lines, given by chains, maybe by none.
+    /// An original for each two neighbours of each list, and a name for all of them.
     Lines(Name, Paths),
-    /// A value of regions, given by the corners of each border, maybe by none.
+    /// An original for each two neighbours round each list, and a name for all of them.
     Regions(Name, Paths),
     /// A value made by an operator, which takes one name or two.
     Let(Name, Op, Name, Option<Name>),
@@ -60,8 +60,8 @@ pub enum Query {
 pub enum Command {
     Change(Change),
     Query(Query),
-    /// The next lines, so many of them, are one change.
+    /// The next lines, so many of them, are read first and then answered together.
     Batch(u64),
-    /// The state is written anew.
+    /// The state is written anew, to the other file.
     Checkpoint,
 }
