@@ -7,14 +7,14 @@ use Rattle.std.proofs.lemmas.List.Elements.{Contains-append_left, Contains-appen
 pub Any-head : {X : Type 0} (P : X → Type 0) (x : X) (xs : List X) → P x → Any P (x ∷ xs)
 Any-head P x xs p = (0, x, omega arith, refl, p)
 
-Any-later : {X : Type 0} (P : X → Type 0) (x : X) (xs : List X) → Any P xs → Any P (x ∷ xs)
+pub Any-later : {X : Type 0} (P : X → Type 0) (x : X) (xs : List X) → Any P xs → Any P (x ∷ xs)
 Any-later P x xs (k, y, within, is, p) = (suc k, y, omega arith, is, p)
 
-Any-cons_cases : {X : Type 0} (P : X → Type 0) (x : X) (xs : List X) → Any P (x ∷ xs) → P x ⊎ Any P xs
+pub Any-cons_cases : {X : Type 0} (P : X → Type 0) (x : X) (xs : List X) → Any P (x ∷ xs) → P x ⊎ Any P xs
 Any-cons_cases P x xs (zero, y, within, is, p) = inl (subst P (sym is) p)
 Any-cons_cases P x xs (suc k, y, within, is, p) = inr (k, y, omega arith, is, p)
 
-Any-nil : {X : Type 0} (P : X → Type 0) → Any P [] → ⊥
+pub Any-nil : {X : Type 0} (P : X → Type 0) → Any P [] → ⊥
 Any-nil P (k, y, within, is, p) = omega arith
 
 pub Any-single : {X : Type 0} (P : X → Type 0) (x : X) → Any P (x ∷ []) → P x
@@ -54,6 +54,14 @@ All-of_some Q P R step xs all (k, x, within, is, p) = step x (subst Q is (all k 
 -- where P holds of no element, it doesn't hold of some element
 pub Any-never : {X : Type 0} (P : X → Type 0) (xs : List X) → All (λ x. P x → ⊥) xs → Any P xs → ⊥
 Any-never P xs none (k, x, within, is, p) = none k x within (subst P (sym is) p)
+
+-- where f makes P hold of some value, it holds of some element of `map f xs`
+pub Any-map : {X Y : Type 0} (P : Y → Type 0) (f : X → Y) (xs : List X) → Any (λ x. P (f x)) xs → Any P (map f xs)
+Any-map {X} P f [] some = absurd (Any-nil (λ (x : X). P (f x)) some)
+Any-map {X} P f (x ∷ xs) some = elim (Any-cons_cases (λ (y : X). P (f y)) x xs some) [
+  | inl first ↦ Any-head P (f x) (map f xs) first
+  | inr later ↦ Any-later P (f x) (map f xs) (Any-map P f xs later)
+]
 
 -- ---- a given element
 pub Contains-head : {X : Type 0} (x : X) (xs : List X) (y : X) → x ≡ y → Contains (x ∷ xs) y

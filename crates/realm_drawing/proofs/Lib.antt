@@ -4,11 +4,131 @@ pub mod Elements
 pub mod StraightPieces
 -- the points and the pieces of a drawing with one more straight original
 pub mod Additions
--- the violations of a drawing with one more straight original
-pub mod Violations
--- when a drawing of straight originals with one more has a violation
-pub mod Settled
 -- a search by id among originals whose ids rise
 pub mod Searches
--- lists of all points and of all pieces
-pub mod Listings
+-- strips along a diagonal
+mod Strips
+-- steep pieces of flat originals
+mod SteepPieces
+-- the vertices of a hook
+pub mod HookVertices
+-- hooks stay close to the original of their piece
+pub mod AcrossAxes
+-- ways that are joined to parts of chains
+pub mod ChainJoins
+-- paths that may stand for a piece in a chain
+pub mod Replacements
+-- chains with a hook in the place of a piece
+pub mod RedrawnChains
+-- the corners of a cell that two diagonals cross
+pub mod CrossedCells
+-- chains with a diagonal drawn round a corner, or cut
+pub mod Corners
+-- steps keep all chains valid
+pub mod StepsKeep
+-- the keys of pieces
+pub mod Keys
+-- the box of a valid chain, and how many links it has
+pub mod ChainBounds
+-- valid chains stay in the envelope
+pub mod ChainEnvelope
+-- the places of a chain
+mod ChainPlaces
+-- on which side of a close link, and of a corner, grid points lie
+mod SidesOfLinks
+-- no valid chain passes a grid point
+pub mod Unswept
+-- sums over lists whose elements change
+mod Sums
+-- what redrawing does to one chain
+mod Redrawings
+-- each step adds a link, and there are few
+pub mod StepsAdd
+-- the links of a path, one by one
+pub mod PathLinks
+-- what lists of shares come to have
+pub mod ShareLists
+-- shares of the links of a path
+pub mod LinkShares
+-- shares of the owners of a piece
+pub mod OwnerShares
+-- pieces that keep their keys where a registry has more shares or fewer
+pub mod KeptKeys
+-- shares that are added to a registry or taken out
+pub mod ShareChanges
+-- sets of points, in order
+pub mod PointSets
+-- when a step mends a violation
+pub mod Mendings
+-- on which side of a piece a path stays
+pub mod PathSides
+-- the redrawings of each step
+pub mod StepRedrawings
+-- a binary search in a list along which a number rises
+pub mod KeySearches
+-- how far a chain has come at its points
+pub mod Progress
+-- where the links of a chain stand, and what comes of a path there
+pub mod Links
+-- a chain passes a piece at most once
+pub mod Passings
+-- a path without its last point
+pub mod Fronts
+-- a course stays in the box of its segment
+pub mod Boxes
+-- close links and corners, from a place of a list on
+pub mod CloseChains
+-- links by their places
+pub mod LinkPlaces
+-- the ends of a list of points, and the segment between them
+pub mod Ends
+-- the links of paths that are joined or turned round
+pub mod JoinedLinks
+-- the links of a redrawn chain
+pub mod RedrawnLinks
+-- the chains of originals, replaced one by one
+pub mod Installations
+-- the new chains of the owners of a piece
+pub mod Owners
+-- the new chains for a step
+pub mod NewChains
+-- the links of a chain after a step
+pub mod StepLinks
+-- the owners of pieces after a step
+pub mod StepOwners
+-- the order and the chains of originals after a step
+pub mod RedrawnOriginals
+-- the shares that are listed for a step
+pub mod SharesOfSteps
+-- searches of the links of a chain
+pub mod LinkSearches
+-- steps that a search for a violation finds
+pub mod FoundSteps
+-- what permitted steps lead to
+pub mod StepOutcomes
+-- lists of the links of a path
+pub mod LinkLists
+-- the vertices of redrawn chains
+pub mod RedrawnVertices
+-- the vertices of a path as ends of its links
+mod PathEnds
+-- a chain with the paths of a step
+mod StepChains
+-- the pieces and points that steps draw
+pub mod DrawnPieces
+-- the pieces of a drawing that is kept, and their keys
+mod KeptPieces
+-- the vertices of a chain as ends of its links
+pub mod LinkEnds
+-- the vertices of a drawing that is kept
+mod Vertices
+-- what is promised of the chains that stand for originals
+mod StandingChains
+-- the list of all points
+mod Listings
+-- one more explicit point
+mod KeptPoints
+-- registries that lose shares
+mod LostShares
+-- a drawing with one chain more or less
+mod KeptChanges

@@ -1,14 +1,13 @@
--- This file shows what the points and the pieces of straight originals are.
-use Rattle.std.proofs.Common.{◌≡◌, ◌↔◌, ℕ, ◌<◌, List, [], ◌∷◌, All, Any, Contains, length, get_or}
-use Rattle.std.proofs.Common.{refl, sym, ap, ap₂, subst, inl, inr}
+-- This file shows what the vertices and the links of straight originals are.
+use Rattle.std.proofs.Common.{◌≡◌, [], ◌∷◌, Contains}
+use Rattle.std.proofs.Common.{sym, ap, ap₂, subst, inl, inr}
 use Rattle.grid_base.specs.Point.{GridPoint, IsBefore}
 use Rattle.grid_base.specs.Segment.{GridSegment, IsEnd}
-use Rattle.grid_base.specs.Drawing.{HasLink, IsPiece, IsPoint}
+use Rattle.grid_base.specs.Drawing.{HasLink}
 use Rattle.grid_base.specs.declared.original.Original.{Original}
 use Rattle.grid_base.proofs.Orders.{IsBefore-asym, segment_between}
 use Rattle.realm_drawing.specs.Straight.{IsStraight, along}
-use Rattle.realm_drawing.specs.Kept.{drawn}
-use Rattle.realm_drawing.proofs.Elements.{Contains-cons_cases, Contains-nil, Any-weaker_where, All-of_some}
+use Rattle.realm_drawing.proofs.Elements.{Contains-cons_cases, Contains-nil}
 
 -- ---- one original
 -- the link of an original, turned round, is no segment whose lesser end comes first
@@ -46,40 +45,3 @@ vertex_is_end o p line vertex =
         | inr none ↦ absurd (Contains-nil p none)
       ]
     ]
-
--- ---- all originals
--- the pieces of straight originals are the segments along them
-pub pieces_are_along : (originals : List Original) → All IsStraight originals → (t : GridSegment)
-    → IsPiece (drawn originals) t ↔ Any (λ o. along o ≡ t) originals
-pieces_are_along originals lines t =
-    let Is = λ (o : Original). along o ≡ t in
-    let Has = λ (o : Original). HasLink o.chain t in (
-      λ piece. Any-weaker_where IsStraight Has Is (λ o. link_is_along o t piece.0) originals lines piece.1,
-      λ some. (
-        All-of_some IsStraight Is (IsBefore t.a t.b) (λ o. along_is_ordered o t) originals lines some,
-        Any-weaker_where IsStraight Is Has (λ o. along_is_link o t) originals lines some,
-      ),
-    )
-
--- so the segment along an original is a piece
-pub along_is_piece : (originals : List Original) → All IsStraight originals
-    → (k : ℕ) (o : Original) → k < length originals → get_or originals k o ≡ o → IsPiece (drawn originals) (along o)
-along_is_piece originals lines k o within is =
-    (pieces_are_along originals lines (along o)).1 (k, o, within, is, refl)
-
--- the points are the vertices of the chains, since none is explicit
-pub points_are_vertices : (originals : List Original) (p : GridPoint)
-    → IsPoint (drawn originals) p ↔ Any (λ o. Contains o.chain p) originals
-points_are_vertices originals p = (
-  λ h. elim h [ inl explicit ↦ absurd (Contains-nil p explicit) | inr vertex ↦ vertex ],
-  λ vertex. inr vertex,
-)
-
--- so each point is an end of the segment along an original
-pub points_are_ends : (originals : List Original) → All IsStraight originals → (p : GridPoint)
-    → IsPoint (drawn originals) p → Any (λ o. IsEnd p (along o)) originals
-points_are_ends originals lines p point =
-    let Has = λ (o : Original). Contains o.chain p in
-    let Ends = λ (o : Original). IsEnd p (along o) in
-    let vertex = (points_are_vertices originals p).0 point in
-    Any-weaker_where IsStraight Has Ends (λ o. vertex_is_end o p) originals lines vertex

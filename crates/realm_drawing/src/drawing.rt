@@ -1,109 +1,334 @@
-//! The drawing as a list of originals by rising id. A flag beside them says whether it has a
-//! violation, so a new segment is compared with each piece, and the pieces never with each other.
-ghost use Rattle.std.specs.Prelude.{◌≡◌, ◌↔◌, ℕ, false, [], AllPairs, Contains};
-ghost use Rattle.std.specs.Prelude.{IsTrue, OnOk, OnErr, IfOk, IsNone, IfSome};
-ghost use Rattle.grid_base.specs.Point.{GridPoint, IsBefore};
+//! The drawing: its explicit points in a set, its originals in a list by rising id, and a registry that knows which
+//! originals own each piece. A call that takes memory takes it all before it changes anything.
+ghost use Rattle.std.specs.Prelude.{◌≡◌, ◌⊎◌, ◌↔◌, ℕ, false, IsTrue, AllPairs, Contains, Some, Err};
+ghost use Rattle.std.specs.Prelude.{OnOk, OnErr, IfOk, IsNone, IsSome, IfSome};
+ghost use Rattle.grid_base.specs.Point.{GridPoint, InBox, IsBefore};
 ghost use Rattle.grid_base.specs.Segment.{GridSegment, IsSegmentBefore};
-ghost use Rattle.grid_base.specs.Drawing.{IsPoint, IsPiece, HasViolation};
+ghost use Rattle.grid_base.specs.Drawing.{Drawing as Drawn, IsPoint, IsPiece, HasViolation};
+ghost use Rattle.hook_chain.specs.Steps.{Permitted};
+ghost use Rattle.hook_chain.specs.ValidChain.{ValidChain};
 ghost use Rattle.realm_drawing.specs.Straight.{placed, AllBelow};
 ghost use Rattle.realm_drawing.specs.Ids.{LacksId, IsChainOf};
-ghost use Rattle.realm_drawing.specs.Kept.{drawn};
+ghost use Rattle.realm_drawing.specs.Chains.{IsSomeChain, AllStand};
+ghost use Rattle.realm_drawing.specs.Keyed.{empty_drawing, HasKey, KeepsKeys, AddsPoint, TakesPoint, AreKeyed};
+ghost use Rattle.realm_drawing.specs.Mending.{IsPermitted, IsMending, HasParts};
+ghost use Rattle.realm_drawing.specs.Changed.{PlacesChain, with_chain, without_id};
+ghost use Rattle.realm_drawing.specs.declared.errors.ChainError.TheVariants.{NotAChain};
+ghost use Rattle.realm_drawing.specs.declared.errors.StepError.TheVariants.{NotPermitted};
 
+use crate::courses::original_of;
+use crate::errors::{ChainError, StepError};
+use crate::explicit::ExplicitPoints;
 use crate::ids::place_of;
-use crate::pieces::{clashes_with_any, pieces_of, straight, vertices_of};
-use grid_base::{NoMemory, Original, Point, Segment};
+use crate::leaving::drop_chain;
+use crate::mending::{is_mending, redrawings_of};
+use crate::redrawing::redraw;
+use crate::shares::{add_shares, chain_shares};
+use crate::violations::first_violation;
+use component_registry::Registry;
+use grid_base::{Chain, NoMemory, Original, Point, Segment, Step};
 use std::alloc::Global;
 use std::marker::Model;
 
-/// Originals by rising id, each with the chain that stands for it. Contracts see them as a list,
-/// beside the explicit points, of which there are none.
-#[derive(Debug, Drop)]
+/// Explicit points, and originals by rising id, each with the chain that stands for it. Contracts see them as lists,
+/// beside the list of the pieces with their keys.
+///
+/// Each chain stands for its original at any time: it leads from the lesser end to the greater, is monotone in both
+/// coordinates, and each of its links is close to the original or one of the two of a corner.
+#[derive(Drop)]
 pub struct Drawing {
+    explicit: ExplicitPoints,
     originals: Vec<Original>,
-    broken: bool,
+    registry: Registry,
 }
 
 impl Model for Drawing {
-    ghost use Rattle.grid_base.specs.Drawing.{Drawing};
+    ghost use Rattle.realm_drawing.specs.Keyed.{KeyedDrawing};
     ghost use Rattle.realm_drawing.specs.Kept.{drawn, IsKept};
 
-    ghost Value = { Drawing };
+    ghost Value = { KeyedDrawing };
 
-    ghost view = { λ d. drawn d.originals.items };
+    ghost view = { λ d. drawn d.explicit d.originals.items d.registry };
 
-    ghost invariant = { λ d. IsKept d.originals.items d.broken };
+    ghost invariant = { λ d. IsKept d.explicit d.originals.items d.registry };
 }
 
 impl Drawing {
     /// The empty drawing.
     pub fn new(alloc: Global) -> Drawing
-        ensures { result ≡ drawn [] }
+        ensures { result ≡ empty_drawing }
     {
         Drawing {
+            explicit: ExplicitPoints::new(alloc),
             originals: Vec::new(alloc),
-            broken: false,
+            registry: Registry::new(alloc),
         }
     }
 
-    /// Adds a straight original along `s`, whether or not it clashes with what is there.
-    pub fn place(&mut self, id: u32, s: Segment) -> Result<(), NoMemory>
-        requires id_above { AllBelow id self.old }
-        ensures ok { OnOk result (self.new ≡ placed self.old id s) }
+    /// Makes `p` explicit, and says whether it wasn't.
+    pub fn add_point(&mut self, p: Point) -> Result<bool, NoMemory>
+        ensures new { IfOk result (λ new. IsTrue new ↔ (Contains self.old.drawing.points p → ⊥)) }
+        ensures added { OnOk result (AddsPoint self.old self.new p) }
+        ensures ascending { AllPairs IsBefore self.new.drawing.points }
         ensures unchanged { OnErr result (self.new ≡ self.old) }
     {
-        let settled = self.settled_with(&s);
-        let original = straight(*self.originals.allocator(), id, s)?;
-        self.originals.push(original)?;
-        self.broken = !settled;
+        self.explicit.put(p)
+    }
+
+    /// Makes `p` no longer explicit, and says whether it was. It stays a point where a chain has it.
+    pub fn take_point(&mut self, p: &Point) -> bool
+        ensures was { IsTrue result ↔ Contains self.old.drawing.points p.now }
+        ensures taken { TakesPoint self.old self.new p.now }
+        ensures ascending { AllPairs IsBefore self.new.drawing.points }
+    {
+        self.explicit.take(p)
+    }
+
+    /// Adds a straight original along `s`, whether or not it makes a violation.
+    pub fn place(&mut self, id: u32, s: Segment) -> Result<(), NoMemory>
+        requires id_above { AllBelow id self.old.drawing }
+        ensures ok { OnOk result (self.new.drawing ≡ placed self.old.drawing id s) }
+        ensures stand { AllStand self.new.drawing }
+        ensures keyed { AreKeyed self.new }
+        ensures keys { KeepsKeys self.old self.new }
+        ensures unchanged { OnErr result (self.new ≡ self.old) }
+    {
+        let placed = self.place_straight(id, s);
+        self.promises();
+        placed
+    }
+
+    // The same, without what is true at any time.
+    fn place_straight(&mut self, id: u32, s: Segment) -> Result<(), NoMemory>
+        requires id_above { AllBelow id self.old.drawing }
+        ensures ok { OnOk result (self.new.drawing ≡ placed self.old.drawing id s) }
+        ensures keys { KeepsKeys self.old self.new }
+        ensures unchanged { OnErr result (self.new ≡ self.old) }
+    {
+        let mut ends = Vec::new(*self.originals.allocator());
+        ends.push(s.a())?;
+        ends.push(s.b())?;
+        self.place_valid(id, s, ends)
+    }
+
+    /// Adds an original from the first of `points` to the last, with these points for its chain.
+    pub fn place_chain(&mut self, id: u32, points: &[Point]) -> Result<(), ChainError>
+        requires id_above { AllBelow id self.old.drawing }
+        ensures ok { OnOk result (PlacesChain self.old.drawing self.new.drawing id points.now) }
+        ensures not_a_chain { (result ≡ Err NotAChain) ↔ (IsSomeChain points.now → ⊥) }
+        ensures keys { KeepsKeys self.old self.new }
+        ensures unchanged { OnErr result (self.new ≡ self.old) }
+    {
+        let alloc = *self.originals.allocator();
+        let Some(s) = original_of(points) else {
+            return Err(ChainError::NotAChain);
+        };
+        let list = copied(alloc, points)?;
+        self.place_valid(id, s, list)?;
         Ok(())
+    }
+
+    // Adds an original along `s`, with a chain that may stand for it.
+    fn place_valid(&mut self, id: u32, s: Segment, points: Vec<Point>) -> Result<(), NoMemory>
+        requires id_above { AllBelow id self.old.drawing }
+        requires valid { ValidChain s points.items }
+        ensures ok { OnOk result (self.new.drawing ≡ with_chain self.old.drawing id s points.items) }
+        ensures keys { KeepsKeys self.old self.new }
+        ensures unchanged { OnErr result (self.new ≡ self.old) }
+    {
+        self.originals.reserve(1)?;
+        let mut shares = Vec::new(*self.originals.allocator());
+        chain_shares(id, &points, &mut shares)?;
+        add_shares(&mut self.registry, &shares)?;
+        let (a, b) = (s.a(), s.b());
+        let chain = Chain::new(points);
+        self.originals.push_reserved(Original { id, a, b, chain });
+        Ok(())
+    }
+
+    /// Takes out the original with this id, and says whether there was one. A piece that no other original has goes.
+    pub fn remove(&mut self, id: u32) -> bool
+        ensures found { IsTrue result ↔ (LacksId self.old.drawing.originals id → ⊥) }
+        ensures removed { self.new.drawing ≡ without_id self.old.drawing id }
+        ensures keys { KeepsKeys self.old self.new }
+    {
+        let Some(place) = place_of(&self.originals, id) else {
+            return false;
+        };
+        drop_chain(&mut self.registry, id, self.originals[place].chain.points());
+        self.originals.remove(place);
+        true
+    }
+
+    /// Takes a step where it is permitted: in each chain that has a piece of the step, the path of the step stands for
+    /// the piece from then on.
+    pub fn apply(&mut self, step: &Step) -> Result<(), StepError>
+        ensures ok { OnOk result (Permitted self.old.drawing step.now self.new.drawing) }
+        ensures not_permitted { (result ≡ Err NotPermitted)
+            ↔ ((new : Drawn) → Permitted self.old.drawing step.now new → ⊥) }
+        ensures stand { AllStand self.new.drawing }
+        ensures keyed { AreKeyed self.new }
+        ensures keys { KeepsKeys self.old self.new }
+        ensures unchanged { OnErr result (self.new ≡ self.old) }
+    {
+        if !self.permits(step) {
+            return Err(StepError::NotPermitted);
+        }
+        self.take(step)?;
+        Ok(())
+    }
+
+    // Takes a step that is permitted.
+    fn take(&mut self, step: &Step) -> Result<(), NoMemory>
+        requires parts { HasParts self.old.drawing step.now }
+        requires mending { IsMending step.now }
+        ensures ok { OnOk result (Permitted self.old.drawing step.now self.new.drawing) }
+        ensures permitted { IsPermitted self.old.drawing step.now }
+        ensures stand { AllStand self.new.drawing }
+        ensures keyed { AreKeyed self.new }
+        ensures keys { KeepsKeys self.old self.new }
+        ensures unchanged { OnErr result (self.new ≡ self.old) }
+    {
+        self.promises();
+        let alloc = *self.originals.allocator();
+        let redrawings = redrawings_of(alloc, step)?;
+        let done = redraw(alloc, &mut self.originals, &mut self.registry, &redrawings);
+        self.promises();
+        done
+    }
+
+    // What is true of a drawing at any time.
+    fn promises(&self)
+        ensures stand { AllStand self.now.drawing }
+        ensures keyed { AreKeyed self.now }
+        ensures keys { KeepsKeys self.now self.now }
+    {
+        let _kept = &self.explicit;
+    }
+
+    // Whether the step may be taken.
+    fn permits(&self, step: &Step) -> bool
+        ensures permitted { IsTrue result ↔ (HasParts self.now.drawing step.now × IsMending step.now) }
+        ensures refused { result ≡ false → IsPermitted self.now.drawing step.now → ⊥ }
+        ensures stand { AllStand self.now.drawing }
+        ensures keyed { AreKeyed self.now }
+        ensures keys { KeepsKeys self.now self.now }
+    {
+        self.promises();
+        self.has_parts(step) && is_mending(step)
+    }
+
+    // Whether the point of the step is a point of the drawing, and its pieces are pieces.
+    fn has_parts(&self, step: &Step) -> bool
+        ensures { IsTrue result ↔ HasParts self.now.drawing step.now }
+    {
+        match step {
+            Step::Split { p, t } => self.is_point(p) && self.is_piece(t),
+            Step::Meet { t, u, .. } => self.are_pieces(t, u),
+            Step::Corner { t, u } => self.are_pieces(t, u),
+        }
+    }
+
+    fn are_pieces(&self, t: &Segment, u: &Segment) -> bool
+        ensures { IsTrue result ↔ (IsPiece self.now.drawing t.now × IsPiece self.now.drawing u.now) }
+    {
+        self.is_piece(t) && self.is_piece(u)
+    }
+
+    // Whether `s` is a piece.
+    fn is_piece(&self, s: &Segment) -> bool
+        ensures { IsTrue result ↔ IsPiece self.now.drawing s.now }
+    {
+        self.key(s).is_some()
     }
 
     /// The points that the original with this id leads by, from its lesser end to its greater.
     pub fn chain(&self, id: u32) -> Option<&[Point]>
-        ensures none { IsNone result ↔ LacksId self.now.originals id }
-        ensures chain { IfSome result (λ points. IsChainOf self.now id points.now) }
+        ensures none { IsNone result ↔ LacksId self.now.drawing.originals id }
+        ensures chain { IfSome result (λ points. IsChainOf self.now.drawing id points.now) }
+        ensures stand { AllStand self.now.drawing }
     {
         let place = place_of(&self.originals, id)?;
         Some(self.originals[place].chain.points())
     }
 
-    /// Whether `p` is a point of the drawing: a vertex of some chain, its ends counted.
+    /// Whether `p` is a point of the drawing: explicit, or a vertex of some chain.
     pub fn is_point(&self, p: &Point) -> bool
-        ensures { IsTrue result ↔ IsPoint self.now p.now }
+        ensures { IsTrue result ↔ IsPoint self.now.drawing p.now }
     {
-        self.originals.iter().any(|o| o.chain.points().contains(p))
+        self.explicit.has(p) || self.registry.vertex_uses(p) > 0
     }
 
-    /// All points, each once.
+    /// Whether `p` is explicit.
+    pub fn is_explicit(&self, p: &Point) -> bool
+        ensures { IsTrue result ↔ Contains self.now.drawing.points p.now }
+    {
+        self.explicit.has(p)
+    }
+
+    /// The key of `piece`; none where it is no piece. A piece keeps its key as long as it is one.
+    pub fn key(&self, piece: &Segment) -> Option<usize>
+        ensures key { (k : ℕ) → (result ≡ Some k) ↔ HasKey self.now piece.now k }
+        ensures piece { IsSome result ↔ IsPiece self.now.drawing piece.now }
+        ensures keyed { AreKeyed self.now }
+    {
+        self.registry.key(piece)
+    }
+
+    /// The piece with this key; none where no piece has it.
+    pub fn piece(&self, key: usize) -> Option<Segment>
+        ensures piece { (s : GridSegment) → (result ≡ Some s) ↔ HasKey self.now s key }
+        ensures keyed { AreKeyed self.now }
+    {
+        self.registry.piece(key)
+    }
+
+    /// The explicit points in the bounding box of `s`, ascending.
+    pub fn explicit_in(&self, s: &Segment) -> Result<Vec<Point>, NoMemory>
+        ensures exact { IfOk result (λ v. (p : GridPoint)
+            → Contains v.items p ↔ (Contains self.now.drawing.points p × InBox s.now.a s.now.b p)) }
+        ensures ascending { IfOk result (λ v. AllPairs IsBefore v.items) }
+    {
+        self.explicit.in_box_of(s)
+    }
+
+    /// A step that mends a violation, and may be taken; none where there is no violation. Takes no memory, and compares
+    /// every piece with every other.
+    pub fn first_violation(&self) -> Option<Step>
+        ensures none { IsNone result ↔ (HasViolation self.now.drawing → ⊥) }
+        ensures permitted { IfSome result (IsPermitted self.now.drawing) }
+    {
+        first_violation(&self.explicit, &self.originals)
+    }
+
+    /// All points, ascending.
     pub fn points(&self) -> Result<Vec<Point>, NoMemory>
         ensures ascending { IfOk result (λ v. AllPairs IsBefore v.items) }
-        ensures exact { IfOk result (λ v. (p : GridPoint) → Contains v.items p ↔ IsPoint self.now p) }
+        ensures exact { IfOk result (λ v. (p : GridPoint) → Contains v.items p ↔ IsPoint self.now.drawing p) }
     {
-        let mut points = vertices_of(*self.originals.allocator(), &self.originals)?;
+        let mut points = self.explicit.list()?;
+        for original in &self.originals {
+            points.extend_from_slice(original.chain.points())?;
+        }
         points.sort_unstable();
         points.dedup();
         Ok(points)
     }
 
-    /// All pieces, each once.
+    /// All pieces, ascending.
     pub fn pieces(&self) -> Result<Vec<Segment>, NoMemory>
         ensures ascending { IfOk result (λ v. AllPairs IsSegmentBefore v.items) }
-        ensures exact { IfOk result (λ v. (t : GridSegment) → Contains v.items t ↔ IsPiece self.now t) }
+        ensures exact { IfOk result (λ v. (t : GridSegment) → Contains v.items t ↔ IsPiece self.now.drawing t) }
     {
-        let mut pieces = pieces_of(*self.originals.allocator(), &self.originals)?;
-        pieces.sort_unstable();
-        pieces.dedup();
-        Ok(pieces)
+        self.registry.pieces()
     }
+}
 
-    /// Whether the drawing with one more straight original along `s` has no violation: it has none
-    /// now, no end of `s` is inside a piece, no end of a piece is inside `s`, and `s` crosses no
-    /// piece. A common end is no violation, and neither is a piece that is `s` again. Where two
-    /// segments overlap otherwise, an end of one is inside the other. Takes no memory.
-    pub fn settled_with(&self, s: &Segment) -> bool
-        ensures exact { (id : ℕ) → IsTrue result ↔ (HasViolation (placed self.now id s.now) → ⊥) }
-        ensures violated { (id : ℕ) → result ≡ false → HasViolation (placed self.now id s.now) }
-    {
-        !self.broken && !clashes_with_any(&self.originals, s)
-    }
+// The same points in a list of their own.
+fn copied(alloc: Global, points: &[Point]) -> Result<Vec<Point>, NoMemory>
+    ensures { IfOk result (λ v. v.items ≡ points.now) }
+{
+    let mut list = Vec::new(alloc);
+    list.extend_from_slice(points)?;
+    Ok(list)
 }

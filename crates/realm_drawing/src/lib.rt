@@ -1,11 +1,27 @@
-//! Drawings: the segments that were given, the originals, with the chains that stand for them.
-//! Begin at `Drawing`. Each original is straight, and nothing here moves a point.
+//! Drawings: explicit points, and the segments that were given, the originals, with the chains that stand for them.
+//! Begin at `Drawing`, then read what a step does in `hook_chain`'s `specs/Steps.antt`.
 #![tactic(auto)]
 
+mod courses;
 mod drawing;
+mod drawn;
+mod errors;
+mod explicit;
 mod ids;
-mod pieces;
+mod laws;
+mod leaving;
+mod mending;
+mod passages;
+#[cfg(test)]
+mod plain_tests;
+mod redrawing;
+mod shares;
 #[cfg(test)]
 mod tests;
+mod violations;
 
 pub use drawing::Drawing;
+pub use drawn::drawn_pieces;
+pub use errors::{ChainError, StepError};
+pub use laws::{step_keeps_chains, step_mends, steps_end, valid_chain_stands};
+pub use mending::crossing_step;

@@ -1,66 +1,282 @@
-//! Worked cases, drawn on squared paper.
-use super::*;
-use grid_base::{Point, Segment};
+//! Worked cases, read off squared paper.
+use crate::{ChainError, Drawing, StepError, crossing_step, drawn_pieces};
+use grid_base::{Point, Segment, Step};
+use std::alloc::Global;
+use std::process::Abort;
 use std::test::Fail;
 
-fn point((x, y): (u64, u64)) -> Result<Point, Fail> {
+fn point([x, y]: [u64; 2]) -> Result<Point, Fail> {
     Ok(Point::new(x, y)?)
 }
 
-fn segment(p: (u64, u64), q: (u64, u64)) -> Result<Segment, Fail> {
-    Segment::new(point(p)?, point(q)?).ok_or_else(|| Fail::new("a segment has two ends"))
+fn segment([x, y, u, v]: [u64; 4]) -> Result<Segment, Fail> {
+    let found = Segment::new(Point::new(x, y)?, Point::new(u, v)?);
+    Ok(found.ok_or("equal ends")?)
 }
 
-// (5, 2) is the one grid point inside (0, 0) to (10, 4).
+// Straight originals 1, 2 and so on along these segments.
+pub(crate) fn placed(alloc: Global, segments: &[[u64; 4]]) -> Result<Drawing, Fail> {
+    let mut drawing = Drawing::new(alloc);
+    let mut id: u32 = 1;
+    for ends in segments {
+        drawing.place(id, segment(*ends)?)?;
+        id = id.checked_add(1).ok_or("too many")?;
+    }
+    Ok(drawing)
+}
+
+// These segments, and these points explicit, once no violation is left.
+fn settled(alloc: Global, segments: &[[u64; 4]], points: &[[u64; 2]]) -> Result<Drawing, Fail> {
+    let mut drawing = placed(alloc, segments)?;
+    for at in points {
+        drawing.add_point(point(*at)?)?;
+    }
+    for _ in 0..100 {
+        let Some(step) = drawing.first_violation() else {
+            return Ok(drawing);
+        };
+        drawing.apply(&step)?;
+    }
+    Err(Fail::new("steps without end"))
+}
+
+// Whether the points are these.
+fn are_points(points: &[Point], want: &[[u64; 2]]) -> bool {
+    points.len() == want.len()
+        && points
+            .iter()
+            .zip(want)
+            .all(|(p, at)| [u64::from(p.x()), u64::from(p.y())] == *at)
+}
+
+// Whether the segments are these, each from its lesser end.
+fn are_pieces(pieces: &[Segment], want: &[[u64; 4]]) -> bool {
+    pieces.len() == want.len()
+        && pieces.iter().zip(want).all(|(s, [x, y, u, v])| are_points(
+            &[s.a(), s.b()],
+            &[[*x, *y], [*u, *v]],
+        ))
+}
+
+// Whether the chain of this original has these points.
+fn has_chain(drawing: &Drawing, id: u32, want: &[[u64; 2]]) -> bool {
+    drawing
+        .chain(id)
+        .is_some_and(|points| are_points(points, want))
+}
+
+// Segments, explicit points, and the chains of both originals.
+type Row<'a> = (
+    &'a [[u64; 4]],
+    &'a [[u64; 2]],
+    &'a [[u64; 2]],
+    &'a [[u64; 2]],
+);
+
 #[test]
-fn a_segment_may_share_ends_and_no_more(rt: HostRuntime) -> Result<(), Fail> {
-    let mut drawing = Drawing::new(rt.alloc());
-    drawing.place(1, segment((0, 0), (10, 4))?)?;
-    for (p, q, settled) in [
-        ((0, 4), (10, 0), false),
-        ((5, 2), (7, 7), false),
-        ((0, 0), (5, 2), false),
-        ((5, 2), (15, 6), false),
-        ((0, 0), (15, 6), false),
-        ((10, 4), (12, 0), true),
-        ((2, 2), (4, 4), true),
-        ((10, 4), (15, 6), true),
-        ((0, 0), (10, 4), true),
+fn chains_once_no_violation_is_left(rt: HostRuntime) -> Result<(), Fail> {
+    let rows: [Row<'static>; 4] = [
+        // both meet in a grid point
+        (
+            &[[0, 0, 10, 4], [0, 4, 10, 0]],
+            &[],
+            &[[0, 0], [5, 2], [10, 4]],
+            &[[0, 4], [5, 2], [10, 0]],
+        ),
+        // the first is led by a point next to it, and passes one that was inside it
+        (
+            &[[0, 0, 10, 4], [6, 0, 6, 9]],
+            &[],
+            &[[0, 0], [5, 2], [6, 2], [10, 4]],
+            &[[6, 0], [6, 2], [6, 9]],
+        ),
+        // both cross a cell at its centre
+        (
+            &[[0, 0, 2, 2], [0, 3, 3, 0]],
+            &[],
+            &[[0, 0], [1, 1], [2, 2]],
+            &[[0, 3], [1, 2], [1, 1], [2, 1], [3, 0]],
+        ),
+        // a piece of both is split
+        (
+            &[[0, 0, 6, 0], [0, 0, 6, 0]],
+            &[[3, 0]],
+            &[[0, 0], [3, 0], [6, 0]],
+            &[[0, 0], [3, 0], [6, 0]],
+        ),
+    ];
+    for (segments, points, first, second) in rows {
+        let drawing = settled(rt.alloc(), segments, points)?;
+        assert!(rt; has_chain(&drawing, 1, first), "1 of {segments:?}");
+        assert!(rt; has_chain(&drawing, 2, second), "2 of {segments:?}");
+    }
+    Ok(())
+}
+
+// The step of two pieces that cross, whichever is named first, and the pieces that it draws.
+fn compare_crossing(
+    rt: &impl Abort,
+    alloc: Global,
+    t: Segment,
+    u: Segment,
+    want: &[[u64; 4]],
+) -> Result<Step, Fail> {
+    let step = crossing_step(&t, &u).ok_or("apart")?;
+    assert_eq!(rt; crossing_step(&u, &t), Some(step), "exchanged");
+    let mut drawn = drawn_pieces(alloc, &step)?;
+    drawn.sort_unstable();
+    assert!(rt; are_pieces(&drawn, want), "{drawn:?}");
+    Ok(step)
+}
+
+#[test]
+fn points_and_pieces_of_a_crossing(rt: HostRuntime) -> Result<(), Fail> {
+    let mut drawing = placed(rt.alloc(), &[[0, 0, 10, 4], [0, 4, 10, 0]])?;
+    let (t, u) = (segment([0, 0, 10, 4])?, segment([0, 4, 10, 0])?);
+    let want = [[0, 0, 5, 2], [0, 4, 5, 2], [5, 2, 10, 0], [5, 2, 10, 4]];
+    let step = compare_crossing(&rt, rt.alloc(), t, u, &want)?;
+    assert_eq!(rt;
+        step,
+        Step::Meet {
+            t,
+            u,
+            x: point([5, 2])?
+        }
+    );
+    assert_eq!(rt; drawing.first_violation(), Some(step));
+    drawing.apply(&step)?;
+    assert_eq!(rt; drawing.first_violation(), None);
+    assert!(rt; are_pieces(&drawing.pieces()?, &want), "pieces");
+    let vertices = [[0, 0], [0, 4], [5, 2], [10, 0], [10, 4]];
+    assert!(rt; are_points(&drawing.points()?, &vertices), "points");
+    Ok(())
+}
+
+#[test]
+fn a_step_that_is_not_permitted_changes_nothing(rt: HostRuntime) -> Result<(), Fail> {
+    let mut drawing = placed(rt.alloc(), &[[0, 0, 10, 4], [0, 4, 10, 0]])?;
+    let (t, u) = (segment([0, 0, 10, 4])?, segment([0, 4, 10, 0])?);
+    for step in [
+        // its pieces exchanged, another point, no piece
+        Step::Meet {
+            t: u,
+            u: t,
+            x: point([5, 2])?,
+        },
+        Step::Meet {
+            t,
+            u,
+            x: point([6, 2])?,
+        },
+        Step::Meet {
+            t,
+            u: segment([0, 4, 9, 0])?,
+            x: point([5, 2])?,
+        },
+        // a point that isn't inside, and one that is no point of the drawing
+        Step::Split {
+            p: point([0, 4])?,
+            t,
+        },
+        Step::Split {
+            p: point([5, 2])?,
+            t,
+        },
+        // no corner
+        Step::Corner { t, u },
     ] {
-        let s = segment(p, q)?;
-        assert_eq!(rt; drawing.settled_with(&s), settled, "{p:?} to {q:?}");
+        assert_eq!(rt;
+            drawing.apply(&step),
+            Err(StepError::NotPermitted),
+            "{step:?}"
+        );
+        assert!(rt; has_chain(&drawing, 1, &[[0, 0], [10, 4]]), "{step:?}");
+        assert!(rt; has_chain(&drawing, 2, &[[0, 4], [10, 0]]), "{step:?}");
+    }
+    Ok(())
+}
+
+// Whether these points are refused for a chain.
+fn is_refused(alloc: Global, points: &[Point]) -> bool {
+    let mut drawing = Drawing::new(alloc);
+    drawing.place_chain(1, points) == Err(ChainError::NotAChain) && drawing.chain(1).is_none()
+}
+
+#[test]
+fn a_list_that_may_be_a_chain_is_taken(rt: HostRuntime) -> Result<(), Fail> {
+    let mut points = vec![in rt.alloc();
+        point([0, 0])?,
+        point([5, 2])?,
+        point([6, 2])?,
+        point([10, 4])?,
+    ]?;
+    assert!(rt; is_refused(rt.alloc(), &points[..1]), "one point");
+    let mut drawing = Drawing::new(rt.alloc());
+    drawing.place_chain(7, &points)?;
+    assert_eq!(rt; drawing.chain(7), Some(points.as_slice()));
+    points.reverse();
+    assert!(rt; is_refused(rt.alloc(), &points), "turned round");
+    Ok(())
+}
+
+#[test]
+fn a_piece_keeps_its_key(rt: HostRuntime) -> Result<(), Fail> {
+    let mut drawing = placed(rt.alloc(), &[[0, 0, 6, 0], [0, 0, 6, 0]])?;
+    let piece = segment([0, 0, 6, 0])?;
+    let key = drawing.key(&piece).ok_or("no piece")?;
+    assert!(rt; drawing.remove(1), "1 is there");
+    assert!(rt; !drawing.remove(1), "1 isn't there any more");
+    assert_eq!(rt;
+        (drawing.key(&piece), drawing.piece(key)),
+        (Some(key), Some(piece))
+    );
+    assert!(rt; drawing.remove(2), "2 is there");
+    assert_eq!(rt; (drawing.key(&piece), drawing.piece(key)), (None, None));
+    Ok(())
+}
+
+#[test]
+fn a_vertex_is_a_point_without_being_explicit(rt: HostRuntime) -> Result<(), Fail> {
+    let mut drawing = placed(rt.alloc(), &[[0, 0, 10, 4]])?;
+    for (at, is_vertex) in [([10, 4], true), ([3, 1], false)] {
+        let p = point(at)?;
+        assert_eq!(rt;
+            (drawing.is_point(&p), drawing.is_explicit(&p)),
+            (is_vertex, false),
+            "{p:?}"
+        );
+        assert_eq!(rt;
+            (drawing.add_point(p)?, drawing.add_point(p)?),
+            (true, false),
+            "{p:?}"
+        );
+        assert_eq!(rt;
+            (drawing.is_point(&p), drawing.is_explicit(&p)),
+            (true, true),
+            "{p:?}"
+        );
+        assert_eq!(rt;
+            (drawing.take_point(&p), drawing.take_point(&p)),
+            (true, false),
+            "{p:?}"
+        );
+        assert_eq!(rt;
+            (drawing.is_point(&p), drawing.is_explicit(&p)),
+            (is_vertex, false),
+            "{p:?}"
+        );
     }
     Ok(())
 }
 
 #[test]
-fn a_piece_inside_a_longer_one_is_a_violation_and_stays(rt: HostRuntime) -> Result<(), Fail> {
-    let mut drawing = Drawing::new(rt.alloc());
-    drawing.place(1, segment((0, 0), (6, 0))?)?;
-    let inside = segment((2, 0), (4, 0))?;
-    assert!(rt; !drawing.settled_with(&inside));
-    assert!(rt; drawing.settled_with(&segment((8, 8), (9, 9))?));
-    drawing.place(2, inside)?;
-    assert!(rt; !drawing.settled_with(&segment((8, 8), (9, 9))?));
-    Ok(())
-}
-
-#[test]
-fn points_and_pieces_ascend_and_stand_once(rt: HostRuntime) -> Result<(), Fail> {
-    let mut drawing = Drawing::new(rt.alloc());
-    drawing.place(3, segment((4, 4), (2, 9))?)?;
-    drawing.place(7, segment((4, 4), (8, 0))?)?;
-    drawing.place(8, segment((2, 9), (4, 4))?)?;
-    let points = [point((2, 9))?, point((4, 4))?, point((8, 0))?];
-    let pieces = [segment((2, 9), (4, 4))?, segment((4, 4), (8, 0))?];
-    assert_eq!(rt; drawing.points()?.as_slice(), points.as_slice());
-    assert_eq!(rt; drawing.pieces()?.as_slice(), pieces.as_slice());
-    assert!(rt; drawing.is_point(&point((2, 9))?));
-    assert!(rt; !drawing.is_point(&point((9, 2))?));
-    assert_eq!(rt;
-        drawing.chain(7),
-        Some([point((4, 4))?, point((8, 0))?].as_slice())
+fn a_box_has_its_rim(rt: HostRuntime) -> Result<(), Fail> {
+    let points = [[12, 1], [10, 5], [10, 4], [3, 1], [0, 0], [0, 2], [1, 9]];
+    let drawing = settled(rt.alloc(), &[], &points)?;
+    let found = drawing.explicit_in(&segment([0, 4, 10, 0])?)?;
+    assert!(rt;
+        are_points(&found, &[[0, 0], [0, 2], [3, 1], [10, 4]]),
+        "{found:?}"
     );
-    assert_eq!(rt; drawing.chain(5), None);
     Ok(())
 }

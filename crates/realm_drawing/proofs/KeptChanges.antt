@@ -1,0 +1,177 @@
+-- This file shows that a drawing with one chain more, or without one, is kept where its registry follows.
+use Rattle.std.proofs.Common.{◌≡◌, ◌≢◌, ◌↔◌, ℕ, ◌<◌, List, [], ◌∷◌, ◌++◌, get_or, All, Any}
+use Rattle.std.proofs.Common.{Bool, true, false, not, ◌==◌, cond, zero, suc, true≢false}
+use Rattle.std.proofs.Common.{refl, sym, ap, ◌∙◌, subst, inl, inr, arith}
+use Rattle.std.specs.List.{filter, remove}
+use Rattle.std.proofs.lemmas.Bool.Decides.{nat_tests}
+use Rattle.std.proofs.lemmas.List.{get_or_default}
+use Rattle.std.proofs.lemmas.List.Elements.{All-push, All-filter}
+use Rattle.std.proofs.lemmas.List.Kept.{AllPairs-filter}
+use Rattle.std.proofs.lemmas.List.Quantifiers.{all_pairs_push}
+use Rattle.grid_base.specs.Point.{GridPoint}
+use Rattle.grid_base.specs.Segment.{GridSegment}
+use Rattle.grid_base.specs.Drawing.{HasLink}
+use Rattle.grid_base.specs.declared.original.Original.{Original}
+use Rattle.hook_chain.specs.ValidChain.{ValidChain}
+use Rattle.component_registry.specs.Registry.{Holdings, IsSound}
+use Rattle.realm_drawing.specs.declared.shares.Share.{Share}
+use Rattle.realm_drawing.specs.Ids.{IsAscending, LacksId, IsPlaceOf, IsChainOf}
+use Rattle.realm_drawing.specs.Chains.{HasValidChain}
+use Rattle.realm_drawing.specs.Kept.{IsKept}
+use Rattle.realm_drawing.specs.Shares.{share_of, Held, HasMore, ListsAlso, IsOfChain}
+use Rattle.realm_drawing.specs.Leaving.{LosesShares}
+use Rattle.realm_drawing.proofs.Elements.{Any-head, Any-later, Any-nil, Any-single, Any-cons_cases, Any-append_cases}
+use Rattle.realm_drawing.proofs.Elements.{Any-append_left, Any-append_right, All-of_some, Contains-nil}
+
+-- ---- one chain more
+-- the original with this chain
+abbrev pub with_id : ℕ → GridSegment → List GridPoint → Original
+with_id id s chain = record { id = id; a = s.a; b = s.b; chain = chain }
+
+-- it has the piece t, and the id x
+abbrev HasShare : GridSegment → ℕ → Original → Type 0
+HasShare t x o = (o.id ≡ x) × HasLink o.chain t
+
+-- no original has its id yet, so no share of it is held
+pub shares_are_new : (points : List GridPoint) (originals : List Original) (r : Holdings) → IsKept points originals r
+    → (id : ℕ) (chain : List GridPoint) (shares : List Share) → All (λ o. o.id < id) originals
+    → ListsAlso [] shares (IsOfChain id chain) → All (λ y. ¬ Held r y) shares
+shares_are_new points originals r kept id chain shares below lists = λ k d within held.
+    let y = get_or shares k d in
+    elim ((lists y).0 (k, within, get_or_default shares k y d within)) [
+      | inl none ↦ Contains-nil y none
+      | inr of_chain ↦
+          let some = ((kept.owners y.piece y.id).0 held).1 in
+          All-of_some (λ o. o.id < id) (HasShare y.piece y.id) ⊥ (never y of_chain.has_id) originals below some
+    ]
+  where
+    never : (y : Share) → y.id ≡ id → (o : Original) → o.id < id → HasShare y.piece y.id o → ⊥
+    never y same o before has = omega (arith, has.0)
+
+-- with its shares the registry has the owners again
+pub kept_with_chain : (points : List GridPoint) (originals : List Original) (old new : Holdings)
+    → IsKept points originals old → (id : ℕ) (s : GridSegment) (chain : List GridPoint) (shares : List Share)
+    → All (λ o. o.id < id) originals → ValidChain s chain → ListsAlso [] shares (IsOfChain id chain)
+    → HasMore old new shares → IsSound new
+    → IsKept points (originals ++ with_id id s chain ∷ []) new
+kept_with_chain points originals old new kept id s chain shares below valid lists more sound =
+    let o = with_id id s chain in
+    record {
+      points_ascend = kept.points_ascend;
+      ids_rise = all_pairs_push (λ p q. p.id < q.id) originals o kept.ids_rise below;
+      all_valid = All-push HasValidChain originals o kept.all_valid valid;
+      sound = sound;
+      owners = λ t x. (
+        λ owns. elim ((more t x).0 owns) [
+          | inl had ↦
+              let before = (kept.owners t x).0 had in
+              (before.0, Any-append_left (HasShare t x) originals (o ∷ []) before.1)
+          | inr listed ↦ elim ((lists (share_of t x)).0 listed) [
+            | inl none ↦ absurd (Contains-nil (share_of t x) none)
+            | inr of_chain ↦
+                let last = Any-head (HasShare t x) o [] (sym of_chain.has_id, of_chain.link) in
+                (of_chain.ordered, Any-append_right (HasShare t x) originals (o ∷ []) last)
+          ]
+        ],
+        λ (ordered, some). (more t x).1 (elim (Any-append_cases (HasShare t x) originals (o ∷ []) some) [
+          | inl before ↦ inl ((kept.owners t x).1 (ordered, before))
+          | inr last ↦
+              let has = Any-single (HasShare t x) o last in
+              inr ((lists (share_of t x)).1 (inr (record { has_id = sym has.0; link = has.1; ordered = ordered })))
+        ]),
+      );
+    }
+
+-- ---- filters
+-- x passes, and has P
+abbrev Passes : {X : Type 0} → (X → Bool) → (X → Type 0) → X → Type 0
+Passes p P x = (p x ≡ true) × P x
+
+-- some element that passes has P where some element passes and has P
+Any-passes : {X : Type 0} (p : X → Bool) (P : X → Type 0) (xs : List X) → Any P (filter p xs) ↔ Any (Passes p P) xs
+Any-passes p P [] = (λ some. absurd (Any-nil P some), λ some. absurd (Any-nil (Passes p P) some))
+Any-passes p P (x ∷ xs) = by_first (p x) refl (Any-passes p P xs)
+  where
+    by_first : (b : Bool) → p x ≡ b → Any P (filter p xs) ↔ Any (Passes p P) xs
+        → Any P (cond b (x ∷ filter p xs) (filter p xs)) ↔ Any (Passes p P) (x ∷ xs)
+    by_first true is rest = (
+      λ some. elim (Any-cons_cases P x (filter p xs) some) [
+        | inl first ↦ Any-head (Passes p P) x xs (is, first)
+        | inr later ↦ Any-later (Passes p P) x xs (rest.0 later)
+      ],
+      λ some. elim (Any-cons_cases (Passes p P) x xs some) [
+        | inl first ↦ Any-head P x (filter p xs) first.1
+        | inr later ↦ Any-later P x (filter p xs) (rest.1 later)
+      ],
+    )
+    by_first false is rest = (
+      λ some. Any-later (Passes p P) x xs (rest.0 some),
+      λ some. elim (Any-cons_cases (Passes p P) x xs some) [
+        | inl first ↦ absurd (true≢false (sym first.0 ∙ is))
+        | inr later ↦ rest.1 later
+      ],
+    )
+
+-- where all pass, all stay
+all_stay : {X : Type 0} (p : X → Bool) (xs : List X) → All (λ x. p x ≡ true) xs → filter p xs ≡ xs
+all_stay p [] all = refl
+all_stay p (x ∷ xs) all =
+    let rest = all_stay p xs (λ k d within. all (suc k) d (omega arith)) in
+    ap (λ b. cond b (x ∷ filter p xs) (filter p xs)) (all 0 x (omega arith)) ∙ ap (λ ys. x ∷ ys) rest
+
+-- ---- one chain less
+-- what passes has another id
+other_id : (m n : ℕ) → (not (m == n) ≡ true) ↔ (m ≢ n)
+other_id m n = (λ passes same. grind (arith, nat_tests), λ other. grind (arith, nat_tests))
+
+-- without an id that none has, the originals are the same
+pub none_to_remove : (originals : List Original) (id : ℕ) → LacksId originals id
+    → filter (λ o. not (o.id == id)) originals ≡ originals
+none_to_remove originals id lacks =
+    all_stay (λ o. not (o.id == id)) originals (λ k d within. (other_id (get_or originals k d).id id).1 (lacks k d within))
+
+-- the ids rise, so no other original has the id of the one at place i: it alone goes
+pub without_place : (originals : List Original) → IsAscending originals → (id i : ℕ) → IsPlaceOf originals id i
+    → filter (λ o. not (o.id == id)) originals ≡ remove originals i
+without_place [] rise id i place = absurd (omega (arith, place.within))
+without_place (o ∷ rest) rise id zero place =
+    let goes : not (o.id == id) ≡ false = grind (arith, nat_tests, place.has_id o) in
+    let lacks : LacksId rest id = λ k d within. omega (arith, place.has_id o, rise 0 (suc k) d) in
+    ap (λ b. cond b (o ∷ filter (λ o. not (o.id == id)) rest) (filter (λ o. not (o.id == id)) rest)) goes
+    ∙ none_to_remove rest id lacks
+without_place (o ∷ rest) rise id (suc i) place =
+    let here : IsPlaceOf rest id i = record { within = omega (arith, place.within); has_id = place.has_id } in
+    let later : IsAscending rest = λ k j d before within. rise (suc k) (suc j) d (omega arith) (omega arith) in
+    let other : o.id ≢ id = omega (arith, rise 0 (suc i) o (omega arith) place.within, place.has_id o) in
+    ap (λ b. cond b (o ∷ filter (λ o. not (o.id == id)) rest) (filter (λ o. not (o.id == id)) rest))
+    ((other_id o.id id).1 other)
+    ∙ ap (λ list. o ∷ list) (without_place rest later id i here)
+
+-- an original that is left had no share that was lost, since the one that goes was alone with its id
+pub kept_without : (points : List GridPoint) (originals : List Original) (old new : Holdings) → IsKept points originals old
+    → (id : ℕ) (chain : List GridPoint) → IsChainOf (record { points = points; originals = originals }) id chain
+    → LosesShares old new (IsOfChain id chain) → IsSound new
+    → IsKept points (filter (λ o. not (o.id == id)) originals) new
+kept_without points originals old new kept id chain found loses sound =
+    let stays = λ (o : Original). not (o.id == id) in
+    record {
+      points_ascend = kept.points_ascend;
+      ids_rise = AllPairs-filter (λ p q. p.id < q.id) stays originals kept.ids_rise;
+      all_valid = All-filter stays HasValidChain originals kept.all_valid;
+      sound = sound;
+      owners = λ t x. (
+        λ owns.
+            let (had, not_lost) = (loses (share_of t x)).0 owns in
+            let (ordered, (k, o, within, is, (has_id, link))) = (kept.owners t x).0 had in
+            let other : o.id ≢ id = λ same.
+            let only = subst (λ q. q.id ≡ id → q.chain ≡ chain) is (found.only k o within) same in
+            let there = subst (λ c. HasLink c t) only link in
+            not_lost (record { has_id = sym has_id ∙ same; link = there; ordered = ordered }) in
+            let passes = (other_id o.id id).1 other in
+            (ordered, (Any-passes stays (HasShare t x) originals).1 (k, o, within, is, (passes, (has_id, link)))),
+        λ (ordered, some).
+            let (k, o, within, is, (passes, (has_id, link))) = (Any-passes stays (HasShare t x) originals).0 some in
+            let had = (kept.owners t x).1 (ordered, (k, o, within, is, (has_id, link))) in
+            (loses (share_of t x)).1 (had, λ of_chain. (other_id o.id id).0 passes (has_id ∙ of_chain.has_id)),
+      );
+    }

@@ -1,0 +1,89 @@
+-- This file shows that a chain passes a piece at most once, and what it becomes with a path in the place of the piece.
+use Rattle.std.proofs.Common.{◌≡◌, ◌≢◌, ℕ, suc, ◌+◌, ◌-◌, ◌<◌, List, ◌++◌, All, get_or, take, drop, reverse}
+use Rattle.std.proofs.Common.{subst, add-one, inl, inr, arith}
+use Rattle.grid_base.specs.Point.{GridPoint}
+use Rattle.grid_base.specs.Segment.{GridSegment}
+use Rattle.grid_base.specs.Drawing.{HasLink}
+use Rattle.hook_chain.specs.Redrawing.{front, redrawn}
+use Rattle.realm_drawing.specs.Chains.{IsSomeChain}
+use Rattle.realm_drawing.specs.Passages.{IsPlaceAt, GoesFrom}
+use Rattle.realm_drawing.proofs.Progress.{one_place, chain_rises}
+use Rattle.realm_drawing.proofs.Links.{link_at, IsOnlyLink, forth_stands, back_stands, redrawn_at}
+
+-- the next place
+at_next : (chain : List GridPoint) (k : ℕ) (d p : GridPoint) → IsPlaceAt chain p (k + 1) → get_or chain (suc k) d ≡ p
+at_next chain k d p place = rw add-one at (place.at d)
+
+-- ---- a chain that has no point twice
+-- where it goes forth along t, it doesn't elsewhere
+forth_is_only : (chain : List GridPoint) → IsSomeChain chain → (t : GridSegment) (k : ℕ) → GoesFrom chain t.a t.b k
+    → IsOnlyLink chain t k
+forth_is_only chain valid t k goes i other (inl forth) =
+    let rises = chain_rises chain valid in
+    other (one_place rises.0 chain rises.1 t.a i k forth.from goes.from)
+forth_is_only chain valid t k goes i other (inr back) =
+    let rises = chain_rises chain valid in
+    let first = one_place rises.0 chain rises.1 t.b i (k + 1) back.from goes.to in
+    let second = one_place rises.0 chain rises.1 t.a (i + 1) k back.to goes.from in
+    omega arith
+
+back_is_only : (chain : List GridPoint) → IsSomeChain chain → (t : GridSegment) (k : ℕ) → GoesFrom chain t.b t.a k
+    → IsOnlyLink chain t k
+back_is_only chain valid t k goes i other (inr back) =
+    let rises = chain_rises chain valid in
+    other (one_place rises.0 chain rises.1 t.b i k back.from goes.from)
+back_is_only chain valid t k goes i other (inl forth) =
+    let rises = chain_rises chain valid in
+    let first = one_place rises.0 chain rises.1 t.a i (k + 1) forth.from goes.to in
+    let second = one_place rises.0 chain rises.1 t.b (i + 1) k forth.to goes.from in
+    omega arith
+
+-- the chain with the path in the place of the piece, there and back
+pub redrawn_forth : (t : GridSegment) (path chain : List GridPoint) (k : ℕ) → IsSomeChain chain → GoesFrom chain t.a t.b k
+    → redrawn t path chain ≡ take k chain ++ front path ++ drop (k + 1) chain
+redrawn_forth t path chain k valid goes =
+    let within = goes.to.within in
+    rw add-one
+    (redrawn_at t path (front path) chain k (omega arith)
+    (λ d. forth_stands t path (get_or chain k d) (get_or chain (suc k) d) (goes.from.at d) (at_next chain k d t.b goes.to))
+    (forth_is_only chain valid t k goes))
+
+pub redrawn_back : (t : GridSegment) (path chain : List GridPoint) (k : ℕ) → IsSomeChain chain → GoesFrom chain t.b t.a k
+    → redrawn t path chain ≡ take k chain ++ front (reverse path) ++ drop (k + 1) chain
+redrawn_back t path chain k valid goes =
+    let within = goes.to.within in
+    let rises = chain_rises chain valid in
+    let apart : t.a ≢ t.b = λ same.
+    let next = subst (λ (p : GridPoint). IsPlaceAt chain p (k + 1)) same goes.to in
+    let here = one_place rises.0 chain rises.1 t.b k (k + 1) goes.from next in
+    omega arith
+    in
+    rw add-one
+    (redrawn_at t path (front (reverse path)) chain k (omega arith)
+    (λ d. back_stands t path (get_or chain k d) (get_or chain (suc k) d) apart (goes.from.at d)
+    (at_next chain k d t.a goes.to))
+    (back_is_only chain valid t k goes))
+
+-- a chain that doesn't come by the lesser end of t hasn't t
+pub without_end : (chain : List GridPoint) (t : GridSegment) → All (λ q. q ≢ t.a) chain → HasLink chain t → ⊥
+without_end chain t none link = elim (link_at chain t link).1 [
+  | inl forth ↦ none (link_at chain t link).0 t.a forth.from.within (forth.from.at t.a)
+  | inr back ↦ none ((link_at chain t link).0 + 1) t.a back.to.within (back.to.at t.a)
+]
+
+-- nor has one that comes by it at a place, and by the other end neither behind that nor before it
+pub without_neighbour : (chain : List GridPoint) → IsSomeChain chain → (t : GridSegment) (place : ℕ)
+    → IsPlaceAt chain t.a place → (IsPlaceAt chain t.b (place + 1) → ⊥)
+    → ((0 < place) × IsPlaceAt chain t.b (place - 1) → ⊥) → HasLink chain t → ⊥
+without_neighbour chain valid t place at not_behind not_before link =
+    let rises = chain_rises chain valid in
+    let k = (link_at chain t link).0 in
+    elim (link_at chain t link).1 [
+      | inl forth ↦
+          let here = one_place rises.0 chain rises.1 t.a k place forth.from at in
+          not_behind (subst (λ n. IsPlaceAt chain t.b (n + 1)) here forth.to)
+      | inr back ↦
+          let here = one_place rises.0 chain rises.1 t.a place (k + 1) at back.to in
+          let before : k ≡ place - 1 = omega arith in
+          not_before (omega arith, subst (IsPlaceAt chain t.b) before back.from)
+    ]

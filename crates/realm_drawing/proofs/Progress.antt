@@ -1,0 +1,129 @@
+-- This file shows that a chain comes farther with each link, so it comes by each point at most once.
+use Rattle.std.proofs.Common.{◌≡◌, ◌≢◌, ◌⊎◌, ℕ, ◌<◌, ◌≤◌, List, [], ◌∷◌, length, get_or, All, refl, ap, ap₂, sym, ◌∙◌}
+use Rattle.std.proofs.Common.{subst, inl, inr, arith}
+use Rattle.std.proofs.Common.{Result, Option, None, Some, MatchOption, nat_cmp}
+use Rattle.std.specs.List.Sorted.{IsSearchInRange, IsBinarySearchResult}
+use Rattle.std.specs.Result.{result_ok}
+use Rattle.std.proofs.lemmas.List.{get_or_default}
+use Rattle.std.proofs.lemmas.List.Elements.{All-nil, All-cons, All-weaker}
+use Rattle.std.proofs.lemmas.List.Kept.{AllPairs-cons}
+use Rattle.grid_base.specs.Point.{GridPoint, point_at}
+use Rattle.grid_base.specs.Segment.{GridSegment}
+use Rattle.grid_base.proofs.Turns.{in_order}
+use Rattle.hook_chain.specs.Chains.{AllLinks, Leads}
+use Rattle.hook_chain.specs.ValidChain.{IsMonotone}
+use Rattle.realm_drawing.specs.Chains.{IsSomeChain}
+use Rattle.realm_drawing.specs.Passages.{progress, IsPlaceAt, IsOnlyPlace}
+use Rattle.realm_drawing.proofs.KeySearches.{Rises, HasAt, searched, one_place_for_a_number}
+
+-- v lies past o.a, as o leads
+pub record IsPast (o : GridSegment) (v : GridPoint) : Type 0 where
+  pub right : o.a.x ≤ v.x
+  pub above : o.a.y ≤ o.b.y → o.a.y ≤ v.y
+  pub below : o.b.y ≤ o.a.y → v.y ≤ o.a.y
+
+-- a link leads on
+pub past : (o : GridSegment) (v w : GridPoint) → IsPast o v → IsMonotone o.a o.b v w → IsPast o w
+past o v w here link = record {
+  right = let forth = link.1 in let from = here.right in omega arith;
+  above = λ rising. let up = link.2 rising in let from = here.above rising in omega arith;
+  below = λ falling. let down = link.3 falling in let from = here.below falling in omega arith;
+}
+
+-- and its ends differ in a coordinate, neither of which turns back
+farther : (o : GridSegment) (v w : GridPoint) → IsPast o v → IsMonotone o.a o.b v w → progress o.a v < progress o.a w
+farther o v w here link =
+    let right = link.1 in
+    let apart : v.x ≡ w.x → v.y ≡ w.y → ⊥ = λ column row. link.0 (ap₂ point_at column row) in
+    by_direction (in_order o.a.y o.b.y)
+  where
+    by_direction : (o.a.y ≤ o.b.y) ⊎ (o.b.y ≤ o.a.y) → progress o.a v < progress o.a w
+    by_direction (inl rising) =
+        let up = link.2 rising in
+        let from = here.above rising in
+        grind arith
+    by_direction (inr falling) =
+        let down = link.3 falling in
+        let from = here.below falling in
+        grind arith
+
+-- so each later point is farther
+ahead : (o : GridSegment) (v : GridPoint) (chain : List GridPoint) → IsPast o v → AllLinks (IsMonotone o.a o.b) (v ∷ chain)
+    → All (λ q. progress o.a v < progress o.a q) chain
+ahead o v [] here links = All-nil (λ q. progress o.a v < progress o.a q)
+ahead o v (w ∷ chain) here links =
+    let next = farther o v w here links.0 in
+    All-cons (λ q. progress o.a v < progress o.a q) w chain next
+    (All-weaker (λ q. progress o.a w < progress o.a q) (λ q. progress o.a v < progress o.a q) (λ q later. omega arith) chain
+    (ahead o w chain (past o v w here links.0) links.1))
+
+rises_from : (o : GridSegment) (v : GridPoint) (chain : List GridPoint) → IsPast o v
+    → AllLinks (IsMonotone o.a o.b) (v ∷ chain)
+    → Rises (progress o.a) (v ∷ chain)
+rises_from o v [] here links =
+    AllPairs-cons (λ (p q : GridPoint). progress o.a p < progress o.a q) v []
+    (All-nil (λ (q : GridPoint). progress o.a v < progress o.a q))
+    (λ i j d before within. absurd (omega arith))
+rises_from o v (w ∷ chain) here links =
+    AllPairs-cons (λ (p q : GridPoint). progress o.a p < progress o.a q) v (w ∷ chain) (ahead o v (w ∷ chain) here links)
+    (rises_from o w chain (past o v w here links.0) links.1)
+
+-- a itself does
+pub past_first : (o : GridSegment) (v : GridPoint) → v ≡ o.a → IsPast o v
+past_first o v same =
+    let column = ap (λ (p : GridPoint). p.x) same in
+    let row = ap (λ (p : GridPoint). p.y) same in
+    record { right = omega arith; above = λ rising. omega arith; below = λ falling. omega arith }
+
+-- the chain begins with a
+pub begins : (a b v : GridPoint) (chain : List GridPoint) → Leads a b (v ∷ chain) → v ≡ a
+begins a b v [] leads = leads.0
+begins a b v (w ∷ chain) leads = leads.0
+
+-- how far a chain has come rises from its first point on
+progress_rises : (chain : List GridPoint) (first : GridPoint) → 0 < length chain → first ≡ get_or chain 0 first
+    → IsSomeChain chain
+    → Rises (progress first) chain
+progress_rises [] first some is valid = absurd (omega arith)
+progress_rises (v ∷ chain) first some is (o, valid) =
+    let start = begins o.a o.b v chain valid.leads in
+    subst (λ (a : GridPoint). Rises (progress a) (v ∷ chain)) (sym start ∙ sym is)
+    (rises_from o v chain (past_first o v start) valid.monotone)
+
+-- so it does along a chain that some original may have
+pub chain_rises : (chain : List GridPoint) → IsSomeChain chain → (a : GridPoint) × Rises (progress a) chain
+chain_rises [] (o, valid) = absurd valid.leads
+chain_rises (v ∷ chain) valid = (v, progress_rises (v ∷ chain) v (omega arith) refl valid)
+
+-- a chain that comes farther has no point twice
+pub one_place : (a : GridPoint) (chain : List GridPoint) → Rises (progress a) chain → (p : GridPoint) (i k : ℕ)
+    → IsPlaceAt chain p i → IsPlaceAt chain p k → i ≡ k
+one_place a chain rises p i k first second =
+    one_place_for_a_number (progress a) chain rises i k p first.within second.within
+    (ap (progress a) (first.at p ∙ sym (second.at p)))
+
+-- a search for p tells that the chain doesn't come by p, or the one place where it can
+pub looked_up : (chain : List GridPoint) (first p : GridPoint) (reach : ℕ) (r : Result ℕ ℕ) → 0 < length chain
+    → first ≡ get_or chain 0 first
+    → IsSomeChain chain → reach ≡ progress first p → IsSearchInRange r (length chain)
+    → IsBinarySearchResult (λ q. nat_cmp (progress first q) reach) chain r
+    → MatchOption (result_ok r) (All (λ q. q ≢ p) chain) (IsOnlyPlace chain p)
+looked_up chain first p reach r some is valid reached bound by_progress =
+    by_case (result_ok r) (searched (progress first) chain rises reach r bound by_progress)
+  where
+    rises : Rises (progress first) chain
+    rises = progress_rises chain first some is valid
+
+    by_case : (o : Option ℕ) → MatchOption o (All (λ q. progress first q ≢ reach) chain) (HasAt (progress first) chain reach)
+        → MatchOption o (All (λ q. q ≢ p) chain) (IsOnlyPlace chain p)
+    by_case None none = λ k d inside same. none k d inside (ap (progress first) same ∙ sym reached)
+    by_case (Some i) found = λ k at.
+        one_place_for_a_number (progress first) chain rises k i p at.within found.within
+        (ap (progress first) (at.at p) ∙ sym reached ∙ sym (found.has p))
+
+-- where p doesn't stand there either, the chain doesn't come by it
+pub nowhere : (chain : List GridPoint) (p : GridPoint) (i : ℕ) → IsOnlyPlace chain p i → (IsPlaceAt chain p i → ⊥)
+    → All (λ q. q ≢ p) chain
+nowhere chain p i only not_there k d inside same =
+    let at : IsPlaceAt chain p k = record { within = inside; at = λ e. get_or_default chain k e d inside ∙ same } in
+    not_there (subst (IsPlaceAt chain p) (only k at) at)

@@ -1,0 +1,175 @@
+-- This file shows which links a redrawn chain has: its own but the piece, and those of the path if it had the piece.
+use Rattle.std.proofs.Common.{◌≡◌, ◌≢◌, ◌⊎◌, ◌↔◌, ◌&&◌, if◌then◌else◌, Bool, true, false, List, [], ◌∷◌, ◌++◌, reverse}
+use Rattle.std.proofs.Common.{refl, sym, ap, subst, ◌∙◌, inl, inr}
+use Rattle.grid_base.specs.Point.{GridPoint, IsBefore, is_point}
+use Rattle.grid_base.specs.Segment.{GridSegment}
+use Rattle.grid_base.specs.Drawing.{IsLink, HasLink}
+use Rattle.hook_chain.specs.Chains.{Leads}
+use Rattle.hook_chain.specs.Redrawing.{front, redrawn}
+use Rattle.realm_drawing.proofs.JoinedLinks.{are_both, are_not_both, one_segment, BeginsWith, path_begins, first_link}
+use Rattle.realm_drawing.proofs.JoinedLinks.{joined_links, leads_back_by_reverse, reversed_links}
+
+-- ---- what stands for one link
+-- the points that stand for the link from v to w, but the last
+abbrev stretch : GridSegment → List GridPoint → GridPoint → GridPoint → List GridPoint
+stretch t path v w =
+    if is_point v t.a && is_point w t.b then front path
+    else if is_point v t.b && is_point w t.a then front (reverse path)
+    else v ∷ []
+
+-- the list stands for the link from v to w: the links of the path for the piece, and else the link itself
+record Stands (t : GridSegment) (path : List GridPoint) (v w : GridPoint) (list rest : List GridPoint) : Type 0 where
+  begins : BeginsWith v (list ++ rest)
+  links : (s : GridSegment)
+      → (IsLink t v w × (HasLink (list ++ rest) s ↔ (HasLink path s ⊎ HasLink rest s)))
+      ⊎ ((IsLink t v w → ⊥) × (HasLink (list ++ rest) s ↔ (IsLink s v w ⊎ HasLink rest s)))
+
+path_stands : (t : GridSegment) (path : List GridPoint) (v w : GridPoint) (way rest : List GridPoint) → IsLink t v w
+    → Leads v w way → ((s : GridSegment) → HasLink way s ↔ HasLink path s) → BeginsWith w rest
+    → Stands t path v w (front way) rest
+path_stands t path v w way rest link leads same begins = record {
+  begins = path_begins v w way rest leads begins;
+  links = λ s.
+      let joined = joined_links s v w way rest leads begins in
+      inl (
+        link,
+        (
+          λ h. elim (joined.0 h) [ inl there ↦ inl ((same s).0 there) | inr later ↦ inr later ],
+          λ h. elim h [ inl there ↦ joined.1 (inl ((same s).1 there)) | inr later ↦ joined.1 (inr later) ],
+        ),
+      );
+}
+
+stands : (t : GridSegment) (path : List GridPoint) (v w : GridPoint) (rest : List GridPoint) → Leads t.a t.b path
+    → BeginsWith w rest → Stands t path v w (stretch t path v w) rest
+stands t path v w rest leads begins =
+    by_tests (is_point v t.a && is_point w t.b) (is_point v t.b && is_point w t.a) refl refl
+  where
+    by_tests : (forth back : Bool) → (is_point v t.a && is_point w t.b) ≡ forth → (is_point v t.b && is_point w t.a) ≡ back
+        → Stands t path v w (if forth then front path else if back then front (reverse path) else v ∷ []) rest
+    by_tests true back is_forth is_back =
+        let same = are_both v w t.a t.b is_forth in
+        let leads_on : Leads v w path =
+        subst (λ p. Leads p w path) (sym same.0) (subst (λ q. Leads t.a q path) (sym same.1) leads) in
+        path_stands t path v w path rest (inl same) leads_on (λ s. (λ h. h, λ h. h)) begins
+    by_tests false true is_forth is_back =
+        let same = are_both v w t.b t.a is_back in
+        let way = reverse path in
+        let leads_on : Leads v w way =
+        subst (λ p. Leads p w way) (sym same.0)
+        (subst (λ q. Leads t.b q way) (sym same.1) (leads_back_by_reverse t.a t.b path leads)) in
+        path_stands t path v w way rest (inr same) leads_on (λ s. reversed_links s t.a t.b path leads) begins
+    by_tests false false is_forth is_back = record {
+      begins = refl;
+      links = λ s. inr (
+        λ h. elim h [
+          | inl forth ↦ are_not_both v w t.a t.b is_forth forth
+          | inr back ↦ are_not_both v w t.b t.a is_back back
+        ],
+        first_link s v w rest begins,
+      );
+    }
+
+-- ---- the whole chain
+pub redrawn_begins : (t : GridSegment) (path : List GridPoint) (v : GridPoint) (chain : List GridPoint) → Leads t.a t.b path
+    → BeginsWith v (redrawn t path (v ∷ chain))
+redrawn_begins t path v [] leads = refl
+redrawn_begins t path v (w ∷ chain) leads =
+    (stands t path v w (redrawn t path (w ∷ chain)) leads (redrawn_begins t path w chain leads)).begins
+
+-- the links of the redrawn chain
+pub redrawn_links : (t : GridSegment) (path chain : List GridPoint) (s : GridSegment) → IsBefore t.a t.b
+    → Leads t.a t.b path → IsBefore s.a s.b
+    → HasLink (redrawn t path chain) s ↔ ((HasLink chain s × (s ≢ t)) ⊎ (HasLink chain t × HasLink path s))
+redrawn_links t path [] s ordered leads s_ordered = (
+  λ h. absurd h,
+  λ h. elim h [ inl stays ↦ absurd stays.0 | inr on_path ↦ absurd on_path.0 ],
+)
+redrawn_links t path (v ∷ []) s ordered leads s_ordered = (
+  λ h. absurd h,
+  λ h. elim h [ inl stays ↦ absurd stays.0 | inr on_path ↦ absurd on_path.0 ],
+)
+redrawn_links t path (v ∷ w ∷ chain) s ordered leads s_ordered =
+    let rest = redrawn t path (w ∷ chain) in
+    let later = redrawn_links t path (w ∷ chain) s ordered leads s_ordered in
+    let first = (stands t path v w rest leads (redrawn_begins t path w chain leads)).links s in
+    elim first [
+      | inl piece ↦ (
+        λ h. elim (piece.1.0 h) [
+          | inl on_path ↦ inr (inl piece.0, on_path)
+          | inr link ↦ elim (later.0 link) [
+            | inl stays ↦ inl (inr stays.0, stays.1)
+            | inr on_path ↦ inr (inr on_path.0, on_path.1)
+          ]
+        ],
+        λ h. elim h [
+          | inl stays ↦ elim stays.0 [
+            | inl here ↦ absurd (stays.1 (one_segment s t v w s_ordered ordered here piece.0))
+            | inr there ↦ piece.1.1 (inr (later.1 (inl (there, stays.1))))
+          ]
+          | inr on_path ↦ piece.1.1 (inl on_path.1)
+        ],
+      )
+      | inr other ↦ (
+        λ h. elim (other.1.0 h) [
+          | inl here ↦ inl (inl here, λ same. other.0 (subst (λ r. IsLink r v w) same here))
+          | inr link ↦ elim (later.0 link) [
+            | inl stays ↦ inl (inr stays.0, stays.1)
+            | inr on_path ↦ inr (inr on_path.0, on_path.1)
+          ]
+        ],
+        λ h. elim h [
+          | inl stays ↦ elim stays.0 [
+            | inl here ↦ other.1.1 (inl here)
+            | inr there ↦ other.1.1 (inr (later.1 (inl (there, stays.1))))
+          ]
+          | inr on_path ↦ elim on_path.0 [
+            | inl here ↦ absurd (other.0 here)
+            | inr there ↦ other.1.1 (inr (later.1 (inr (there, on_path.1))))
+          ]
+        ],
+      )
+    ]
+
+-- ---- chains without the piece
+is_link_or_not : (t : GridSegment) (v w : GridPoint) → IsLink t v w ⊎ (IsLink t v w → ⊥)
+is_link_or_not t v w =
+    by_tests (is_point v t.a && is_point w t.b) (is_point v t.b && is_point w t.a) refl refl
+  where
+    by_tests : (forth back : Bool) → (is_point v t.a && is_point w t.b) ≡ forth → (is_point v t.b && is_point w t.a) ≡ back
+        → IsLink t v w ⊎ (IsLink t v w → ⊥)
+    by_tests true back is_forth is_back = inl (inl (are_both v w t.a t.b is_forth))
+    by_tests false true is_forth is_back = inl (inr (are_both v w t.b t.a is_back))
+    by_tests false false is_forth is_back = inr (λ h. elim h [
+      | inl forth ↦ are_not_both v w t.a t.b is_forth forth
+      | inr back ↦ are_not_both v w t.b t.a is_back back
+    ])
+
+pub has_link_or_not : (chain : List GridPoint) (t : GridSegment) → HasLink chain t ⊎ (HasLink chain t → ⊥)
+has_link_or_not [] t = inr (λ h. h)
+has_link_or_not (v ∷ []) t = inr (λ h. h)
+has_link_or_not (v ∷ w ∷ chain) t = elim (is_link_or_not t v w) [
+  | inl here ↦ inl (inl here)
+  | inr not_here ↦ elim (has_link_or_not (w ∷ chain) t) [
+    | inl there ↦ inl (inr there)
+    | inr nowhere ↦ inr (λ h. elim h [ inl here ↦ not_here here | inr there ↦ nowhere there ])
+  ]
+]
+
+-- a link that isn't the piece stands for itself
+other_stays : (t : GridSegment) (path : List GridPoint) (v w : GridPoint) → (IsLink t v w → ⊥) → stretch t path v w ≡ v ∷ []
+other_stays t path v w other =
+    by_tests (is_point v t.a && is_point w t.b) (is_point v t.b && is_point w t.a) refl refl
+  where
+    by_tests : (forth back : Bool) → (is_point v t.a && is_point w t.b) ≡ forth → (is_point v t.b && is_point w t.a) ≡ back
+        → (if forth then front path else if back then front (reverse path) else v ∷ []) ≡ v ∷ []
+    by_tests true back is_forth is_back = absurd (other (inl (are_both v w t.a t.b is_forth)))
+    by_tests false true is_forth is_back = absurd (other (inr (are_both v w t.b t.a is_back)))
+    by_tests false false is_forth is_back = refl
+
+pub redrawn_without : (t : GridSegment) (path chain : List GridPoint) → (HasLink chain t → ⊥) → redrawn t path chain ≡ chain
+redrawn_without t path [] none = refl
+redrawn_without t path (v ∷ []) none = refl
+redrawn_without t path (v ∷ w ∷ chain) none =
+    ap (λ (way : List GridPoint). way ++ redrawn t path (w ∷ chain)) (other_stays t path v w (λ here. none (inl here)))
+    ∙ ap (λ (rest : List GridPoint). v ∷ rest) (redrawn_without t path (w ∷ chain) (λ there. none (inr there)))

@@ -1,0 +1,77 @@
+-- This file shows what a permitted step leads to: one drawing, with the ids and the explicit points that there were, and
+-- from a drawing with a violation.
+use Rattle.std.proofs.Common.{◌≡◌, ℕ, ◌+◌, ◌*◌, ◌<◌, List, sym, ap, subst, ◌∙◌, arith}
+use Rattle.std.proofs.lemmas.List.Elements.{All-map}
+use Rattle.grid_base.specs.Point.{GridPoint}
+use Rattle.grid_base.specs.Segment.{GridSegment}
+use Rattle.grid_base.specs.MeetPoint.{IsCell, crossing_of}
+use Rattle.grid_base.specs.Places.{RationalPoint}
+use Rattle.grid_base.specs.Realm.{PointInside, TwoCross}
+use Rattle.grid_base.specs.Drawing.{Drawing, HasViolation}
+use Rattle.grid_base.specs.declared.kinds.Step.{Step}
+use Rattle.grid_base.specs.declared.kinds.Step.TheVariants.{Split, Meet, Corner}
+use Rattle.grid_base.proofs.Ends.{same_point}
+use Rattle.grid_base.proofs.Balances.{factor_cancels}
+use Rattle.grid_rational.proofs.Crossings.{crossing_is_place}
+use Rattle.hook_chain.specs.Redrawing.{redraw, redrawn_original, round_corner, cut_at}
+use Rattle.hook_chain.specs.Steps.{Permitted}
+use Rattle.hook_chain.proofs.HookLaw.{one_hook}
+use Rattle.realm_drawing.specs.Straight.{AllBelow}
+
+-- ---- one drawing
+-- a centre is the centre of one cell
+one_cell : (q : RationalPoint) (y z : GridPoint) → 0 < q.w → IsCell q y → IsCell q z → y ≡ z
+one_cell q y z real first second =
+    let columns = factor_cancels (2 * y.x + 1) (2 * z.x + 1) q.w real (sym first.0 ∙ second.0) in
+    let rows = factor_cancels (2 * y.y + 1) (2 * z.y + 1) q.w real (sym first.1 ∙ second.1) in
+    same_point y z (omega arith) (omega arith)
+
+-- the hooks of a step are the only ones, and so is the cell where two diagonals cross
+pub permitted_is_one : (d e f : Drawing) (step : Step) → Permitted d step e → Permitted d step f → e ≡ f
+permitted_is_one d e f (Split p t) (point, piece, inside, path, hook, is) (also_point, also, side, way, hooked, same) =
+    let one = one_hook t p path way piece.0 hook hooked in
+    is ∙ ap (λ (l : List GridPoint). redraw t l d) one ∙ sym same
+permitted_is_one d e f (Meet t u x) (piece_t, piece_u, order, cross, meet, path, other, hook_t, hook_u, is)
+    (also_t, also_u, ordered, crossed, met, way, another, hooked_t, hooked_u, same) =
+    let one_t = one_hook t x path way piece_t.0 hook_t hooked_t in
+    let one_u = one_hook u x other another piece_u.0 hook_u hooked_u in
+    is ∙ ap (λ (l : List GridPoint). redraw u other (redraw t l d)) one_t
+    ∙ ap (λ (l : List GridPoint). redraw u l (redraw t way d)) one_u ∙ sym same
+permitted_is_one d e f (Corner t u) (piece_t, piece_u, cross, diagonal_t, rises, diagonal_u, falls, z, cell, is)
+    (also_t, also_u, crossed, even_t, up, even_u, down, y, in_cell, same) =
+    let real = (crossing_is_place t u cross).first.real in
+    let one = one_cell (crossing_of t u) z y real cell in_cell in
+    is ∙ ap (λ (c : GridPoint). redraw u (round_corner u c) (redraw t (cut_at t c) d)) one ∙ sym same
+
+-- ---- what stays
+redraw_stays_below : (t : GridSegment) (path : List GridPoint) (d : Drawing) (id : ℕ) → AllBelow id d
+    → AllBelow id (redraw t path d)
+redraw_stays_below t path d id below = All-map (λ o. o.id < id) (redrawn_original t path) d.originals below
+
+-- a step changes the chains alone: each id that is greater than all is so still
+pub ids_stay : (d e : Drawing) (step : Step) → Permitted d step e → (id : ℕ) → AllBelow id d → AllBelow id e
+ids_stay d e (Split p t) (point, piece, inside, path, hook, is) id below =
+    subst (AllBelow id) (sym is) (redraw_stays_below t path d id below)
+ids_stay d e (Meet t u x) (piece_t, piece_u, order, cross, meet, path, other, hook_t, hook_u, is) id below =
+    subst (AllBelow id) (sym is)
+    (redraw_stays_below u other (redraw t path d) id (redraw_stays_below t path d id below))
+ids_stay d e (Corner t u) (piece_t, piece_u, cross, diagonal_t, rises, diagonal_u, falls, z, cell, is) id below =
+    subst (AllBelow id) (sym is)
+    (redraw_stays_below u (round_corner u z) (redraw t (cut_at t z) d) id (redraw_stays_below t (cut_at t z) d id below))
+
+-- and the explicit points are those that there were
+pub explicit_points_stay : (d e : Drawing) (step : Step) → Permitted d step e → e.points ≡ d.points
+explicit_points_stay d e (Split p t) (point, piece, inside, path, hook, is) = ap (λ (f : Drawing). f.points) is
+explicit_points_stay d e (Meet t u x) (piece_t, piece_u, order, cross, meet, path, other, hook_t, hook_u, is) =
+    ap (λ (f : Drawing). f.points) is
+explicit_points_stay d e (Corner t u) (piece_t, piece_u, cross, diagonal_t, rises, diagonal_u, falls, z, cell, is) =
+    ap (λ (f : Drawing). f.points) is
+
+-- ---- where a step is permitted
+-- its point is inside its piece, or its pieces cross
+pub no_violation_no_step : (d e : Drawing) (step : Step) → Permitted d step e → HasViolation d
+no_violation_no_step d e (Split p t) (point, piece, inside, path, hook, is) = PointInside p t point piece inside
+no_violation_no_step d e (Meet t u x) (piece_t, piece_u, order, cross, meet, path, other, hook_t, hook_u, is) =
+    TwoCross t u piece_t piece_u cross
+no_violation_no_step d e (Corner t u) (piece_t, piece_u, cross, diagonal_t, rises, diagonal_u, falls, z, cell, is) =
+    TwoCross t u piece_t piece_u cross

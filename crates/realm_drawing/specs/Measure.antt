@@ -1,0 +1,22 @@
+-- How many links the chains of a drawing have, and how many they can have at most.
+use Rattle.std.specs.Prelude.{ℕ, ◌+◌, ◌-◌, List, length, sum_by}
+use Rattle.grid_base.specs.Point.{GridPoint}
+use Rattle.grid_base.specs.Segment.{GridSegment, width, height}
+use Rattle.grid_base.specs.Drawing.{Drawing}
+use Rattle.realm_drawing.specs.Straight.{along}
+
+-- how many links the chain has
+abbrev pub links_in : List GridPoint → ℕ
+links_in chain = length chain - 1
+
+-- how many links a chain of o has at most: one for each column and each row
+abbrev pub most_links : GridSegment → ℕ
+most_links o = width o + height o
+
+-- how many links the chains of d have together
+abbrev pub links_of : Drawing → ℕ
+links_of d = sum_by (λ o. links_in o.chain) d.originals
+
+-- and how many they have at most
+abbrev pub most_links_of : Drawing → ℕ
+most_links_of d = sum_by (λ o. most_links (along o)) d.originals

@@ -1,0 +1,64 @@
+-- The one or two redrawings of a step. No public clause cites this file.
+use Rattle.std.specs.Prelude.{◌≡◌, ◌≢◌, ◌⊎◌, ◌<◌, ℕ, Option, Some, None, MatchOption, List, length, All, Any, HoldsAt}
+use Rattle.grid_base.specs.Point.{GridPoint, IsBefore}
+use Rattle.grid_base.specs.Segment.{GridSegment}
+use Rattle.grid_base.specs.Drawing.{HasLink}
+use Rattle.grid_base.specs.declared.original.Original.{Original}
+use Rattle.hook_chain.specs.Chains.{Leads}
+use Rattle.hook_chain.specs.Redrawing.{redrawn}
+use Rattle.hook_chain.specs.ValidChain.{ValidChain}
+use Rattle.realm_drawing.specs.declared.redrawing.Redrawing.{Redrawing}
+use Rattle.realm_drawing.specs.declared.redrawing.Redrawings.{Redrawings}
+use Rattle.realm_drawing.specs.declared.redrawing.Replacement.{Replacement}
+
+-- the chain with the second path in the place of its piece, where there is a second
+abbrev pub redrawn_also : Option Redrawing → List GridPoint → List GridPoint
+redrawn_also None chain = chain
+redrawn_also (Some r) chain = redrawn r.piece r.path chain
+
+-- the chain with the paths of the step
+abbrev pub redrawn_by : Redrawings → List GridPoint → List GridPoint
+redrawn_by step chain = redrawn_also step.second (redrawn step.first.piece step.first.path chain)
+
+abbrev pub redrawn_original_by : Redrawings → Original → Original
+redrawn_original_by step o = record o { chain = redrawn_by step o.chain }
+
+-- the path may stand for the piece: it leads from its lesser end to its greater, and a chain that may stand for its
+-- original still may with the path in it
+pub record IsPathFor (r : Redrawing) : Type 0 where
+  pub ordered : IsBefore r.piece.a r.piece.b
+  pub leads : Leads r.piece.a r.piece.b r.path
+  pub keeps : (o : GridSegment) (chain : List GridPoint) → ValidChain o chain → ValidChain o (redrawn r.piece r.path chain)
+
+-- the two pieces differ, and neither is on the path of the other
+pub record AreApart (first second : Redrawing) : Type 0 where
+  pub other : second.piece ≢ first.piece
+  pub not_on_first : HasLink first.path second.piece → ⊥
+  pub not_on_second : HasLink second.path first.piece → ⊥
+
+-- the paths may stand for the pieces, one beside the other
+pub record AreRedrawings (step : Redrawings) : Type 0 where
+  pub first : IsPathFor step.first
+  pub second : MatchOption step.second (Unit {0}) (λ r. IsPathFor r × AreApart step.first r)
+
+-- r has the chain with the paths of the step for the original at its place
+pub record IsReplacement (step : Redrawings) (originals : List Original) (r : Replacement) : Type 0 where
+  pub within : r.place < length originals
+  pub chain : HoldsAt (λ o. r.chain ≡ redrawn_by step o.chain) originals r.place
+
+-- there is a replacement for place i
+abbrev pub HasReplacement : List Replacement → ℕ → Type 0
+HasReplacement list i = Any (λ r. r.place ≡ i) list
+
+-- the list has replacements alone, and one for each original whose chain is to change
+pub record AreReplacements (step : Redrawings) (originals : List Original) (list : List Replacement) : Type 0 where
+  pub each : All (IsReplacement step originals) list
+  pub all : (i : ℕ) → i < length originals
+      → HasReplacement list i ⊎ HoldsAt (λ o. redrawn_by step o.chain ≡ o.chain) originals i
+
+-- the list has replacements alone, those it had, and one for each original with the piece s
+pub record AddsReplacements (step : Redrawings) (originals : List Original) (s : GridSegment) (old new : List Replacement)
+    : Type 0 where
+  pub each : All (IsReplacement step originals) old → All (IsReplacement step originals) new
+  pub stay : (i : ℕ) → HasReplacement old i → HasReplacement new i
+  pub owners : (i : ℕ) → i < length originals → HoldsAt (λ o. HasLink o.chain s) originals i → HasReplacement new i

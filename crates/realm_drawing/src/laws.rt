@@ -1,0 +1,35 @@
+//! Laws of steps and chains, for crates above: functions with nothing to do, whose contracts are the laws.
+ghost use Rattle.std.specs.Prelude.{◌≡◌, ◌<◌, ◌≤◌, List};
+ghost use Rattle.grid_base.specs.Point.{GridPoint};
+ghost use Rattle.grid_base.specs.Segment.{GridSegment};
+ghost use Rattle.grid_base.specs.Drawing.{Drawing, HasViolation};
+ghost use Rattle.grid_base.specs.declared.kinds.Step.{Step};
+ghost use Rattle.hook_chain.specs.Steps.{Permitted};
+ghost use Rattle.hook_chain.specs.ValidChain.{ValidChain};
+ghost use Rattle.realm_drawing.specs.Chains.{AllValid, StandsFor};
+ghost use Rattle.realm_drawing.specs.Measure.{links_of, most_links_of};
+
+/// A step is permitted only at a violation, and leads to one drawing.
+pub fn step_mends()
+    ensures only_there { (d e : Drawing) (step : Step) → Permitted d step e → HasViolation d }
+    ensures one { (d e f : Drawing) (step : Step) → Permitted d step e → Permitted d step f → e ≡ f }
+{}
+
+/// A step keeps each chain such that it may stand for its original.
+pub fn step_keeps_chains()
+    ensures { (d e : Drawing) (step : Step) → AllValid d → Permitted d step e → AllValid e }
+{}
+
+/// What is promised of each chain that may stand for an original: it stays in the envelope, the ends of its close links
+/// are near, it passes no grid point on the wrong side, and it has few links.
+pub fn valid_chain_stands()
+    ensures { (o : GridSegment) (chain : List GridPoint) → ValidChain o chain → StandsFor o chain }
+{}
+
+/// Each step adds a link to some chain, and there is an end to that: the measure of settling.
+pub fn steps_end()
+    ensures adds { (d e : Drawing) (step : Step) → AllValid d → Permitted d step e → links_of d < links_of e }
+    ensures same_bound { (d e : Drawing) (step : Step) → AllValid d → Permitted d step e
+        → most_links_of e ≡ most_links_of d }
+    ensures bound { (d : Drawing) → AllValid d → links_of d ≤ most_links_of d }
+{}

@@ -1,0 +1,137 @@
+//! A path in the place of a piece of a chain. Where the chain passes the piece is found by a binary
+//! search: along a chain no coordinate turns back, so how many columns and rows it has come rises.
+ghost use Rattle.std.specs.Prelude.{◌≡◌, ◌≢◌, ◌<◌, ◌+◌, ◌-◌, ◌↔◌, ◌++◌, IsTrue, MatchOption, IfOk, All};
+ghost use Rattle.std.specs.Prelude.{length, take, drop, reverse};
+ghost use Rattle.grid_base.specs.Drawing.{HasLink};
+ghost use Rattle.hook_chain.specs.Chains.{Leads};
+ghost use Rattle.hook_chain.specs.Redrawing.{redrawn};
+ghost use Rattle.realm_drawing.specs.Chains.{IsSomeChain};
+ghost use Rattle.realm_drawing.specs.Passages as passages;
+ghost use Rattle.realm_drawing.specs.Passages.{IsPlaceAt, IsOnlyPlace, PassesAt};
+
+use grid_base::{NoMemory, Point, Segment};
+use std::alloc::Global;
+
+// Where a chain passes a piece: the place of the end by which it comes to it.
+enum Passage {
+    // from the lesser end to the greater
+    Forth(usize),
+    // from the greater end to the lesser
+    Back(usize),
+}
+
+// The chain with the path, which leads from the lesser end of the piece to the greater, in the place
+// of the piece.
+pub(crate) fn redrawn_points(
+    alloc: Global,
+    points: &[Point],
+    piece: &Segment,
+    path: &[Point],
+) -> Result<Vec<Point>, NoMemory>
+    requires chain { IsSomeChain points.now }
+    requires leads { Leads piece.now.a piece.now.b path.now }
+    ensures { IfOk result (λ list. list.items ≡ redrawn piece.now path.now points.now) }
+{
+    match passage_of(points, piece) {
+        Some(Passage::Forth(place)) => with_way(alloc, points, place, &path[..path.len() - 1]),
+        Some(Passage::Back(place)) => {
+            let way = backwards(alloc, &path[1..])?;
+            with_way(alloc, points, place, &way)
+        }
+        None => copied(alloc, points),
+    }
+}
+
+// The points with the way in the place of one of them.
+fn with_way(
+    alloc: Global,
+    points: &[Point],
+    place: usize,
+    way: &[Point],
+) -> Result<Vec<Point>, NoMemory>
+    requires within { place < length points.now }
+    ensures { IfOk result
+        (λ list. list.items ≡ take place points.now ++ way.now ++ drop (place + 1) points.now) }
+{
+    let mut list = Vec::new(alloc);
+    list.extend_from_slice(&points[..place])?;
+    list.extend_from_slice(way)?;
+    list.extend_from_slice(&points[place + 1..])?;
+    Ok(list)
+}
+
+// The same points.
+fn copied(alloc: Global, points: &[Point]) -> Result<Vec<Point>, NoMemory>
+    ensures { IfOk result (λ list. list.items ≡ points.now) }
+{
+    Ok(points.iter().copied().collect(alloc)?)
+}
+
+// The path from its last point to its first.
+fn backwards(alloc: Global, path: &[Point]) -> Result<Vec<Point>, NoMemory>
+    ensures { IfOk result (λ list. list.items ≡ reverse path.now) }
+{
+    Ok(path.iter().rev().copied().collect(alloc)?)
+}
+
+// Where the chain passes the piece, which it does at most once.
+fn passage_of(chain: &[Point], piece: &Segment) -> Option<Passage>
+    requires chain { IsSomeChain chain.now }
+    ensures { MatchOption result (HasLink chain.now piece.now → ⊥) (PassesAt chain.now piece.now) }
+{
+    let place = place_of_point(chain, &piece.a())?;
+    let other = piece.b();
+    if is_at(chain, place + 1, &other) {
+        Some(Passage::Forth(place))
+    } else if is_before(chain, place, &other) {
+        Some(Passage::Back(place - 1))
+    } else {
+        None
+    }
+}
+
+// Where the chain comes by `p`.
+fn place_of_point(chain: &[Point], p: &Point) -> Option<usize>
+    requires chain { IsSomeChain chain.now }
+    ensures { MatchOption result (All (λ q. q ≢ p.now) chain.now) (IsPlaceAt chain.now p.now) }
+{
+    let place = only_place(chain, p)?;
+    if is_at(chain, place, p) {
+        Some(place)
+    } else {
+        None
+    }
+}
+
+// The one place where the chain can come by `p`: where it has come as far.
+fn only_place(chain: &[Point], p: &Point) -> Option<usize>
+    requires chain { IsSomeChain chain.now }
+    ensures { MatchOption result (All (λ q. q ≢ p.now) chain.now) (IsOnlyPlace chain.now p.now) }
+{
+    let first = chain.first()?;
+    let reach = progress(first, p);
+    chain
+        .binary_search_by_key(&reach, |q| progress(first, q))
+        .ok()
+}
+
+// Whether `p` stands at this place of the chain.
+fn is_at(chain: &[Point], place: usize, p: &Point) -> bool
+    ensures { IsTrue result ↔ IsPlaceAt chain.now p.now place }
+{
+    place < chain.len() && chain[place] == *p
+}
+
+// Whether `p` stands right before this place of the chain.
+fn is_before(chain: &[Point], place: usize, p: &Point) -> bool
+    ensures { IsTrue result ↔ ((0 < place) × IsPlaceAt chain.now p.now (place - 1)) }
+{
+    place > 0 && is_at(chain, place - 1, p)
+}
+
+// How far a chain from `first` has come at `p`: each column counts one, and each row.
+fn progress(first: &Point, p: &Point) -> u32
+    ensures { result ≡ passages.progress first.now p.now }
+{
+    p.x() + p.y().abs_diff(first.y())
+}
