@@ -1,0 +1,57 @@
+-- This file shows that the search round a segment comes to all pieces that a violation there may have.
+use Rattle.std.proofs.Common.{◌≡◌, ℕ, ◌+◌, ◌<◌, List, [], ◌∷◌, ◌++◌, length, take, get_or, Contains, IsSomeAnd}
+use Rattle.std.proofs.Common.{sym, ap, subst, ◌∙◌, inl, inr}
+use Rattle.std.proofs.lemmas.List.{take_more}
+use Rattle.std.proofs.lemmas.List.Elements.{Contains-push_cases}
+use Rattle.grid_base.specs.Segment.{GridSegment, BoxesMeet}
+use Rattle.grid_base.specs.Drawing.{IsPiece}
+use Rattle.realm_drawing.specs.Chains.{AllValid}
+use Rattle.realm_drawing.specs.Keyed.{KeyedDrawing, HasKey, AreKeyed}
+use Rattle.realm_index.specs.Index.{Entries, HasKeysWhere}
+use Rattle.realm_insert.specs.Kept.{IsIndexed}
+use Rattle.realm_insert.specs.Clashes.{HasNoneInside, NoClash}
+use Rattle.realm_insert.specs.Work.{IsClean}
+use Rattle.realm_insert.proofs.CommonBoxes.{boxes_meet_at_end, boxes_meet_inside, boxes_meet_crossing}
+use Rattle.realm_insert.proofs.Vertices.{explicit_or_end}
+
+-- what holds of the first elements and of the next one
+pub next_too : {X : Type 0} (P : X → Type 0) (xs : List X) (i : ℕ) (d y : X) → i < length xs → y ≡ get_or xs i d
+    → ((x : X) → Contains (take i xs) x → P x) → P y → (x : X) → Contains (take (i + 1) xs) x → P x
+next_too P xs i d y within is before here x there =
+    let next = take_more xs i d within ∙ ap (λ z. take i xs ++ z ∷ []) (sym is) in
+    elim (Contains-push_cases (take i xs) y x (subst (λ l. Contains l x) next there)) [
+      | inl earlier ↦ before x earlier
+      | inr last ↦ subst P last here
+    ]
+
+module _ (P : GridSegment → Type 0) (d : KeyedDrawing) (index : Entries) (keys : List ℕ) (indexed : IsIndexed d index)
+    (keyed : AreKeyed d) (listed : HasKeysWhere P index keys) where
+  -- the index lists a key of each piece as P says
+  listed_key : (t : GridSegment) → IsPiece d.drawing t → P t → (k : ℕ) × (Contains keys k × HasKey d t k)
+  listed_key t piece is =
+      let has = keyed.some_key t piece in
+      let entry = (indexed t has.0).1 has.1 in
+      (has.0, ((listed.exact has.0).1 (subst (λ o. IsSomeAnd o P) (sym entry) is), has.1))
+
+  -- so what holds of each piece with a listed key holds of each piece as P says
+  pub of_listed : (Q : GridSegment → Type 0) → ((k : ℕ) → Contains keys k → (t : GridSegment) → HasKey d t k → Q t)
+      → (t : GridSegment) → IsPiece d.drawing t → P t → Q t
+  of_listed Q each t piece is = let found = listed_key t piece is in each found.0 found.1.0 t found.1.1
+
+-- no violation is left at s where no explicit point is inside it, and no piece whose box meets its box clashes with it
+pub clean_by : (d : KeyedDrawing) (index : Entries) (keys : List ℕ) (s : GridSegment) → AllValid d.drawing
+    → IsIndexed d index → AreKeyed d → HasKeysWhere (BoxesMeet s) index keys
+    → (IsPiece d.drawing s → HasNoneInside d.drawing s)
+    → ((k : ℕ) → Contains keys k → (t : GridSegment) → HasKey d t k → NoClash d.drawing s t) → IsClean d.drawing s
+clean_by d index keys s valid indexed keyed listed explicit each =
+    let clear = of_listed (BoxesMeet s) d index keys indexed keyed listed (NoClash d.drawing s) each in
+    record {
+      nothing_inside = λ p point piece inside. elim (explicit_or_end d.drawing p valid point) [
+        | inl there ↦ explicit piece p there inside
+        | inr (t, (is_piece, end)) ↦
+            (clear t is_piece (boxes_meet_inside s t p end inside)).no_end_of_t piece p end point inside
+      ];
+      no_end_inside = λ p t end point piece inside.
+          (clear t piece (boxes_meet_at_end s t p end inside)).no_end_of_s p end point inside;
+      no_crossing = λ t piece other cross. (clear t other (boxes_meet_crossing s t cross)).no_crossing piece cross;
+    }

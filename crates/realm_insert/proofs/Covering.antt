@@ -1,0 +1,116 @@
+-- This file shows which violations the pieces that are still to be looked at cover.
+use Rattle.std.proofs.Common.{◌≡◌, ◌-◌, Option, Some, None, List, [], ◌∷◌, ◌++◌, length, Any, inl, inr}
+use Rattle.std.proofs.Common.{refl, ap, subst, sym, ◌∙◌, arith}
+use Rattle.std.specs.Option.{option_to_list}
+use Rattle.std.specs.List.{slice_get}
+use Rattle.std.proofs.lemmas.Option.{slice_get_cases}
+use Rattle.std.proofs.lemmas.List.Elements.{Contains-append_left, Contains-append_right, Contains-push_cases}
+use Rattle.grid_base.specs.Point.{GridPoint}
+use Rattle.grid_base.specs.Segment.{GridSegment, IsEnd}
+use Rattle.grid_base.specs.Crossing.{Inside, Cross}
+use Rattle.grid_base.specs.Realm.{PointInside, TwoCross}
+use Rattle.grid_base.specs.Drawing.{Drawing, IsPiece, HasViolation}
+use Rattle.grid_base.specs.declared.kinds.Step.{Step}
+use Rattle.grid_base.proofs.Crossings.{Cross-swap}
+use Rattle.hook_chain.specs.Steps.{Permitted}
+use Rattle.realm_drawing.specs.Draws.{DrawsPieces}
+use Rattle.realm_drawing.proofs.Elements.{Any-nil, Any-single, Any-append_cases, Any-append_left, Any-append_right}
+use Rattle.realm_drawing.proofs.Elements.{Contains-nil}
+use Rattle.realm_insert.specs.Work.{IsCoveredBy, IsClean}
+
+-- p is an end of some piece of the list
+abbrev HasEnd : GridPoint → List GridSegment → Type 0
+HasEnd p list = Any (λ s. IsEnd p s) list
+
+-- ---- after a step
+-- A violation with a piece that wasn't there has a piece that the step draws, and one with a point that wasn't there an
+-- end of such a piece. All others were there before.
+pub covered_after : (d e : Drawing) (step : Step) (fresh drawn : List GridSegment) → IsCoveredBy d fresh
+    → Permitted d step e → DrawsPieces step drawn → IsCoveredBy e (fresh ++ drawn)
+covered_after d e step fresh drawn covered permitted draws =
+    let was = draws.all_pieces d e permitted in
+    record {
+      points = λ p t point piece inside. elim (was t piece) [
+        | inr listed ↦ inl (Contains-append_right fresh drawn t listed)
+        | inl old ↦ elim (draws.all_points d e permitted p point) [
+          | inr end ↦ inr (Any-append_right (λ s. IsEnd p s) fresh drawn end)
+          | inl old_point ↦ elim (covered.points p t old_point old.0 inside) [
+            | inl listed ↦ inl (Contains-append_left fresh drawn t listed)
+            | inr end ↦ inr (Any-append_left (λ s. IsEnd p s) fresh drawn end)
+          ]
+        ]
+      ];
+      crossings = λ t u piece_t piece_u cross. elim (was t piece_t) [
+        | inr listed ↦ inl (Contains-append_right fresh drawn t listed)
+        | inl old_t ↦ elim (was u piece_u) [
+          | inr listed ↦ inr (Contains-append_right fresh drawn u listed)
+          | inl old_u ↦ elim (covered.crossings t u old_t.0 old_u.0 cross) [
+            | inl listed ↦ inl (Contains-append_left fresh drawn t listed)
+            | inr listed ↦ inr (Contains-append_left fresh drawn u listed)
+          ]
+        ]
+      ];
+    }
+
+-- ---- after a look at a piece
+-- a clean piece has no part in a violation, so the list does without it
+pub covered_without : (d : Drawing) (fresh : List GridSegment) (s : GridSegment) → IsCoveredBy d (fresh ++ s ∷ [])
+    → IsClean d s → IsCoveredBy d fresh
+covered_without d fresh s covered clean = record {
+  points = λ p t point piece inside. elim (covered.points p t point piece inside) [
+    | inl listed ↦ elim (Contains-push_cases fresh s t listed) [
+      | inl rest ↦ inl rest
+      | inr same ↦ absurd (clean.nothing_inside p point
+          (subst (IsPiece d) (sym same) piece) (subst (Inside p) (sym same) inside))
+    ]
+    | inr end ↦ elim (Any-append_cases (λ s. IsEnd p s) fresh (s ∷ []) end) [
+      | inl rest ↦ inr rest
+      | inr last ↦ absurd (clean.no_end_inside p t (Any-single (λ s. IsEnd p s) s last) point piece inside)
+    ]
+  ];
+  crossings = λ t u piece_t piece_u cross. elim (covered.crossings t u piece_t piece_u cross) [
+    | inl listed ↦ elim (Contains-push_cases fresh s t listed) [
+      | inl rest ↦ inl rest
+      | inr same ↦ absurd (clean.no_crossing u
+          (subst (IsPiece d) (sym same) piece_t) piece_u (subst (λ (r : GridSegment). Cross r u) (sym same) cross))
+    ]
+    | inr listed ↦ elim (Contains-push_cases fresh s u listed) [
+      | inl rest ↦ inr rest
+      | inr same ↦ absurd (clean.no_crossing t (subst (IsPiece d) (sym same) piece_u) piece_t
+          (subst (λ (r : GridSegment). Cross r t) (sym same) (Cross-swap t u cross)))
+    ]
+  ];
+}
+
+-- an empty list covers no violation
+pub covered_by_none : (d : Drawing) → IsCoveredBy d [] → HasViolation d → ⊥
+covered_by_none d covered (PointInside p t point piece inside) =
+    elim (covered.points p t point piece inside) [
+      | inl listed ↦ Contains-nil t listed
+      | inr end ↦ Any-nil (λ s. IsEnd p s) end
+    ]
+covered_by_none d covered (TwoCross t u piece_t piece_u cross) =
+    elim (covered.crossings t u piece_t piece_u cross) [
+      | inl listed ↦ Contains-nil t listed
+      | inr listed ↦ Contains-nil u listed
+    ]
+
+-- ---- the end of the list
+-- so the list does without a clean piece that is taken from its end
+pub covered_after_pop : (d : Drawing) (fresh rest : List GridSegment) (s : GridSegment) (last : Option GridSegment)
+    → fresh ≡ rest ++ option_to_list last → last ≡ Some s → IsCoveredBy d fresh → IsClean d s → IsCoveredBy d rest
+covered_after_pop d fresh rest s last is last_is covered clean =
+    let parts = is ∙ ap (λ (o : Option GridSegment). rest ++ option_to_list o) last_is in
+    covered_without d rest s (subst (IsCoveredBy d) parts covered) clean
+
+-- a list without a last piece is empty
+no_last : (list : List GridSegment) → slice_get list (length list - 1) ≡ None → list ≡ []
+no_last [] none = refl
+no_last (s ∷ list) none = elim (slice_get_cases (s ∷ list) (length (s ∷ list) - 1)).1 [
+  | inl within ↦ let found = within.2 in absurd cc
+  | inr past ↦ absurd (omega arith)
+]
+
+pub covered_to_the_end : (d : Drawing) (list : List GridSegment) → slice_get list (length list - 1) ≡ None
+    → IsCoveredBy d list → HasViolation d → ⊥
+covered_to_the_end d list none covered = covered_by_none d (subst (IsCoveredBy d) (no_last list none) covered)

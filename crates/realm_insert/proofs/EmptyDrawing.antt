@@ -1,0 +1,51 @@
+-- This file shows that an engine may begin with the empty drawing.
+use Rattle.std.proofs.Common.{◌≡◌, ℕ, ◌<◌, None, Some, List, [], length, ap, sym, subst, ◌∙◌, arith}
+use Rattle.std.specs.FinMap as map
+use Rattle.std.specs.Ordering.{nat_cmp}
+use Rattle.std.proofs.lemmas.List.Elements.{All-nil}
+use Rattle.grid_base.specs.Segment.{GridSegment}
+use Rattle.grid_base.specs.Realm.{PointInside, TwoCross}
+use Rattle.grid_base.specs.Drawing.{HasViolation, HasLink}
+use Rattle.grid_base.specs.declared.original.Original.{Original}
+use Rattle.realm_drawing.specs.Chains.{HasValidChain}
+use Rattle.realm_drawing.specs.Keyed.{KeyedDrawing, empty_drawing, keyed}
+use Rattle.realm_drawing.specs.Straight.{AllBelow}
+use Rattle.realm_drawing.proofs.Elements.{Any-nil, Contains-nil}
+use Rattle.realm_index.specs.Index.{Entries}
+use Rattle.realm_insert.specs.Kept.{IsAtRest, IsSettled}
+use Rattle.realm_insert.specs.State.{KeptTrace}
+
+-- nothing is drawn, so nothing is violated
+empty_settled : HasViolation empty_drawing.drawing → ⊥
+empty_settled (PointInside p t point piece inside) = Any-nil (λ (o : Original). HasLink o.chain t) piece.1
+empty_settled (TwoCross t u piece_t piece_u cross) = Any-nil (λ (o : Original). HasLink o.chain t) piece_t.1
+
+no_entry : (s : GridSegment) (k : ℕ) (index : Entries) → index ≡ map.empty → map.get index k ≡ Some s → ⊥
+no_entry s k index is found =
+    let none : map.get index k ≡ None = ap (λ (i : Entries). map.get i k) is ∙ map.get-empty nat_cmp k in
+    cc
+
+-- the empty drawing is at rest
+empty_at_rest : (index : Entries) → index ≡ map.empty → IsAtRest empty_drawing index
+empty_at_rest index is = record {
+  settled = empty_settled;
+  valid = All-nil HasValidChain;
+  keyed = record {
+    some_key = λ s piece. absurd (Any-nil (λ (o : Original). HasLink o.chain s) piece.1);
+    of_pieces = λ s k has. absurd (Contains-nil (keyed s k) has);
+    one_key = λ s k j has also. absurd (Contains-nil (keyed s k) has);
+    one_piece = λ s t k has also. absurd (Contains-nil (keyed s k) has);
+  };
+  indexed = λ s k. (λ found. absurd (no_entry s k index is found), λ has. absurd (Contains-nil (keyed s k) has));
+}
+
+-- so an engine may begin with it
+pub empty_is_settled : (d : KeyedDrawing) (index : Entries) (traces : List KeptTrace) → d ≡ empty_drawing
+    → index ≡ map.empty → traces ≡ [] → IsSettled d index 1 0 traces
+empty_is_settled d index traces is_d is_index is_traces = record {
+  rest = subst (λ (e : KeyedDrawing). IsAtRest e index) (sym is_d) (empty_at_rest index is_index);
+  ids_below = subst (λ (e : KeyedDrawing). AllBelow 1 e.drawing) (sym is_d) (All-nil (λ (o : Original). o.id < 1));
+  most_ids = omega arith;
+  most_changes = omega arith;
+  few_traces = omega (arith, ap (λ (l : List KeptTrace). length l) is_traces);
+}

@@ -1,0 +1,10 @@
+use Rattle.std.proofs.Common.{ℕ, take, Contains}
+use Rattle.grid_base.specs.Segment.{GridSegment}
+use Rattle.grid_base.specs.Crossing.{Inside}
+use Rattle.realm_drawing.specs.Keyed.{HasKey}
+use Rattle.realm_insert.proofs.searching.pieces_round.Given as goal
+
+-- each piece so far that has the point inside is listed
+abbrev pub invariant-loop-key : goal.invariant-loop-key
+invariant-loop-key l = (k : ℕ) → Contains (take l.key-index l.key-items) k
+    → (t : GridSegment) → HasKey l.drawing t k → Inside l.p t → Contains l.list.items t

@@ -1,0 +1,8 @@
+use Rattle.realm_insert.proofs.FoundSteps.{split_is_permitted}
+use Rattle.realm_insert.proofs.searching.split_at.Goals as goal
+
+-- a point inside a piece splits it
+pub returns-then-in_side : goal.returns-then-in_side
+returns-then-in_side c =
+    split_is_permitted c.args.drawing.now.drawing c.args.p.now c.args.t.now (c.is_point.ensures.0 c.if-is_point.true)
+    c.requires.piece (c.in_side.ensures.0 c.if-in_side.true)

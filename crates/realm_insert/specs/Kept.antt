@@ -1,0 +1,33 @@
+-- What every engine that isn't spent is like.
+use Rattle.std.specs.Prelude.{◌≡◌, ◌↔◌, ℕ, ◌≤◌, ◌^◌, Bool, false, Some, List, length}
+use Rattle.std.specs.FinMap as map
+use Rattle.grid_base.specs.Segment.{GridSegment}
+use Rattle.grid_base.specs.Drawing.{HasViolation}
+use Rattle.realm_drawing.specs.Straight.{AllBelow}
+use Rattle.realm_drawing.specs.Chains.{AllValid}
+use Rattle.realm_drawing.specs.Keyed.{KeyedDrawing, HasKey, AreKeyed}
+use Rattle.realm_index.specs.Index.{Entries}
+use Rattle.realm_insert.specs.State.{KeptTrace}
+
+-- the index has each piece under its key, and nothing else
+abbrev pub IsIndexed : KeyedDrawing → Entries → Type 0
+IsIndexed d index = (s : GridSegment) (k : ℕ) → (map.get index k ≡ Some s) ↔ HasKey d s k
+
+-- the drawing has no violation, each of its chains may stand for its original, and the index has its pieces
+pub record IsAtRest (d : KeyedDrawing) (index : Entries) : Type 0 where
+  pub settled : HasViolation d.drawing → ⊥
+  pub valid : AllValid d.drawing
+  pub keyed : AreKeyed d
+  pub indexed : IsIndexed d index
+
+-- so it is, ids are below the next one, and the numbers are in their bounds
+pub record IsSettled (d : KeyedDrawing) (index : Entries) (next_id changes : ℕ) (traces : List KeptTrace) : Type 0 where
+  pub rest : IsAtRest d index
+  pub ids_below : AllBelow next_id d.drawing
+  pub most_ids : next_id ≤ 2 ^ 32
+  pub most_changes : changes ≤ 2 ^ 63
+  pub few_traces : length traces ≤ 16
+
+-- this holds unless the engine is spent
+abbrev pub IsKept : Bool → KeyedDrawing → Entries → ℕ → ℕ → List KeptTrace → Type 0
+IsKept spent d index next_id changes traces = spent ≡ false → IsSettled d index next_id changes traces

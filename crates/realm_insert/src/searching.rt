@@ -1,0 +1,192 @@
+//! The search for violations round one piece.
+ghost use Rattle.std.specs.Prelude.{◌≡◌, ◌↔◌, ℕ, IfOk, MatchOption, IsTrue, Contains};
+ghost use Rattle.grid_base.specs.Point.{InBox};
+ghost use Rattle.grid_base.specs.Segment.{GridSegment, BoxesMeet};
+ghost use Rattle.grid_base.specs.Crossing.{Inside};
+ghost use Rattle.grid_base.specs.Drawing.{IsPoint, IsPiece};
+ghost use Rattle.realm_drawing.specs.Chains.{AllValid};
+ghost use Rattle.realm_drawing.specs.Keyed.{HasKey};
+ghost use Rattle.realm_drawing.specs.Mending.{IsPermitted};
+ghost use Rattle.realm_index.specs.Index.{HasKeysWhere};
+ghost use Rattle.realm_insert.specs.Kept.{IsIndexed};
+ghost use Rattle.realm_insert.specs.Clashes.{HasNoneInside, HasNoEndInside, NoClash};
+ghost use Rattle.realm_insert.specs.Work.{IsClean};
+
+use grid_base::{NoMemory, Point, Segment, Step, Steps, in_side};
+use realm_drawing::{Drawing, crossing_step};
+use realm_index::Index;
+use std::alloc::Global;
+use std::marker::Brand;
+use std::sync::ledger::{Blank, Ledger};
+
+// A step that mends a violation with `s` or an end of it; none where there is none.
+pub(crate) fn violation_at(
+    drawing: &Drawing,
+    index: &Index,
+    s: &Segment,
+) -> Result<Option<Step>, NoMemory>
+    requires indexed { IsIndexed drawing.now index.now }
+    requires valid { AllValid drawing.now.drawing }
+    ensures { IfOk result
+        (λ found. MatchOption found (IsClean drawing.now.drawing s.now) (IsPermitted drawing.now.drawing)) }
+{
+    let is_piece = drawing.key(s).is_some();
+    if is_piece {
+        if let Some(step) = explicit_inside(drawing, s)? {
+            return Ok(Some(step));
+        }
+    }
+    let keys = meeting(index, s)?;
+    Ok(clash_among(drawing, s, is_piece, keys.as_slice()))
+}
+
+// The step to an explicit point inside the piece `s`.
+fn explicit_inside(drawing: &Drawing, s: &Segment) -> Result<Option<Step>, NoMemory>
+    requires piece { IsPiece drawing.now.drawing s.now }
+    ensures { IfOk result (λ found.
+        MatchOption found (HasNoneInside drawing.now.drawing s.now) (IsPermitted drawing.now.drawing)) }
+{
+    let points = drawing.explicit_in(s)?;
+    for p in &points {
+        if in_side(s, p) {
+            return Ok(Some(Step::Split { p: *p, t: *s }));
+        }
+    }
+    Ok(None)
+}
+
+// A step that mends a violation of `s` and a piece with one of the keys.
+fn clash_among(drawing: &Drawing, s: &Segment, is_piece: bool, keys: &[usize]) -> Option<Step>
+    requires is_piece { IsTrue is_piece ↔ IsPiece drawing.now.drawing s.now }
+    ensures { MatchOption result
+        ((k : ℕ) → Contains keys.now k
+        → (t : GridSegment) → HasKey drawing.now t k → NoClash drawing.now.drawing s.now t)
+        (IsPermitted drawing.now.drawing) }
+{
+    for key in keys {
+        if let Some(step) = clash_at(drawing, s, is_piece, *key) {
+            return Some(step);
+        }
+    }
+    None
+}
+
+// A step that mends a violation of `s` and the piece with this key.
+fn clash_at(drawing: &Drawing, s: &Segment, is_piece: bool, key: usize) -> Option<Step>
+    requires is_piece { IsTrue is_piece ↔ IsPiece drawing.now.drawing s.now }
+    ensures { MatchOption result
+        ((t : GridSegment) → HasKey drawing.now t key → NoClash drawing.now.drawing s.now t)
+        (IsPermitted drawing.now.drawing) }
+{
+    match drawing.piece(key) {
+        Some(t) => clash(drawing, s, is_piece, &t),
+        None => None,
+    }
+}
+
+// A step that mends a violation of `s` and the piece `t`.
+fn clash(drawing: &Drawing, s: &Segment, is_piece: bool, t: &Segment) -> Option<Step>
+    requires is_piece { IsTrue is_piece ↔ IsPiece drawing.now.drawing s.now }
+    requires other { IsPiece drawing.now.drawing t.now }
+    ensures { MatchOption result (NoClash drawing.now.drawing s.now t.now) (IsPermitted drawing.now.drawing) }
+{
+    if let Some(step) = end_inside(drawing, s, t) {
+        return Some(step);
+    }
+    if !is_piece {
+        return None;
+    }
+    if let Some(step) = end_inside(drawing, t, s) {
+        return Some(step);
+    }
+    crossing_step(s, t)
+}
+
+// The step to an end of `s` inside the piece `t`.
+fn end_inside(drawing: &Drawing, s: &Segment, t: &Segment) -> Option<Step>
+    requires piece { IsPiece drawing.now.drawing t.now }
+    ensures { MatchOption result (HasNoEndInside drawing.now.drawing s.now t.now) (IsPermitted drawing.now.drawing) }
+{
+    if let Some(step) = split_at(drawing, &s.a(), t) {
+        return Some(step);
+    }
+    split_at(drawing, &s.b(), t)
+}
+
+// The step to `p` inside the piece `t`; none where `p` is no point or isn't inside it.
+fn split_at(drawing: &Drawing, p: &Point, t: &Segment) -> Option<Step>
+    requires piece { IsPiece drawing.now.drawing t.now }
+    ensures { MatchOption result (IsPoint drawing.now.drawing p.now → Inside p.now t.now → ⊥)
+        (IsPermitted drawing.now.drawing) }
+{
+    if drawing.is_point(p) && in_side(t, p) {
+        Some(Step::Split { p: *p, t: *t })
+    } else {
+        None
+    }
+}
+
+// The keys of the pieces whose boxes meet that of `s`.
+fn meeting(index: &Index, s: &Segment) -> Result<Vec<usize>, NoMemory>
+    ensures { IfOk result (λ keys. HasKeysWhere (BoxesMeet s.now) index.now keys.items) }
+{
+    meeting_counted::<Brand>(index, s, Blank::new(1))
+}
+
+fn meeting_counted<L: Ledger>(
+    index: &Index,
+    s: &Segment,
+    blank: Blank,
+) -> Result<Vec<usize>, NoMemory>
+    requires parts { blank.parts ≡ 1 }
+    requires same { (L.name ≡ blank.name) × (L.parts ≡ blank.parts) }
+    ensures { IfOk result (λ keys. HasKeysWhere (BoxesMeet s.now) index.now keys.items) }
+{
+    let mut steps = Steps::<L>::new(blank);
+    index.meeting(s, &mut steps)
+}
+
+// The keys of the pieces whose boxes hold `p`.
+fn holding(index: &Index, p: &Point) -> Result<Vec<usize>, NoMemory>
+    ensures { IfOk result (λ keys. HasKeysWhere (λ t. InBox t.a t.b p.now) index.now keys.items) }
+{
+    holding_counted::<Brand>(index, p, Blank::new(1))
+}
+
+fn holding_counted<L: Ledger>(
+    index: &Index,
+    p: &Point,
+    blank: Blank,
+) -> Result<Vec<usize>, NoMemory>
+    requires parts { blank.parts ≡ 1 }
+    requires same { (L.name ≡ blank.name) × (L.parts ≡ blank.parts) }
+    ensures { IfOk result (λ keys. HasKeysWhere (λ t. InBox t.a t.b p.now) index.now keys.items) }
+{
+    let mut steps = Steps::<L>::new(blank);
+    index.on_point(p, &mut steps)
+}
+
+// The pieces that have `p` inside.
+pub(crate) fn pieces_round(
+    alloc: Global,
+    drawing: &Drawing,
+    index: &Index,
+    p: &Point,
+) -> Result<Vec<Segment>, NoMemory>
+    requires indexed { IsIndexed drawing.now index.now }
+    ensures { IfOk result (λ list. (t : GridSegment)
+        → IsPiece drawing.now.drawing t → Inside p.now t → Contains list.items t) }
+{
+    // That each piece has a key is known where one is read.
+    let _keyed = drawing.piece(0);
+    let keys = holding(index, p)?;
+    let mut list = Vec::new(alloc);
+    for key in &keys {
+        if let Some(t) = drawing.piece(*key) {
+            if in_side(&t, p) {
+                list.push(t)?;
+            }
+        }
+    }
+    Ok(list)
+}
