@@ -1,7 +1,9 @@
--- the texts of numbers and of segment commands
-mod Texts
--- how a segment line is judged
-mod Judgements
+-- what settles a drawing leaves no violation
+mod Traces
+-- what the engine promises of a new segment
+mod Promises
+-- what the engine answers a new segment is what the store answers
+mod ChangeAnswers
 -- each state of a session is a realm
 mod Realms
 -- runs of calls go on

@@ -2,14 +2,8 @@
 pub mod Status
 -- bytes, cut into lines
 pub mod Lines
--- the commands and their texts
-pub mod Commands
 -- the bytes of each reply
 pub mod Replies
--- the state of a store
-pub mod State
--- what every store is like
-pub mod Kept
 -- what each line is answered
 pub mod Answers
 -- bytes that are given, whole or in part

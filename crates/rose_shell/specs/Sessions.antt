@@ -3,8 +3,8 @@ use Rattle.std.specs.Prelude.{◌≡◌, ◌^◌, ℕ, List, [], ◌∷◌, All,
 use Rattle.outside_world.specs.View.{View}
 use Rattle.outside_world.specs.declared.world.FileName.{FileName}
 use Rattle.grid_base.specs.Drawing.{IsDrawnRealm}
-use Rattle.rose_shell.specs.State.{State, empty_state}
-use Rattle.rose_shell.specs.Answers.{AnswersLine}
+use Rattle.realm_insert.specs.State.{SpendableState, fresh_state}
+use Rattle.rose_shell.specs.Answers.{StoreAnswers}
 use Rattle.rose_shell.specs.Session.{Served}
 use Rattle.rose_shell.specs.declared.status.Status.{Status}
 
@@ -13,15 +13,15 @@ abbrev pub IsRunWord : List (List ℕ) → Type 0
 IsRunWord words = words ≡ codes "run" ∷ []
 
 -- there are no files yet, so any files stand for any state
-abbrev pub StandsAlways : State → (FileName → List ℕ) → Type 0
+abbrev pub StandsAlways : SpendableState → (FileName → List ℕ) → Type 0
 StandsAlways state files = Unit {0}
 
 -- the store has served the world, and after each line its drawing is a realm
-pub record HasServed (old new : View) (start end : State) (budget : ℕ) (status : Status) : Type 0 where
-  pub session : Served AnswersLine StandsAlways old new start end budget status
-  pub realms : All (λ turn. IsDrawnRealm turn.after.drawing) session.turns
+pub record HasServed (old new : View) (start end : SpendableState) (budget : ℕ) (status : Status) : Type 0 where
+  pub session : Served StoreAnswers StandsAlways old new start end budget status
+  pub realms : All (λ turn. IsDrawnRealm turn.after.state.drawing) session.turns
 
 -- a store has served the world from the empty state on, with the budget of a run
 pub record HasRun (old new : View) (status : Status) : Type 0 where
-  pub end : State
-  pub served : HasServed old new empty_state end (2 ^ 40) status
+  pub end : SpendableState
+  pub served : HasServed old new fresh_state end (2 ^ 40) status

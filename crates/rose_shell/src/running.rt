@@ -1,7 +1,6 @@
 //! The calls of the program: the words choose what is done, and the loop answers line by line.
-ghost use Rattle.std.specs.Prelude.{◌≡◌, ◌≢◌, ◌≤◌, ◌^◌, ◌⊎◌, ◌↔◌, IsTrue, length, map, string_bytes, codes};
+ghost use Rattle.std.specs.Prelude.{◌≡◌, ◌≢◌, ◌≤◌, ◌^◌, ◌⊎◌, ◌↔◌, IsTrue, false, length, map, string_bytes, codes};
 ghost use Rattle.outside_world.specs.Counts.{Rose, KeepsCounts};
-ghost use Rattle.rose_shell.specs.State.{empty_state};
 ghost use Rattle.rose_shell.specs.Sessions.{IsRunWord, HasServed, HasRun};
 
 use crate::serving::serve_desk;
@@ -70,6 +69,7 @@ pub fn serve<R: Threads + Sync, W: Outside>(
     world: &mut W,
     budget: u64,
 ) -> Status
+    requires ready { store.old.spent ≡ false }
     ensures never_usage { result ≢ Status.Usage }
     ensures source_fault { result ≡ Status.SourceFault
         → Rose (W.source_faults world.old) (W.source_faults world.new) }
@@ -81,10 +81,13 @@ pub fn serve<R: Threads + Sync, W: Outside>(
         → ¬ (Rose (W.sink_faults world.old) (W.sink_faults world.new))
         → length (W.view world.old).left ≤ budget
         → (result ≡ Status.Done) ⊎ (result ≡ Status.NoMemory) }
+    ensures ready { result ≢ Status.NoMemory → store.new.spent ≡ false }
     ensures later { KeepsCounts (W.source_faults world.old) (W.source_faults world.new)
         (W.sink_faults world.old) (W.sink_faults world.new) }
     ensures still { W.tells world.new → W.tells world.old }
 {
+    // The session begins with a realm.
+    let _drawing = store.drawing();
     let alloc = store.allocator();
     serve_desk(alloc, store, world, budget)
 }

@@ -1,6 +1,6 @@
 //! The store at the desk.
-ghost use Rattle.std.specs.Prelude.{ℕ, List};
-ghost use Rattle.rose_shell.specs.Answers.{AnswersLine};
+ghost use Rattle.std.specs.Prelude.{◌≡◌, ℕ, List, false};
+ghost use Rattle.rose_shell.specs.Answers.{StoreAnswers};
 ghost use Rattle.rose_shell.specs.Sessions.{StandsAlways};
 
 use crate::answering::Desk;
@@ -10,9 +10,9 @@ use outside_world::Outside;
 use std::alloc::Global;
 
 impl<W: Outside> Desk<W> for Store {
-    ghost ready = { λ _. Unit {0} };
+    ghost ready = { λ s. s.spent ≡ false };
 
-    ghost answers = { AnswersLine };
+    ghost answers = { StoreAnswers };
 
     ghost stands = { StandsAlways };
 
