@@ -2,10 +2,10 @@
 //! beginning of a change to its end, so want of memory leaves it spent.
 ghost use Rattle.std.specs.Prelude.{◌≡◌, ◌≢◌, ◌⊎◌, ◌↔◌, ◌+◌, ◌≤◌, ◌<◌, ◌^◌, ℕ, true, false, List, [], ◌∷◌, ◌++◌};
 ghost use Rattle.std.specs.Prelude.{length, Contains, Err, IfOk, OnOk, MatchResult, IfSome, IsNone};
-ghost use Rattle.grid_base.specs.Drawing.{HasViolation, IsDrawnRealm};
+ghost use Rattle.grid_base.specs.Drawing.{Drawing as Drawn, HasViolation, IsDrawnRealm};
 ghost use Rattle.grid_base.specs.declared.kinds.Step.{Step as Seen};
 ghost use Rattle.realm_drawing.specs.Straight.{AllBelow, placed};
-ghost use Rattle.realm_insert.specs.State.{fresh_state, kept_trace, latest, DrawsSegment, MakesExplicit};
+ghost use Rattle.realm_insert.specs.State.{fresh_state, kept_trace, latest, DrawsSegment, HasPointToo, MakesExplicit};
 ghost use Rattle.realm_insert.specs.declared.applied.AddError.TheVariants.{Ids, Changes, NoMemory as Exhausted};
 
 use crate::applied::{AddError, Applied, Trace};
@@ -158,6 +158,9 @@ impl Engine {
         requires ready { self.old.spent ≡ false }
         ensures ok { IfOk result (λ applied. MakesExplicit self.old.state p applied.trace self.new.state
             × (applied.first ≡ self.old.state.next_id) × (applied.added ≡ 0)) }
+        ensures untouched { IfOk result (λ applied.
+            ((changed : Drawn) → HasPointToo self.old.state.drawing changed p → HasViolation changed → ⊥)
+            → (applied.trace ≡ []) × HasPointToo self.old.state.drawing self.new.state.drawing p) }
         ensures no_ids { result ≢ Err Ids }
         ensures changes { (result ≡ Err Changes) ↔ (2 ^ 63 ≤ self.old.state.changes) }
         ensures refused { result ≡ Err Changes → self.new ≡ self.old }
