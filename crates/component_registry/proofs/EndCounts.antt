@@ -2,8 +2,7 @@
 use Rattle.std.proofs.Common.{◌≡◌, ◌≢◌, ℕ, ◌+◌, ◌<◌, ◌^◌, Option, Some, is_some, IsSomeAnd, sym, ap, ◌∙◌, subst, ⊎_elim}
 use Rattle.std.specs.BTreeMap as tree
 use Rattle.std.specs.Map.{count_at}
-use Rattle.grid_base.specs.Point.{GridPoint}
-use Rattle.grid_base.proofs.Orders.{point_cmp}
+use Rattle.grid_base.specs.Point.{GridPoint, point_cmp}
 use Rattle.component_registry.specs.Ends.{Counts, found_in, uses_in, HasPlace, SameUses, SameOtherUses}
 use Rattle.component_registry.proofs.Lookups.{this_point_or_other, other_point_passed}
 

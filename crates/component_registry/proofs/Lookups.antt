@@ -3,9 +3,9 @@ use Rattle.std.proofs.Common.{◌≡◌, ◌≢◌, ◌⊎◌, Ordering, Less, E
 use Rattle.std.specs.Cmp.{IsTotalOrder}
 use Rattle.std.specs.Ordering.{is_eq}
 use Rattle.std.proofs.lemmas.Cmp.{tied_itself}
-use Rattle.grid_base.specs.Point.{GridPoint}
-use Rattle.grid_base.specs.Segment.{GridSegment}
-use Rattle.grid_base.proofs.Orders.{point_cmp, point_cmp-total, point_cmp-Equal, segment_cmp, segment_cmp-total, segment_cmp-Equal}
+use Rattle.grid_base.specs.Point.{GridPoint, point_cmp}
+use Rattle.grid_base.specs.Segment.{GridSegment, segment_cmp}
+use Rattle.grid_base.proofs.Orders.{point_cmp-total, point_cmp-Equal, segment_cmp-total, segment_cmp-Equal}
 
 module _ {K : Type 0} {R : K → K → Ordering} (total : IsTotalOrder R) (exact : (x y : K) → R x y ≡ Equal → x ≡ y) where
   -- two keys are one or not

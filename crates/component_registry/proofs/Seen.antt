@@ -11,8 +11,8 @@ use Rattle.std.proofs.lemmas.Option.{same_Some}
 use Rattle.std.proofs.lemmas.Map.Keys.{Less-from_sorted}
 use Rattle.std.proofs.lemmas.Map.Views.{btree_map_contains_key_iff}
 use Rattle.slab.specs.Slab as slab
-use Rattle.grid_base.specs.Segment.{GridSegment, IsSegmentBefore}
-use Rattle.grid_base.proofs.Orders.{segment_cmp, segment_cmp-total, segment_cmp-Less}
+use Rattle.grid_base.specs.Segment.{GridSegment, IsSegmentBefore, segment_cmp}
+use Rattle.grid_base.proofs.Orders.{segment_cmp-total, segment_cmp-Less}
 use Rattle.component_registry.specs.Registry.{Holding, Holdings, IsPiece, key_of, owners_of, IsSound}
 use Rattle.component_registry.specs.Kept.{Tree, Slots, held_in, seen_of, IsKept}
 use Rattle.component_registry.proofs.Lookups.{segment_exact}

@@ -7,8 +7,8 @@ use Rattle.std.proofs.lemmas.Option.{same_Some, none-some}
 use Rattle.std.proofs.lemmas.Bool.{cases_eq}
 use Rattle.slab.proofs.SlabLemmas.{Contains-cons_cases}
 use Rattle.slab.specs.Slab as slab
-use Rattle.grid_base.specs.Segment.{GridSegment}
-use Rattle.grid_base.proofs.Orders.{segment_cmp, segment_cmp-total}
+use Rattle.grid_base.specs.Segment.{GridSegment, segment_cmp}
+use Rattle.grid_base.proofs.Orders.{segment_cmp-total}
 use Rattle.component_registry.specs.Registry.{Holding, Holdings, holding_of, AddsOwner, DropsOwner}
 use Rattle.component_registry.specs.Kept.{Tree, Slots, held_in, seen_of, IsHeld, IsKept}
 use Rattle.component_registry.proofs.Lookups.{segment_exact, this_segment_or_other, other_segment_passed}

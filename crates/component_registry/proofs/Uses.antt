@@ -12,8 +12,8 @@ use Rattle.std.proofs.lemmas.Cmp.{tied_itself}
 use Rattle.std.proofs.lemmas.List.Sums.{sum_by-cons}
 use Rattle.std.proofs.lemmas.Option.{none-some}
 use Rattle.grid_base.specs.Point.{GridPoint, point_at, is_point}
-use Rattle.grid_base.specs.Segment.{GridSegment, IsEnd}
-use Rattle.grid_base.proofs.Orders.{segment_cmp, segment_cmp-total}
+use Rattle.grid_base.specs.Segment.{GridSegment, IsEnd, segment_cmp}
+use Rattle.grid_base.proofs.Orders.{segment_cmp-total}
 use Rattle.component_registry.specs.Registry.{Holding, Holdings, IsPiece, owners_of, is_end, times_end, uses_of, IsSound}
 use Rattle.component_registry.proofs.Lookups.{segment_exact, this_segment_or_other, other_segment_passed}
 

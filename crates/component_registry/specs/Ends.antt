@@ -3,9 +3,8 @@ use Rattle.std.specs.Prelude.{◌≡◌, ◌≢◌, ℕ, ◌+◌, ◌<◌, ◌^�
 use Rattle.std.specs.BTreeMap.{BTreeMap}
 use Rattle.std.specs.BTreeMap as tree
 use Rattle.std.specs.Map.{count_at}
-use Rattle.grid_base.specs.Point.{GridPoint}
+use Rattle.grid_base.specs.Point.{GridPoint, point_cmp}
 use Rattle.grid_base.specs.Segment.{GridSegment}
-use Rattle.grid_base.proofs.Orders.{point_cmp}
 use Rattle.component_registry.specs.Registry.{Holdings, IsSound, uses_of}
 
 -- a tree from points to counts

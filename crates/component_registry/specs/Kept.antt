@@ -7,8 +7,7 @@ use Rattle.std.specs.BTreeMap as tree
 use Rattle.std.specs.FinMap as map
 use Rattle.slab.specs.Slab.{Slab}
 use Rattle.slab.specs.Slab as slab
-use Rattle.grid_base.specs.Segment.{GridSegment}
-use Rattle.grid_base.proofs.Orders.{segment_cmp}
+use Rattle.grid_base.specs.Segment.{GridSegment, segment_cmp}
 use Rattle.component_registry.specs.Registry.{Holding, Holdings}
 
 -- a tree from pieces to what is held of them

@@ -7,9 +7,8 @@ use Rattle.std.specs.List.Sorted.{IsStrictlyIncreasing}
 use Rattle.std.specs.Coded.{Coded, code_by, coded×, coded_ℕ, coded_list}
 use Rattle.std.specs.FinMap as map
 use Rattle.grid_base.specs.Point.{GridPoint, is_point}
-use Rattle.grid_base.specs.Segment.{GridSegment}
+use Rattle.grid_base.specs.Segment.{GridSegment, segment_cmp}
 use Rattle.grid_base.specs.contracts.segment.Segment.{the_row}
-use Rattle.grid_base.proofs.Orders.{segment_cmp}
 
 -- what is held of a piece: its key, and its owners, ascending
 pub record Holding : Type 0 where

@@ -6,11 +6,10 @@ use Rattle.std.specs.FinMap as map
 use Rattle.std.proofs.lemmas.List.{get_or_default}
 use Rattle.std.proofs.lemmas.Option.{same_Some}
 use Rattle.grid_base.specs.Point.{GridPoint}
-use Rattle.grid_base.specs.Segment.{GridSegment}
+use Rattle.grid_base.specs.Segment.{GridSegment, segment_cmp}
 use Rattle.grid_base.specs.Drawing.{HasLink, IsPiece}
 use Rattle.grid_base.specs.declared.original.Original.{Original}
 use Rattle.grid_base.specs.declared.segment.Segment.{Segment}
-use Rattle.grid_base.proofs.Orders.{segment_cmp}
 use Rattle.component_registry.specs.Registry as registries
 use Rattle.component_registry.specs.Registry.{Holding, Holdings, key_of, owners_of, Owns}
 use Rattle.component_registry.proofs.Registries.{piece_from_owner}

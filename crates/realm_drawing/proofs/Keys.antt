@@ -7,8 +7,8 @@ use Rattle.std.specs.FinMap as map
 use Rattle.std.specs.FinMap.Entries.{find, below_all, is_sorted}
 use Rattle.std.proofs.lemmas.Option.{same_Some, none-some}
 use Rattle.std.proofs.lemmas.Cmp.{tied_itself}
-use Rattle.grid_base.specs.Segment.{GridSegment}
-use Rattle.grid_base.proofs.Orders.{segment_cmp, segment_cmp-total}
+use Rattle.grid_base.specs.Segment.{GridSegment, segment_cmp}
+use Rattle.grid_base.proofs.Orders.{segment_cmp-total}
 use Rattle.component_registry.specs.Registry.{Holding, Holdings, key_of}
 use Rattle.component_registry.proofs.Lookups.{this_segment_or_other, other_segment_passed}
 use Rattle.realm_drawing.specs.Keyed.{KeyedPiece, keyed}

@@ -12,8 +12,8 @@ use Rattle.std.proofs.lemmas.List.Kept.{AllPairs-filter}
 use Rattle.std.proofs.lemmas.List.{append-nil, map-append}
 use Rattle.std.proofs.lemmas.Map.Keys.{Less-from_sorted}
 use Rattle.std.proofs.lemmas.Map.Views.{range_contains-from_IsInRange, btree_set_contains_iff}
-use Rattle.grid_base.specs.Point.{GridPoint, point_at, InBox, IsBefore}
-use Rattle.grid_base.proofs.Orders.{point_cmp, point_cmp-total, point_cmp-Less}
+use Rattle.grid_base.specs.Point.{GridPoint, point_at, InBox, IsBefore, point_cmp}
+use Rattle.grid_base.proofs.Orders.{point_cmp-total, point_cmp-Less}
 use Rattle.component_registry.proofs.Lookups.{point_exact, this_point_or_other, other_point_passed}
 use Rattle.realm_drawing.proofs.Elements.{Contains-head, Contains-later, Contains-cons_cases, Contains-nil}
 
