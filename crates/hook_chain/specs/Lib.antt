@@ -8,8 +8,6 @@ pub mod Hook
 pub mod ValidChain
 -- a path in the place of a piece
 pub mod Redrawing
--- steps and traces
-pub mod Steps
 -- least fractions above another
 pub mod Fractions
 -- a part of a hook in columns and rows of its own

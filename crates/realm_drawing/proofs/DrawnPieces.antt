@@ -6,7 +6,7 @@ use Rattle.grid_base.specs.Drawing.{Drawing, HasLink, IsPiece, IsPoint}
 use Rattle.grid_base.specs.declared.original.Original.{Original}
 use Rattle.grid_base.specs.declared.kinds.Step.{Step}
 use Rattle.grid_base.specs.declared.kinds.Step.TheVariants.{Split, Meet, Corner}
-use Rattle.hook_chain.specs.Steps.{Permitted}
+use Rattle.realm_drawing.specs.Steps.{Permitted}
 use Rattle.realm_drawing.specs.Draws.{DrawsPieces}
 use Rattle.realm_drawing.specs.DrawnLinks.{IsRedrawn, IsDrawn, IsPassed, ListsLinks}
 use Rattle.realm_drawing.specs.Mending.{HasParts, IsRedrawingsOf, redrawn_drawing}

@@ -14,8 +14,8 @@ use Rattle.grid_base.proofs.Ends.{same_point}
 use Rattle.grid_base.proofs.Balances.{factor_cancels}
 use Rattle.grid_rational.proofs.Crossings.{crossing_is_place}
 use Rattle.hook_chain.specs.Redrawing.{redraw, redrawn_original, round_corner, cut_at}
-use Rattle.hook_chain.specs.Steps.{Permitted}
 use Rattle.hook_chain.proofs.HookLaw.{one_hook}
+use Rattle.realm_drawing.specs.Steps.{Permitted}
 use Rattle.realm_drawing.specs.Straight.{AllBelow}
 
 -- ---- one drawing

@@ -12,8 +12,8 @@ use Rattle.grid_base.specs.declared.kinds.Step.TheVariants.{Split, Meet, Corner}
 use Rattle.grid_base.proofs.Crossings.{cross_no_end}
 use Rattle.hook_chain.specs.Hook.{Hook, IsBent}
 use Rattle.hook_chain.specs.Redrawing.{redrawn, redrawn_original, redraw, round_corner, cut_at}
-use Rattle.hook_chain.specs.Steps.{Permitted}
 use Rattle.hook_chain.proofs.HookLaw.{a_is_on, b_is_on}
+use Rattle.realm_drawing.specs.Steps.{Permitted}
 use Rattle.realm_drawing.specs.Straight.{along}
 use Rattle.realm_drawing.specs.Chains.{AllValid, HasValidChain}
 use Rattle.realm_drawing.specs.Measure.{links_in, most_links, links_of, most_links_of}

@@ -12,8 +12,8 @@ use Rattle.grid_base.proofs.Turns.{on_is}
 use Rattle.segment_envelope.proofs.MeetPoints.{meet_point_near}
 use Rattle.segment_envelope.proofs.Sizes.{on_line_is_near}
 use Rattle.hook_chain.specs.Redrawing.{redrawn, redrawn_original, redraw, round_corner, cut_at}
-use Rattle.hook_chain.specs.Steps.{Permitted}
 use Rattle.hook_chain.specs.ValidChain.{ValidChain}
+use Rattle.realm_drawing.specs.Steps.{Permitted}
 use Rattle.realm_drawing.specs.Straight.{along}
 use Rattle.realm_drawing.specs.Chains.{HasValidChain, AllValid}
 use Rattle.realm_drawing.proofs.RedrawnChains.{redrawn_valid}

@@ -5,7 +5,7 @@ use Rattle.grid_base.specs.Segment.{GridSegment, IsEnd}
 use Rattle.grid_base.specs.Drawing.{Drawing, IsPoint, IsPiece}
 use Rattle.grid_base.specs.declared.kinds.Step.{Step}
 use Rattle.grid_base.specs.declared.kinds.Step.TheVariants.{Split, Meet, Corner}
-use Rattle.hook_chain.specs.Steps.{Permitted}
+use Rattle.realm_drawing.specs.Steps.{Permitted}
 
 -- s is a piece of the step
 abbrev pub IsPieceOf : Step → GridSegment → Type 0

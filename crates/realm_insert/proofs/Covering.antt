@@ -12,7 +12,7 @@ use Rattle.grid_base.specs.Realm.{PointInside, TwoCross}
 use Rattle.grid_base.specs.Drawing.{Drawing, IsPiece, HasViolation}
 use Rattle.grid_base.specs.declared.kinds.Step.{Step}
 use Rattle.grid_base.proofs.Crossings.{Cross-swap}
-use Rattle.hook_chain.specs.Steps.{Permitted}
+use Rattle.realm_drawing.specs.Steps.{Permitted}
 use Rattle.realm_drawing.specs.Draws.{DrawsPieces}
 use Rattle.realm_drawing.proofs.Elements.{Any-nil, Any-single, Any-append_cases, Any-append_left, Any-append_right}
 use Rattle.realm_drawing.proofs.Elements.{Contains-nil}

@@ -4,7 +4,7 @@ use Rattle.grid_base.specs.Point.{IsBefore}
 use Rattle.grid_base.specs.Segment.{GridSegment}
 use Rattle.grid_base.specs.Drawing.{Drawing, IsPiece}
 use Rattle.grid_base.specs.declared.kinds.Step.{Step}
-use Rattle.hook_chain.specs.Steps.{Permitted}
+use Rattle.realm_drawing.specs.Steps.{Permitted}
 use Rattle.realm_drawing.specs.Draws.{DrawsPieces, IsPieceOf}
 use Rattle.realm_drawing.specs.Keyed.{KeyedDrawing, HasKey, KeepsKeys, AreKeyed}
 use Rattle.realm_drawing.specs.Straight.{placed}

@@ -3,7 +3,7 @@ use Rattle.std.proofs.Common.{◌≡◌, ℕ, ◌-◌, ◌<◌, List, [], ◌∷
 use Rattle.grid_base.specs.Point.{GridPoint}
 use Rattle.grid_base.specs.Drawing.{Drawing, HasViolation}
 use Rattle.grid_base.specs.declared.kinds.Step.{Step}
-use Rattle.hook_chain.specs.Steps.{Permitted, Settles}
+use Rattle.realm_drawing.specs.Steps.{Permitted, Settles}
 use Rattle.realm_drawing.specs.Chains.{AllValid}
 use Rattle.realm_drawing.specs.Keyed.{KeyedDrawing, AreKeyed}
 use Rattle.realm_drawing.specs.Measure.{links_of, most_links_of}

@@ -4,7 +4,7 @@ use Rattle.grid_base.specs.Point.{GridPoint, IsBefore}
 use Rattle.grid_base.specs.Segment.{GridSegment}
 use Rattle.grid_base.specs.Drawing.{Drawing}
 use Rattle.grid_base.specs.declared.kinds.Step.{Step}
-use Rattle.hook_chain.specs.Steps.{Settles}
+use Rattle.realm_drawing.specs.Steps.{Settles}
 use Rattle.realm_drawing.specs.Straight.{placed}
 
 -- the trace of the change with this number

@@ -6,7 +6,7 @@ use Rattle.grid_base.specs.Segment.{GridSegment, IsEnd}
 use Rattle.grid_base.specs.Crossing.{Inside, Cross}
 use Rattle.grid_base.specs.Drawing.{Drawing, IsPoint, IsPiece}
 use Rattle.grid_base.specs.declared.kinds.Step.{Step}
-use Rattle.hook_chain.specs.Steps.{Permitted}
+use Rattle.realm_drawing.specs.Steps.{Permitted}
 
 -- each violation has a listed piece or an end of one
 pub record IsCoveredBy (d : Drawing) (list : List GridSegment) : Type 0 where

@@ -1,7 +1,7 @@
 //! The two changes of a drawing and the index of its pieces, each settled.
 ghost use Rattle.std.specs.Prelude.{ℕ, ◌+◌, ◌∷◌, IfOk, OnOk};
 ghost use Rattle.grid_base.specs.Drawing.{Drawing as Drawn};
-ghost use Rattle.hook_chain.specs.Steps.{Settles};
+ghost use Rattle.realm_drawing.specs.Steps.{Settles};
 ghost use Rattle.realm_drawing.specs.Straight.{placed, AllBelow};
 ghost use Rattle.realm_insert.specs.Kept.{IsAtRest};
 ghost use Rattle.realm_insert.specs.State.{HasPointToo};

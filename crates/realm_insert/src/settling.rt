@@ -2,7 +2,7 @@
 //! violation has one of them or an end of one. What a step draws joins the list.
 ghost use Rattle.std.specs.Prelude.{◌≡◌, IfOk, OnOk, MatchOption};
 ghost use Rattle.grid_base.specs.Drawing.{HasViolation};
-ghost use Rattle.hook_chain.specs.Steps.{Permitted, Settles};
+ghost use Rattle.realm_drawing.specs.Steps.{Permitted, Settles};
 ghost use Rattle.realm_drawing.specs.Chains.{AllValid};
 ghost use Rattle.realm_drawing.specs.Keyed.{AreKeyed};
 ghost use Rattle.realm_drawing.specs.Mending.{IsPermitted};

@@ -1,7 +1,7 @@
 use Rattle.std.proofs.Common.{List, [], ◌∷◌, sym, subst, ◌∙◌, ◌+◌}
 use Rattle.grid_base.specs.Segment.{GridSegment}
 use Rattle.grid_base.specs.Drawing.{Drawing}
-use Rattle.hook_chain.specs.Steps.{Settles}
+use Rattle.realm_drawing.specs.Steps.{Settles}
 use Rattle.realm_drawing.specs.Chains.{AllStand}
 use Rattle.realm_drawing.specs.Straight.{placed}
 use Rattle.realm_insert.specs.Indexing.{PutsInIndex}
