@@ -1,4 +1,4 @@
--- Rational points between the rims of the grid.
+-- Rational points between the rims of the grid. No public clause cites this file.
 use Rattle.std.specs.Prelude.{◌-◌, ◌*◌, ◌^◌, ◌<◌, ◌≤◌}
 use Rattle.grid_base.specs.Places.{RationalPoint}
 

@@ -1,204 +1,103 @@
 //! Meet points and crossings as an independent exact program gave them, which intersects the two
-//! lines by fractions. In a row the first two points are the ends of the first segment, the next
-//! two those of the second.
+//! lines by fractions. A row begins with the ends of the first segment and those of the second.
 use crate::*;
 use grid_base::{Point, Segment};
-use std::test::Fail;
+use std::process::Abort;
 
-const MEET_POINTS: [[[u64; 2]; 5]; 30] = [
-    [[0, 0], [10, 4], [0, 4], [10, 0], [5, 2]],
-    [[0, 0], [3, 1], [0, 1], [3, 0], [2, 1]],
-    [[0, 0], [10, 4], [6, 0], [6, 9], [6, 2]],
-    [[0, 3], [3, 0], [0, 1], [3, 2], [2, 1]],
-    [
-        [0, 0],
-        [268435455, 1],
-        [0, 1],
-        [268435455, 0],
-        [134217728, 1],
-    ],
-    // halves in one coordinate
-    [[0, 0], [1, 2], [0, 1], [5, 1], [1, 1]],
-    [[0, 2], [1, 0], [0, 1], [5, 1], [1, 1]],
-    [[0, 0], [2, 1], [1, 0], [1, 5], [1, 1]],
-    [[0, 2], [2, 1], [1, 0], [1, 5], [1, 2]],
-    [[3, 0], [4, 6], [0, 4], [7, 2], [4, 3]],
-    // halves in both
-    [[5, 5], [8, 4], [5, 4], [8, 5], [7, 5]],
-    [[10, 3], [11, 6], [10, 6], [11, 3], [11, 5]],
-    [[0, 2], [5, 3], [1, 5], [4, 0], [3, 3]],
-    // diagonals at the centre of a cell, with others
-    [[0, 0], [3, 3], [0, 1], [3, 2], [2, 2]],
-    [[0, 1], [3, 2], [0, 0], [3, 3], [2, 2]],
-    [[0, 1], [3, 2], [0, 3], [3, 0], [2, 1]],
-    [[4, 5], [5, 4], [3, 4], [6, 5], [5, 4]],
-    [[4, 4], [5, 5], [4, 6], [5, 3], [5, 5]],
-    [
-        [0, 268435455],
-        [268435455, 0],
-        [0, 1],
-        [268435455, 268435454],
-        [134217728, 134217727],
-    ],
-    [
-        [0, 0],
-        [268435455, 268435455],
-        [1, 268435455],
-        [268435454, 0],
-        [134217728, 134217728],
-    ],
-    // diagonals elsewhere
-    [[0, 0], [2, 2], [0, 2], [2, 0], [1, 1]],
-    [[0, 0], [4, 4], [0, 3], [4, 2], [2, 2]],
-    [[0, 5], [5, 0], [0, 0], [4, 5], [2, 3]],
-    // upright and level segments
-    [[7, 0], [7, 9], [0, 8], [9, 8], [7, 8]],
-    [
-        [0, 268435454],
-        [268435455, 268435454],
-        [1, 0],
-        [1, 268435455],
-        [1, 268435454],
-    ],
-    // at the rim, and as long as the grid
-    [
-        [268435452, 268435455],
-        [268435455, 268435454],
-        [268435452, 268435454],
-        [268435455, 268435455],
-        [268435454, 268435455],
-    ],
-    [
-        [0, 0],
-        [268435455, 268435454],
-        [0, 268435455],
-        [268435455, 0],
-        [134217728, 134217727],
-    ],
-    [
-        [0, 0],
-        [268435455, 268435454],
-        [134217727, 0],
-        [134217728, 268435455],
-        [134217727, 134217727],
-    ],
-    [
-        [0, 0],
-        [268435455, 268435454],
-        [1, 1],
-        [268435454, 268435452],
-        [2, 2],
-    ],
-    [
-        [0, 0],
-        [268435455, 268435454],
-        [1, 1],
-        [268435454, 268435453],
-        [134217728, 134217727],
-    ],
-];
+fn point(rt: &impl Abort, x: u64, y: u64) -> Point {
+    Point::new(x, y).expect(rt, "a point of the grid")
+}
 
-const CORNERS: [[[u64; 2]; 5]; 4] = [
-    [[0, 0], [1, 1], [0, 1], [1, 0], [0, 0]],
-    [[2, 3], [7, 8], [0, 12], [11, 1], [5, 6]],
-    [
-        [0, 0],
-        [268435455, 268435455],
-        [0, 268435455],
-        [268435455, 0],
-        [134217727, 134217727],
-    ],
-    [
-        [268435454, 268435454],
-        [268435455, 268435455],
-        [268435454, 268435455],
-        [268435455, 268435454],
-        [268435454, 268435454],
-    ],
-];
-
-const APART: [[[u64; 2]; 4]; 13] = [
-    // an end of the one is inside the other
-    [[0, 0], [4, 2], [2, 1], [5, 0]],
-    // a common end
-    [[0, 0], [4, 2], [0, 0], [3, 5]],
-    // the greater end of the one is the lesser of the other, on one line
-    [[0, 0], [2, 1], [2, 1], [4, 2]],
-    [[7, 3], [7, 5], [7, 5], [7, 9]],
-    // parallel
-    [[0, 0], [5, 5], [0, 1], [5, 6]],
-    // on one line
-    [[0, 0], [2, 1], [4, 2], [6, 3]],
-    // the lines cross beyond an end
-    [[0, 0], [10, 4], [6, 0], [6, 2]],
-    // and just beyond it
-    [
-        [0, 0],
-        [268435455, 268435454],
-        [268435454, 268435453],
-        [268435455, 0],
-    ],
-    // an overlap
-    [[0, 0], [4, 2], [2, 1], [6, 3]],
-    // the one on the other
-    [[0, 0], [9, 9], [3, 3], [5, 5]],
-    // an overlap with a common end
-    [[0, 8], [8, 0], [0, 8], [3, 5]],
-    // an upright overlap
-    [[7, 3], [7, 5], [7, 4], [7, 9]],
-    // one segment twice
-    [
-        [0, 268435455],
-        [268435455, 0],
-        [0, 268435455],
-        [268435455, 0],
-    ],
-];
-
-const CROSSINGS: [([[u64; 2]; 4], [i128; 3]); 5] = [
-    ([[0, 0], [10, 4], [0, 4], [10, 0]], [400, 160, 80]),
-    ([[0, 0], [3, 1], [0, 1], [3, 0]], [9, 3, 6]),
-    ([[0, 3], [3, 0], [0, 1], [3, 2]], [18, 18, 12]),
-    ([[6, 0], [6, 9], [0, 0], [10, 4]], [540, 216, 90]),
+// The two segments of a row.
+fn segments(rt: &impl Abort, [k, l, m, n, x, y, u, v]: [u64; 8]) -> (Segment, Segment) {
+    let s = Segment::new(point(rt, k, l), point(rt, m, n));
+    let t = Segment::new(point(rt, x, y), point(rt, u, v));
     (
-        [
-            [0, 0],
-            [268435455, 268435454],
-            [0, 268435455],
-            [268435455, 0],
-        ],
-        [
-            19342812897661285486821375,
-            19342812825603691985764350,
-            144115186733678595,
-        ],
-    ),
-];
-
-fn point(p: [u64; 2]) -> Result<Point, Fail> {
-    Ok(Point::new(p[0], p[1])?)
+        s.expect(rt, "two different ends"),
+        t.expect(rt, "two different ends"),
+    )
 }
 
-fn segment(p: [u64; 2], q: [u64; 2]) -> Result<Segment, Fail> {
-    Ok(Segment::new(point(p)?, point(q)?).ok_or("one point")?)
-}
-
-#[test]
-fn segments_meet_at_the_rounded_crossing(rt: HostRuntime) -> Result<(), Fail> {
-    for [a, b, c, d, m] in MEET_POINTS {
-        let (s, t) = (segment(a, b)?, segment(c, d)?);
-        let want = Meet::At(point(m)?);
-        assert_eq!(rt; meet_point(&s, &t), want, "{s:?} {t:?}");
-        assert_eq!(rt; meet_point(&t, &s), want, "{t:?} {s:?}");
+// Whether the segments meet at the point of their row, whichever is named first.
+fn all_meet(rt: &impl Abort, rows: &[[u64; 10]]) {
+    for row in rows {
+        let [k, l, m, n, x, y, u, v, p, q] = *row;
+        let (s, t) = segments(rt, [k, l, m, n, x, y, u, v]);
+        let want = Meet::At(point(rt, p, q));
+        assert!(rt;
+            meet_point(&s, &t) == want && meet_point(&t, &s) == want,
+            "{row:?}"
+        );
     }
-    Ok(())
 }
 
 #[test]
-fn two_diagonals_have_a_corner_at_a_centre(rt: HostRuntime) -> Result<(), Fail> {
-    for [a, b, c, d, z] in CORNERS {
-        let (s, t) = (segment(a, b)?, segment(c, d)?);
-        let cell = point(z)?;
+fn segments_meet_at_the_rounded_crossing(rt: HostRuntime) {
+    all_meet(
+        &rt,
+        &[
+            [0, 0, 10, 4, 0, 4, 10, 0, 5, 2],
+            [0, 0, 3, 1, 0, 1, 3, 0, 2, 1],
+            [0, 0, 10, 4, 6, 0, 6, 9, 6, 2],
+            [0, 3, 3, 0, 0, 1, 3, 2, 2, 1],
+            [0, 0, 268435455, 1, 0, 1, 268435455, 0, 134217728, 1],
+            // halves in one coordinate
+            [0, 0, 1, 2, 0, 1, 5, 1, 1, 1],
+            [0, 2, 1, 0, 0, 1, 5, 1, 1, 1],
+            [0, 0, 2, 1, 1, 0, 1, 5, 1, 1],
+            [0, 2, 2, 1, 1, 0, 1, 5, 1, 2],
+            [3, 0, 4, 6, 0, 4, 7, 2, 4, 3],
+            // halves in both
+            [5, 5, 8, 4, 5, 4, 8, 5, 7, 5],
+            [10, 3, 11, 6, 10, 6, 11, 3, 11, 5],
+            [0, 2, 5, 3, 1, 5, 4, 0, 3, 3],
+            // diagonals at the centre of a cell, with others
+            [0, 0, 3, 3, 0, 1, 3, 2, 2, 2],
+            [0, 1, 3, 2, 0, 0, 3, 3, 2, 2],
+            [0, 1, 3, 2, 0, 3, 3, 0, 2, 1],
+            [4, 5, 5, 4, 3, 4, 6, 5, 5, 4],
+            [4, 4, 5, 5, 4, 6, 5, 3, 5, 5],
+            [
+                0, 268435455, 268435455, 0, 0, 1, 268435455, 268435454, 134217728, 134217727,
+            ],
+            [
+                0, 0, 268435455, 268435455, 1, 268435455, 268435454, 0, 134217728, 134217728,
+            ],
+            // diagonals elsewhere
+            [0, 0, 2, 2, 0, 2, 2, 0, 1, 1],
+            [0, 0, 4, 4, 0, 3, 4, 2, 2, 2],
+            [0, 5, 5, 0, 0, 0, 4, 5, 2, 3],
+            // upright and level segments
+            [7, 0, 7, 9, 0, 8, 9, 8, 7, 8],
+            [
+                0, 268435454, 268435455, 268435454, 1, 0, 1, 268435455, 1, 268435454,
+            ],
+            // at the rim, and as long as the grid
+            [
+                268435452, 268435455, 268435455, 268435454, 268435452, 268435454, 268435455,
+                268435455, 268435454, 268435455,
+            ],
+            [
+                0, 0, 268435455, 268435454, 0, 268435455, 268435455, 0, 134217728, 134217727,
+            ],
+            [
+                0, 0, 268435455, 268435454, 134217727, 0, 134217728, 268435455, 134217727,
+                134217727,
+            ],
+            [0, 0, 268435455, 268435454, 1, 1, 268435454, 268435452, 2, 2],
+            [
+                0, 0, 268435455, 268435454, 1, 1, 268435454, 268435453, 134217728, 134217727,
+            ],
+        ],
+    );
+}
+
+// Whether the segments, of which the first rises, cross at the centre of the cell of their row.
+fn all_have_corners(rt: &impl Abort, rows: &[[u64; 10]]) {
+    for row in rows {
+        let [k, l, m, n, x, y, u, v, p, q] = *row;
+        let (s, t) = segments(rt, [k, l, m, n, x, y, u, v]);
+        let cell = point(rt, p, q);
         let rising_first = Meet::Corner {
             cell,
             falling_first: false,
@@ -207,34 +106,105 @@ fn two_diagonals_have_a_corner_at_a_centre(rt: HostRuntime) -> Result<(), Fail> 
             cell,
             falling_first: true,
         };
-        assert_eq!(rt; meet_point(&s, &t), rising_first, "{s:?} {t:?}");
-        assert_eq!(rt; meet_point(&t, &s), falling_first, "{t:?} {s:?}");
+        assert!(rt;
+            meet_point(&s, &t) == rising_first && meet_point(&t, &s) == falling_first,
+            "{row:?}"
+        );
     }
-    Ok(())
 }
 
 #[test]
-fn segments_that_dont_cross_are_apart(rt: HostRuntime) -> Result<(), Fail> {
-    for [a, b, c, d] in APART {
-        let (s, t) = (segment(a, b)?, segment(c, d)?);
-        assert_eq!(rt; meet_point(&s, &t), Meet::Apart, "{s:?} {t:?}");
-        assert!(rt; crossing(&s, &t).is_none(), "{s:?} {t:?}");
+fn two_diagonals_have_a_corner_at_a_centre(rt: HostRuntime) {
+    all_have_corners(
+        &rt,
+        &[
+            [0, 0, 1, 1, 0, 1, 1, 0, 0, 0],
+            [2, 3, 7, 8, 0, 12, 11, 1, 5, 6],
+            [
+                0, 0, 268435455, 268435455, 0, 268435455, 268435455, 0, 134217727, 134217727,
+            ],
+            [
+                268435454, 268435454, 268435455, 268435455, 268435454, 268435455, 268435455,
+                268435454, 268435454, 268435454,
+            ],
+        ],
+    );
+}
+
+fn all_are_apart(rt: &impl Abort, rows: &[[u64; 8]]) {
+    for row in rows {
+        let (s, t) = segments(rt, *row);
+        assert!(rt;
+            meet_point(&s, &t) == Meet::Apart && crossing(&s, &t).is_none(),
+            "{row:?}"
+        );
     }
-    Ok(())
 }
 
 #[test]
-fn the_crossing_is_exact(rt: HostRuntime) -> Result<(), Fail> {
-    for ([a, b, c, d], [x, y, w]) in CROSSINGS {
-        let (s, t) = (segment(a, b)?, segment(c, d)?);
-        let place = crossing(&s, &t).ok_or("apart")?;
-        assert_eq!(rt; (place.x, place.y, place.w), (x, y, w), "{s:?} {t:?}");
+fn segments_that_dont_cross_are_apart(rt: HostRuntime) {
+    all_are_apart(
+        &rt,
+        &[
+            // an end of the one is inside the other
+            [0, 0, 4, 2, 2, 1, 5, 0],
+            // a common end
+            [0, 0, 4, 2, 0, 0, 3, 5],
+            // the greater end of the one is the lesser of the other, on one line
+            [0, 0, 2, 1, 2, 1, 4, 2],
+            [7, 3, 7, 5, 7, 5, 7, 9],
+            // parallel
+            [0, 0, 5, 5, 0, 1, 5, 6],
+            // on one line
+            [0, 0, 2, 1, 4, 2, 6, 3],
+            // the lines cross beyond an end
+            [0, 0, 10, 4, 6, 0, 6, 2],
+            // and just beyond it
+            [
+                0, 0, 268435455, 268435454, 268435454, 268435453, 268435455, 0,
+            ],
+            // an overlap
+            [0, 0, 4, 2, 2, 1, 6, 3],
+            // the one on the other
+            [0, 0, 9, 9, 3, 3, 5, 5],
+            // an overlap with a common end
+            [0, 8, 8, 0, 0, 8, 3, 5],
+            // an upright overlap
+            [7, 3, 7, 5, 7, 4, 7, 9],
+            // one segment twice
+            [0, 268435455, 268435455, 0, 0, 268435455, 268435455, 0],
+        ],
+    );
+}
+
+// Whether the segments cross at the fraction of their row.
+fn all_cross(rt: &impl Abort, rows: &[([u64; 8], [i128; 3])]) {
+    for (row, want) in rows {
+        let (s, t) = segments(rt, *row);
+        let place = crossing(&s, &t).expect(rt, "segments that cross");
+        assert!(rt; [place.x, place.y, place.w] == *want, "{row:?}");
     }
-    Ok(())
 }
 
 #[test]
-fn the_laws_are_called() {
+fn the_crossing_is_exact(rt: HostRuntime) {
+    all_cross(
+        &rt,
+        &[
+            ([0, 0, 10, 4, 0, 4, 10, 0], [400, 160, 80]),
+            ([0, 0, 3, 1, 0, 1, 3, 0], [9, 3, 6]),
+            ([0, 3, 3, 0, 0, 1, 3, 2], [18, 18, 12]),
+            ([6, 0, 6, 9, 0, 0, 10, 4], [540, 216, 90]),
+            (
+                [0, 0, 268435455, 268435454, 0, 268435455, 268435455, 0],
+                [
+                    19342812897661285486821375,
+                    19342812825603691985764350,
+                    144115186733678595,
+                ],
+            ),
+        ],
+    );
     crossing_is_one();
     meet_point_is_one();
 }

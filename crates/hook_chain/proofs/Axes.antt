@@ -3,8 +3,10 @@ use Rattle.std.proofs.Common.{◌≡◌, ◌≢◌, ◌⊎◌, ℕ, ◌+◌, ◌
 use Rattle.std.proofs.lemmas.Int.{ints}
 use borrow.Author.Differences.{up, down}
 use Rattle.grid_base.specs.Point.{GridPoint}
+use Rattle.grid_base.specs.Segment.{exchanged_point}
 use Rattle.grid_base.specs.Sides.{turn, Side, Left, On, Right, side}
-use Rattle.grid_base.proofs.Turns.{times, leftward, rightward, difference-*, turn_is, left_is, right_is, on_is}
+use Rattle.grid_base.proofs.Turns.{leftward, rightward, difference-*, turn_is, left_is, right_is, on_is}
+use Rattle.grid_base.proofs.Balances.{gap_cancels}
 use Rattle.grid_base.proofs.Ends.{same_point}
 
 -- ---- axes
@@ -34,32 +36,17 @@ by_parts c j a k b m cl cr jl jr al ar kl kr bl br ml mr c_is j_is a_is k_is b_i
 balanced : (v w q : GridPoint) → turn v w q ≡ pos 0 → leftward v w q ≡ rightward v w q
 balanced v w q none = let sums = sym (turn_is v w q) ∙ none in omega (arith, ints)
 
--- two points of one column, on one line with a point of an earlier one
-same_in_column : (v w q : GridPoint) → v.x < w.x → w.x ≡ q.x → leftward v w q ≡ rightward v w q → w ≡ q
-same_in_column v w q before column line =
+-- two points of one column, on one line with a point of another
+pub same_in_column : (v w q : GridPoint) → w.x ≢ v.x → w.x ≡ q.x → leftward v w q ≡ rightward v w q → w ≡ q
+same_in_column v w q apart column line =
     let at_v = ap (λ (n : ℕ). v.y * n) column in
     let at_w = ap (λ (n : ℕ). w.y * n) column in
-    let not_above : w.y < q.y → ⊥ = λ above. let gaps = times v.x w.x w.y q.y before above in omega arith in
-    let not_below : q.y < w.y → ⊥ = λ below. let gaps = times v.x w.x q.y w.y before below in omega arith in
-    same_point w q column (omega (arith, not_above, not_below))
+    same_point w q column (gap_cancels w.y q.y w.x v.x apart (omega arith))
 
--- two points of one row, on one line with a point of a lower one
-same_in_row : (v w q : GridPoint) → v.y < w.y → w.y ≡ q.y → leftward v w q ≡ rightward v w q → w ≡ q
-same_in_row v w q before row line =
-    let at_v = ap (λ (n : ℕ). v.x * n) row in
-    let at_w = ap (λ (n : ℕ). w.x * n) row in
-    let not_after : w.x < q.x → ⊥ = λ after. let gaps = times v.y w.y w.x q.x before after in omega arith in
-    let not_before : q.x < w.x → ⊥ = λ less. let gaps = times v.y w.y q.x w.x before less in omega arith in
-    same_point w q (omega (arith, not_after, not_before)) row
-
--- and with a point of a higher one
-same_in_row_down : (v w q : GridPoint) → w.y < v.y → w.y ≡ q.y → leftward v w q ≡ rightward v w q → w ≡ q
-same_in_row_down v w q before row line =
-    let at_v = ap (λ (n : ℕ). v.x * n) row in
-    let at_w = ap (λ (n : ℕ). w.x * n) row in
-    let not_after : w.x < q.x → ⊥ = λ after. let gaps = times w.y v.y w.x q.x before after in omega arith in
-    let not_before : q.x < w.x → ⊥ = λ less. let gaps = times w.y v.y q.x w.x before less in omega arith in
-    same_point w q (omega (arith, not_after, not_before)) row
+-- and two of one row, on one line with a point of another
+pub same_in_row : (v w q : GridPoint) → w.y ≢ v.y → w.y ≡ q.y → leftward v w q ≡ rightward v w q → w ≡ q
+same_in_row v w q apart row line =
+    ap exchanged_point (same_in_column (exchanged_point v) (exchanged_point w) (exchanged_point q) apart row (omega arith))
 
 -- by columns
 abbrev pub column : GridPoint → ℤ
@@ -101,7 +88,7 @@ pub same_by_rows : (v w q : GridPoint) → row v <ℤ row w → row w ≡ row q 
 same_by_rows v w q before at line = same_in_row v w q (omega (arith, ints)) (omega (arith, ints)) (balanced v w q line)
 
 pub same_by_depths : (v w q : GridPoint) → depth v <ℤ depth w → depth w ≡ depth q → turn v w q ≡ pos 0 → w ≡ q
-same_by_depths v w q before at line = same_in_row_down v w q (omega (arith, ints)) (omega (arith, ints)) (balanced v w q line)
+same_by_depths v w q before at line = same_in_row v w q (omega (arith, ints)) (omega (arith, ints)) (balanced v w q line)
 
 -- for flat pieces
 abbrev pub rightwards : Axis
@@ -177,28 +164,24 @@ neg_ℤ-*ℤ a k =
         ≡ neg_ℤ (pos (up a * up k + down a * down k) -ℤ pos (up a * down k + down a * up k))
     negated = omega (arith, ints)
 
--- what an axis says of turns, said of bends
+-- what an axis says of turns, said of them with their signs changed
+next_negated : (axis : Axis) (v w z q : GridPoint) → neg_ℤ (turn w z q) *ℤ (axis.along w -ℤ axis.along v)
+    ≡ (neg_ℤ (turn v w q) *ℤ (axis.along z -ℤ axis.along w)) -ℤ (neg_ℤ (turn v w z) *ℤ (axis.along q -ℤ axis.along w))
+next_negated axis v w z q =
+    rw (
+      neg_ℤ-*ℤ (turn w z q) (axis.along w -ℤ axis.along v),
+      neg_ℤ-*ℤ (turn v w q) (axis.along z -ℤ axis.along w),
+      neg_ℤ-*ℤ (turn v w z) (axis.along q -ℤ axis.along w),
+      axis.next v w z q,
+    )
+    (omega (arith, ints))
+
+-- and of bends
 pub bend_next : (axis : Axis) (s : Side) (v w z q : GridPoint) → bend s w z q *ℤ (axis.along w -ℤ axis.along v)
     ≡ (bend s v w q *ℤ (axis.along z -ℤ axis.along w)) -ℤ (bend s v w z *ℤ (axis.along q -ℤ axis.along w))
 bend_next axis Left v w z q = axis.next v w z q
-bend_next axis On v w z q =
-    rw (
-      neg_ℤ-*ℤ (turn w z q) (axis.along w -ℤ axis.along v),
-      neg_ℤ-*ℤ (turn v w q) (axis.along z -ℤ axis.along w),
-      neg_ℤ-*ℤ (turn v w z)
-          (axis.along q -ℤ axis.along w),
-      axis.next v w z q,
-    )
-    (omega (arith, ints))
-bend_next axis Right v w z q =
-    rw (
-      neg_ℤ-*ℤ (turn w z q) (axis.along w -ℤ axis.along v),
-      neg_ℤ-*ℤ (turn v w q) (axis.along z -ℤ axis.along w),
-      neg_ℤ-*ℤ (turn v w z)
-          (axis.along q -ℤ axis.along w),
-      axis.next v w z q,
-    )
-    (omega (arith, ints))
+bend_next axis On v w z q = next_negated axis v w z q
+bend_next axis Right v w z q = next_negated axis v w z q
 
 -- a bend of 0 is a turn of 0
 bend_none : (s : Side) (v w q : GridPoint) → bend s v w q ≡ pos 0 → turn v w q ≡ pos 0

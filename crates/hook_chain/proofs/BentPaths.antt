@@ -10,7 +10,8 @@ use Rattle.hook_chain.specs.Chains.{AllLinks}
 use Rattle.hook_chain.specs.Hook.{InTriangle, IsOnward, IsBent}
 use Rattle.hook_chain.proofs.Axes.{Axis, bend_above, bend_not_below}
 use Rattle.hook_chain.proofs.TautPaths.{Frame, frame, frame_sound, IsBeyond, IsForth, BendsUp, IsBare, IsTaut, one_taut}
-use Rattle.hook_chain.proofs.Paths.{vertices_map, links_map, links_both, bends_map, vertices_to, vertices_from, links_to, links_from, leads_on, IsForthAlong, IsWithin, links_within, rest_of}
+use Rattle.hook_chain.proofs.Paths.{vertices_map, links_map, links_both, bends_map, vertices_to, vertices_from, links_to, links_from}
+use Rattle.hook_chain.proofs.Paths.{leads_on, IsForthAlong, IsWithin, links_within, rest_of}
 use Rattle.hook_chain.proofs.Directions.{Follows, AllApart}
 
 -- the frame of t along an axis that it follows, seen from the side of x

@@ -3,7 +3,7 @@
 use Rattle.std.proofs.Common.{◌≡◌, ◌⊎◌, ℕ, ◌+◌, ◌-◌, ◌*◌, ◌<◌, ◌≤◌, ap, arith, inl, inr}
 use Rattle.grid_base.proofs.Turns.{times_le}
 use Rattle.hook_chain.specs.Climbs.{AllSteeperClimb, AllSteeperWithinClimb}
-use Rattle.hook_chain.proofs.Climbs.{order}
+use Rattle.hook_chain.proofs.Farey.{order}
 use Rattle.hook_chain.proofs.Raised.{IsClear}
 
 -- the piece's two ends, by the line's sums to left and right there, and a margin that neither is farther off than

@@ -3,23 +3,11 @@
 use Rattle.std.proofs.Common.{◌≡◌, ◌⊎◌, ℕ, ◌+◌, ◌-◌, ◌*◌, ◌<◌, ◌≤◌, ap, arith, inl, inr}
 use Rattle.grid_base.proofs.Turns.{times, times_le}
 use Rattle.hook_chain.specs.Climbs.{Climbs}
+use Rattle.hook_chain.proofs.Farey.{order}
 
 -- each way climbs that is at least as steep as p / q
 abbrev pub AllFromClimb : ℕ → ℕ → ℕ → ℕ → ℕ → Type 0
 AllFromClimb dx dy margin q p = (b a : ℕ) → 0 < a → p * b ≤ a * q → Climbs dx dy margin b a
-
--- one of two numbers is at most the other, or greater
-pub order : (m n : ℕ) → (m ≤ n) ⊎ (n < m)
-order m n = grind arith
-
--- ---- the upright way
--- where the way straight up by 1 climbs, all ways straight up do
-pub upright_climb : (dx dy margin : ℕ) → margin < dx → AllFromClimb dx dy margin 0 1
-upright_climb dx dy margin first b a some steep =
-    let none : b ≡ 0 = omega arith in
-    let across = ap (λ (n : ℕ). dy * n) none in
-    let up = times_le 0 dx 1 a (omega arith) some in
-    omega arith
 
 -- ---- a way between two neighbours
 -- the way of b across and a up is x times that of q and p, and y times that of l and k

@@ -1,5 +1,6 @@
 -- Each link of a hook is close to the piece, and no grid point between the two is off the hook.
-use Rattle.std.proofs.Common.{◌≡◌, ◌≢◌, ◌⊎◌, ◌*◌, ◌<◌, ℕ, ℤ, pos, ◌-ℤ◌, ◌*ℤ◌, ◌<ℤ◌, ◌≤ℤ◌, List, ◌∷◌, ◌++◌, refl, sym, ap, subst, ◌∙◌, arith, inl, inr}
+use Rattle.std.proofs.Common.{◌≡◌, ◌≢◌, ◌⊎◌, ◌+◌, ◌≤◌, ◌*◌, ◌<◌, ℕ, ℤ, pos, ◌-ℤ◌, ◌*ℤ◌, ◌<ℤ◌, ◌≤ℤ◌, List, ◌∷◌, ◌++◌, refl, sym, ap, subst, ◌∙◌, arith}
+use Rattle.std.proofs.Common.{inl, inr}
 use Rattle.std.proofs.lemmas.Int.{ints}
 use borrow.Author.Differences.{up, down}
 use Rattle.grid_base.specs.Point.{GridPoint, IsBefore}
@@ -16,39 +17,37 @@ use Rattle.hook_chain.proofs.BentPaths.{IsCloseLink}
 use Rattle.hook_chain.proofs.Directions.{Follows, IsApart, AllApart, followed}
 
 -- ---- signs
--- c j = a k, where j is above 0 and k below 0: c and a are on opposite sides of 0
-opposite_signs : (c j a k b m : ℤ) → c *ℤ j ≡ (a *ℤ k) -ℤ (b *ℤ m) → b ≡ pos 0 → pos 0 <ℤ j → k <ℤ pos 0
-    → (pos 0 ≤ℤ a → c ≤ℤ pos 0) × (a ≤ℤ pos 0 → pos 0 ≤ℤ c)
-opposite_signs c j a k b m same none j_above k_below =
-    let level : up b ≡ down b = omega (arith, ints) in
-    let by_up = ap (λ (n : ℕ). n * up m) level in
-    let by_down = ap (λ (n : ℕ). n * down m) level in
-    let not_above : pos 0 ≤ℤ a → down c < up c → ⊥ = λ a_up c_above.
-    let first = times_le (down a) (up a) (up k) (down k) (omega (arith, ints)) (omega (arith, ints)) in
-    let second = times (down c) (up c) (down j) (up j) c_above (omega (arith, ints)) in
-    omega (arith, ints) in
-    let not_below : a ≤ℤ pos 0 → up c < down c → ⊥ = λ a_down c_below.
-    let first = times_le (up a) (down a) (up k) (down k) (omega (arith, ints)) (omega (arith, ints)) in
-    let second = times (up c) (down c) (down j) (up j) c_below (omega (arith, ints)) in
-    omega (arith, ints) in
-    (λ a_up. let no = not_above a_up in omega (arith, ints, no), λ a_down. let no = not_below a_down in omega (arith, ints, no))
+-- c j = a k, each as a difference, where j is above 0 and k below: c isn't above 0 where a isn't below, and not below where a isn't above
+opposite_parts : (c_up c_down j_up j_down a_up a_down k_up k_down : ℕ) → j_down < j_up → k_up < k_down
+    → c_up * j_up + c_down * j_down + a_up * k_down + a_down * k_up ≡ c_up * j_down + c_down * j_up + a_up * k_up + a_down * k_down
+    → (a_down ≤ a_up → c_up ≤ c_down) × (a_up ≤ a_down → c_down ≤ c_up)
+opposite_parts c_up c_down j_up j_down a_up a_down k_up k_down j_above k_below same =
+    let not_above : a_down ≤ a_up → c_down < c_up → ⊥ = λ a_not_below c_above.
+    let first = times_le a_down a_up k_up k_down a_not_below (omega arith) in
+    let second = times c_down c_up j_down j_up c_above j_above in
+    omega arith in
+    let not_below : a_up ≤ a_down → c_up < c_down → ⊥ = λ a_not_above c_below.
+    let first = times_le a_up a_down k_up k_down a_not_above (omega arith) in
+    let second = times c_up c_down j_down j_up c_below j_above in
+    omega arith in
+    (λ up. let no = not_above up in omega (arith, no), λ down. let no = not_below down in omega (arith, no))
 
--- and the same where j is below 0 and k above
-opposite_signs_down : (c j a k b m : ℤ) → c *ℤ j ≡ (a *ℤ k) -ℤ (b *ℤ m) → b ≡ pos 0 → j <ℤ pos 0 → pos 0 <ℤ k
-    → (pos 0 ≤ℤ a → c ≤ℤ pos 0) × (a ≤ℤ pos 0 → pos 0 ≤ℤ c)
-opposite_signs_down c j a k b m same none j_below k_above =
+-- the same of integers, where j and k are on opposite sides of 0
+opposite_signs : (c j a k b m : ℤ) → c *ℤ j ≡ (a *ℤ k) -ℤ (b *ℤ m) → b ≡ pos 0
+    → (pos 0 <ℤ j × k <ℤ pos 0) ⊎ (j <ℤ pos 0 × pos 0 <ℤ k) → (pos 0 ≤ℤ a → c ≤ℤ pos 0) × (a ≤ℤ pos 0 → pos 0 ≤ℤ c)
+opposite_signs c j a k b m same none apart =
     let level : up b ≡ down b = omega (arith, ints) in
     let by_up = ap (λ (n : ℕ). n * up m) level in
     let by_down = ap (λ (n : ℕ). n * down m) level in
-    let not_above : pos 0 ≤ℤ a → down c < up c → ⊥ = λ a_up c_above.
-    let first = times_le (down a) (up a) (down k) (up k) (omega (arith, ints)) (omega (arith, ints)) in
-    let second = times (down c) (up c) (up j) (down j) c_above (omega (arith, ints)) in
-    omega (arith, ints) in
-    let not_below : a ≤ℤ pos 0 → up c < down c → ⊥ = λ a_down c_below.
-    let first = times_le (up a) (down a) (down k) (up k) (omega (arith, ints)) (omega (arith, ints)) in
-    let second = times (up c) (down c) (up j) (down j) c_below (omega (arith, ints)) in
-    omega (arith, ints) in
-    (λ a_up. let no = not_above a_up in omega (arith, ints, no), λ a_down. let no = not_below a_down in omega (arith, ints, no))
+    let parts : (down a ≤ up a → up c ≤ down c) × (up a ≤ down a → down c ≤ up c) = elim apart [
+      | inl j_above ↦ opposite_parts (up c) (down c) (up j) (down j) (up a) (down a) (up k) (down k)
+          (omega (arith, ints, j_above.0)) (omega (arith, ints, j_above.1)) (omega (arith, ints))
+      | inr j_below ↦ opposite_parts (up c) (down c) (down j) (up j) (up a) (down a) (down k) (up k)
+          (omega (arith, ints, j_below.0)) (omega (arith, ints, j_below.1)) (omega (arith, ints))
+    ] in (
+      λ above. let sign = parts.0 (omega (arith, ints)) in omega (arith, ints),
+      λ below. let sign = parts.1 (omega (arith, ints)) in omega (arith, ints),
+    )
 
 -- ---- links along the piece
 -- the piece is apart from itself
@@ -66,7 +65,7 @@ apart_rest t axis x follows on before p from to =
     let ordered = follows.ordered in
     let signs = opposite_signs (turn t.b x p) (axis.along t.b -ℤ axis.along t.a) (turn t.a t.b p) (axis.along x -ℤ axis.along t.b)
     (turn t.a t.b x)
-    (axis.along p -ℤ axis.along t.b) (axis.next t.a t.b x p) (none_on t.a t.b x on) (omega (arith, ints)) (omega (arith, ints)) in
+    (axis.along p -ℤ axis.along t.b) (axis.next t.a t.b x p) (none_on t.a t.b x on) (inl (omega (arith, ints), omega (arith, ints))) in
     let back = turn_back t.b x p in
     record {
       over = λ above under. let sign = signs.0 above in omega (arith, ints);
@@ -81,9 +80,9 @@ apart_beginning t axis x follows on after p from to =
     let none = none_on t.a t.b x on in
     let back_x = turn_back t.a t.b x in
     let back_p = turn_back t.a t.b p in
-    let signs = opposite_signs_down (turn t.a x p) (axis.along t.a -ℤ axis.along t.b) (turn t.b t.a p) (axis.along x -ℤ axis.along t.a)
+    let signs = opposite_signs (turn t.a x p) (axis.along t.a -ℤ axis.along t.b) (turn t.b t.a p) (axis.along x -ℤ axis.along t.a)
     (turn t.b t.a x)
-    (axis.along p -ℤ axis.along t.a) (axis.next t.b t.a x p) (omega (arith, ints)) (omega (arith, ints)) (omega (arith, ints)) in
+    (axis.along p -ℤ axis.along t.a) (axis.next t.b t.a x p) (omega (arith, ints)) (inr (omega (arith, ints), omega (arith, ints))) in
     record {
       over = λ above under. let sign = signs.1 (omega (arith, ints)) in omega (arith, ints);
       under = λ below over. let sign = signs.0 (omega (arith, ints)) in omega (arith, ints);

@@ -11,11 +11,13 @@ use Rattle.grid_base.proofs.Lines.{IsOnLine, line_by}
 use Rattle.grid_base.proofs.Columns.{placed}
 use Rattle.hook_chain.specs.Close.{IsCloseUp, Close}
 use Rattle.grid_base.specs.Segment.{exchanged, exchanged_point}
-use Rattle.hook_chain.proofs.Climbs.{order}
+use Rattle.hook_chain.proofs.Farey.{order}
 use Rattle.hook_chain.proofs.Slanted.{turn_gap}
 use Rattle.hook_chain.proofs.Upright.{grid_place}
 use Rattle.hook_chain.proofs.Exchange.{way, place_back}
-use Rattle.hook_chain.proofs.CloseParts.{CloseWhere, flat_is, steep_is, exchanged_place}
+use Rattle.hook_chain.proofs.CloseParts.{CloseWhere}
+use Rattle.segment_envelope.proofs.Shapes.{flat_is, steep_is}
+use Rattle.segment_envelope.proofs.Ways.{exchanged_place}
 
 -- a grid point on a segment is a place of it
 pub on_place : (s : GridSegment) (p : GridPoint) → IsOn s p → IsPlace s (grid_place p.x p.y)

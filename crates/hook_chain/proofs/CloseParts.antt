@@ -1,6 +1,5 @@
 -- That close is carried on: an original is close to itself, a piece that is close to a close piece is close, and so is a part of one.
 use Rattle.std.proofs.Common.{◌≡◌, ◌≢◌, ◌⊎◌, ℕ, ◌*◌, ◌<◌, ◌≤◌, Bool, true, false, MatchBool, refl, sym, ap, subst, arith, inl, inr}
-use Rattle.std.proofs.lemmas.Bool.{leb-true, leb-false}
 use Rattle.grid_base.specs.Point.{GridPoint, IsBefore, IsFromTo, InBox}
 use Rattle.grid_base.specs.Segment.{GridSegment, width, height, is_flat}
 use Rattle.grid_base.specs.Crossing.{IsOn}
@@ -13,6 +12,8 @@ use Rattle.grid_base.proofs.Columns.{placed, under_place, above_place}
 use Rattle.grid_base.proofs.Ends.{same_point}
 use Rattle.hook_chain.specs.Close.{IsFrom, IsCloseUp, Close}
 use Rattle.grid_base.specs.Segment.{exchanged, exchanged_point}
+pub use Rattle.segment_envelope.proofs.Shapes.{flat_is, steep_is}
+use Rattle.segment_envelope.proofs.Ways.{swapped, exchanged_place}
 use Rattle.hook_chain.proofs.Closes.{in_range, not_under_place, not_above_place}
 use Rattle.hook_chain.proofs.Exchange.{way, place_back}
 
@@ -102,13 +103,9 @@ line_by_columns s v w q on_v on_w apart line =
 line_by_rows : (s : GridSegment) (v w : GridPoint) (q : RationalPoint) → leftward s.a s.b v ≡ rightward s.a s.b v
     → leftward s.a s.b w ≡ rightward s.a s.b w → w.y ≢ v.y → IsOnLine (way v w) q → IsOnLine s q
 line_by_rows s v w q on_v on_w apart line =
-    let v_at_w = ap (λ (n : ℕ). w.y * q.w * n) on_v in
-    let v_at_q = ap (λ (n : ℕ). q.y * n) on_v in
-    let w_at_v = ap (λ (n : ℕ). v.y * q.w * n) on_w in
-    let w_at_q = ap (λ (n : ℕ). q.y * n) on_w in
-    let line_at_a = ap (λ (n : ℕ). s.a.y * n) line in
-    let line_at_b = ap (λ (n : ℕ). s.b.y * n) line in
-    gap_cancels (leftward_at s q) (rightward_at s q) w.y v.y apart (omega arith)
+    let across = line_by_columns (exchanged s) (exchanged_point v) (exchanged_point w) (swapped q) (omega arith) (omega arith) apart
+    (omega arith) in
+    omega arith
 
 -- a point on the line of the way from v to w, both on the line of s, is on the line of s
 line_of_part : (s : GridSegment) (v w : GridPoint) (q : RationalPoint) → leftward s.a s.b v ≡ rightward s.a s.b v
@@ -127,22 +124,22 @@ line_of_part s v w q on_v on_w apart line = elim (one_or_other v.x w.x) [
       | inr rest ↦ elim rest [ inl same ↦ inl same | inr more ↦ inr (omega arith) ]
     ]
 
--- what lies from a number between two others to such a number lies between them
+-- what lies from a number between two others to such a number lies between them, where the first is at most the second
+range_in_order : (a b v w at width : ℕ) → a ≤ b → IsFromTo a b v → IsFromTo a b w → IsFromTo (v * width) (w * width) at
+    → IsFromTo (a * width) (b * width) at
+range_in_order a b v w at width order of_v of_w range =
+    let v_from = factor_keeps a v width (omega arith) in
+    let w_from = factor_keeps a w width (omega arith) in
+    let v_to = factor_keeps v b width (omega arith) in
+    let w_to = factor_keeps w b width (omega arith) in
+    omega arith
+
+-- and in either order
 range_of_part : (a b v w at width : ℕ) → IsFromTo a b v → IsFromTo a b w → IsFromTo (v * width) (w * width) at
     → IsFromTo (a * width) (b * width) at
 range_of_part a b v w at width of_v of_w range = elim (in_order a b) [
-  | inl up ↦
-      let v_from = factor_keeps a v width (omega arith) in
-      let w_from = factor_keeps a w width (omega arith) in
-      let v_to = factor_keeps v b width (omega arith) in
-      let w_to = factor_keeps w b width (omega arith) in
-      omega arith
-  | inr down ↦
-      let v_from = factor_keeps b v width (omega arith) in
-      let w_from = factor_keeps b w width (omega arith) in
-      let v_to = factor_keeps v a width (omega arith) in
-      let w_to = factor_keeps w a width (omega arith) in
-      omega arith
+  | inl up ↦ range_in_order a b v w at width up of_v of_w range
+  | inr down ↦ let back = range_in_order b a v w at width down (omega arith) (omega arith) range in omega arith
 ]
 
 -- a place of a part of s is a place of s
@@ -162,17 +159,6 @@ pub part_close_up : (o p : GridSegment) (v w : GridPoint) → IsOn p v → IsOn 
 part_close_up o p v w on_v on_w apart close g r q of_o of_part = close g r q of_o (place_of_part p v w q on_v on_w apart of_part)
 
 -- ---- columns or rows
--- a rational point with its row for its column
-abbrev swapped : RationalPoint → RationalPoint
-swapped q = record { x = q.y; y = q.x; w = q.w }
-
--- a place of a segment is one of the exchanged segment, when it is exchanged too
-pub exchanged_place : (s : GridSegment) (q : RationalPoint) → IsPlace s q → IsPlace (exchanged s) (swapped q)
-exchanged_place s q place =
-    let line = line_is s q place in
-    let across : IsOnLine (exchanged s) (swapped q) = omega arith in
-    record { real = place.real; line = line_by (exchanged s) (swapped q) across; across = place.up; up = place.across }
-
 -- closeness by columns where the test says so, and else by rows
 abbrev pub CloseWhere : Bool → GridSegment → GridSegment → Type 0
 CloseWhere flat o p = MatchBool flat (IsCloseUp o p) (IsCloseUp (exchanged o) (exchanged p))
@@ -187,14 +173,6 @@ part_close_where false o p v w on_v on_w apart close = λ g r q of_o of_part.
 -- a part of a close piece is close
 pub part_close : (o p : GridSegment) (v w : GridPoint) → IsOn p v → IsOn p w → v ≢ w → Close o p → Close o (way v w)
 part_close o p v w on_v on_w apart close = part_close_where (is_flat o) o p v w on_v on_w apart close
-
--- a flat segment isn't higher than it is wide
-pub flat_is : (s : GridSegment) → true ≡ is_flat s → height s ≤ width s
-flat_is s flat = leb-true (height s) (width s) (sym flat)
-
--- and a steep one is
-pub steep_is : (s : GridSegment) → false ≡ is_flat s → width s < height s
-steep_is s steep = leb-false (height s) (width s) (sym steep)
 
 -- a segment has its ends in different columns where it is flat, and in different rows where it is steep
 slanted_where : (flat : Bool) (s : GridSegment) → flat ≡ is_flat s → IsBefore s.a s.b → MatchBool flat (s.a.x ≢ s.b.x) (s.a.y ≢ s.b.y)

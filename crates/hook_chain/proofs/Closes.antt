@@ -53,9 +53,10 @@ close_by_sides o p wide_o wide_p bare g r q of_o of_p column_o column_p from =
     ]
 
 -- where p is close, no grid point in a column of both lies from o to p by its sides
-pub sides_by_close : (o p : GridSegment) → o.a.x < o.b.x → p.a.x < p.b.x → o.a.x ≤ p.a.x → p.b.x ≤ o.b.x → IsCloseUp o p → IsBare o p
-sides_by_close o p wide_o wide_p first last close g from to =
-    let r = placed o g.x wide_o (omega arith) (omega arith) in
+pub bare_by_close : (o p : GridSegment) → o.a.x < o.b.x → p.a.x < p.b.x → IsCloseUp o p
+    → (g : GridPoint) → o.a.x ≤ g.x → g.x ≤ o.b.x → p.a.x ≤ g.x → g.x ≤ p.b.x → IsBareBetween o p g
+bare_by_close o p wide_o wide_p close g from_o to_o from to =
+    let r = placed o g.x wide_o from_o to_o in
     let q = placed p g.x wide_p from to in
     let sides_r = r.sides g.y in
     let sides_q = q.sides g.y in
@@ -63,3 +64,8 @@ sides_by_close o p wide_o wide_p first last close g from to =
       over_o = λ over under. close g r.place q.place r.is q.is r.column q.column (inl (omega arith, omega arith));
       under_o = λ under over. close g r.place q.place r.is q.is r.column q.column (inr (omega arith, omega arith));
     }
+
+-- so none does where p is in the columns of o
+pub sides_by_close : (o p : GridSegment) → o.a.x < o.b.x → p.a.x < p.b.x → o.a.x ≤ p.a.x → p.b.x ≤ o.b.x → IsCloseUp o p → IsBare o p
+sides_by_close o p wide_o wide_p first last close g from to =
+    bare_by_close o p wide_o wide_p close g (omega arith) (omega arith) from to

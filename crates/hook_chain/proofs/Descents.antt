@@ -3,7 +3,7 @@ use Rattle.std.proofs.Common.{◌≡◌, ℕ, ◌+◌, ◌-◌, ◌*◌, ◌/◌
 use Rattle.grid_base.proofs.Turns.{times, times_le}
 use Rattle.hook_chain.specs.Climbs.{Climbs, AllSteeperClimb, AllSteeperWithinClimb}
 use Rattle.hook_chain.proofs.Farey.{product_of_quotient}
-use Rattle.hook_chain.proofs.Climbs.{AllFromClimb, upright_climb, next_climb, all_climb_by}
+use Rattle.hook_chain.proofs.Climbs.{AllFromClimb, next_climb, all_climb_by}
 
 -- the piece r / q is `over` times the lower way k / l and `under` times the upper way p / h, which are neighbours
 pub record IsSplit (q r k l p h under over : ℕ) : Type 0 where
@@ -18,20 +18,6 @@ pub record IsSplit (q r k l p h under over : ℕ) : Type 0 where
 pub record IsDescent (dx dy margin q r k l p h under over : ℕ) : Type 0 where
   pub split : IsSplit q r k l p h under over
   pub all : AllFromClimb dx dy margin h p
-
--- the search begins with the level way and the upright way
-pub first_descent : (dx dy margin q r : ℕ) → 0 < r → 0 < q → margin < dx → IsDescent dx dy margin q r 0 1 1 0 r q
-first_descent dx dy margin q r some_r some_q first = record {
-  split = record {
-    unit = omega arith;
-    across = omega arith;
-    up = omega arith;
-    under_some = some_r;
-    over_some = some_q;
-    high_some = omega arith;
-  };
-  all = upright_climb dx dy margin first;
-}
 
 -- a quotient of at least the divisor isn't 0
 quotient_some : (m n : ℕ) → 0 < m → m ≤ n → 0 < n / m
@@ -57,22 +43,24 @@ high_moved q r k l p h under over m s is =
       high_some = omega (arith, s.high_some);
     }
 
--- the lower way goes up by as many upper ways as fit
+-- with columns and rows exchanged the lower way is the upper one
+mirrored : (q r k l p h under over : ℕ) → IsSplit q r k l p h under over → IsSplit r q h p l k over under
+mirrored q r k l p h under over s = record {
+  unit = omega (arith, s.unit);
+  across = omega (arith, s.up);
+  up = omega (arith, s.across);
+  under_some = s.over_some;
+  over_some = s.under_some;
+  high_some =
+      let not_none : l ≡ 0 → ⊥ = λ none. let product = ap (λ (n : ℕ). n * p) none in omega (arith, s.unit) in
+      omega (arith, not_none);
+}
+
+-- so the lower way goes up by as many upper ways as fit
 low_moved : (q r k l p h under over m : ℕ) → IsSplit q r k l p h under over → m ≡ (under - 1) / over
     → IsSplit q r (k + m * p) (l + m * h) p h (under - m * over) over
 low_moved q r k l p h under over m s is =
-    let fits = product_of_quotient m (under - 1) over (omega arith) in
-    let rest : (under - m * over) + m * over ≡ under = omega (arith, s.under_some) in
-    let rest_h = ap (λ (n : ℕ). h * n) rest in
-    let rest_p = ap (λ (n : ℕ). p * n) rest in
-    record {
-      unit = omega (arith, s.unit);
-      across = omega (arith, s.across);
-      up = omega (arith, s.up);
-      under_some = omega (arith, s.under_some);
-      over_some = s.over_some;
-      high_some = s.high_some;
-    }
+    mirrored _ _ _ _ _ _ _ _ (high_moved r q h p l k over under m (mirrored q r k l p h under over s) is)
 
 -- the search goes on where the new upper way climbs
 pub high_descends : (dx dy margin q r k l p h under over m : ℕ) → IsDescent dx dy margin q r k l p h under over
@@ -101,11 +89,23 @@ parts_within a b m n some_m some_n =
     omega arith
 
 -- the two ways stay within the piece
-pub within_piece : (q r k l p h under over : ℕ) → IsSplit q r k l p h under over → (l ≤ q) × (h ≤ q) × (k ≤ r) × (p ≤ r)
+within_piece : (q r k l p h under over : ℕ) → IsSplit q r k l p h under over → (l ≤ q) × (h ≤ q) × (k ≤ r) × (p ≤ r)
 within_piece q r k l p h under over s =
     let across = parts_within l h over under s.over_some s.under_some in
     let up = parts_within k p over under s.over_some s.under_some in
     omega (arith, s.across, s.up)
+
+-- so does the new upper way
+pub high_within : (q r k l p h under over m : ℕ) → IsSplit q r k l p h under over → m ≡ (over - 1) / under
+    → (p + m * k ≤ r) × (h + m * l ≤ q)
+high_within q r k l p h under over m s is =
+    let within = within_piece _ _ _ _ _ _ _ _ (high_moved q r k l p h under over m s is) in (within.3, within.1)
+
+-- and the new lower way
+pub low_within : (q r k l p h under over m : ℕ) → IsSplit q r k l p h under over → m ≡ (under - 1) / over
+    → (k + m * p ≤ r) × (l + m * h ≤ q)
+low_within q r k l p h under over m s is =
+    let within = within_piece _ _ _ _ _ _ _ _ (low_moved q r k l p h under over m s is) in (within.2, within.0)
 
 -- the upper way is steeper than the piece
 high_is_steeper : (q r k l p h under over : ℕ) → IsSplit q r k l p h under over → r * h < q * p

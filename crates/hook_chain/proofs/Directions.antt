@@ -1,23 +1,21 @@
 -- Each piece follows an axis: by columns where it is flat, and by rows, upwards or downwards, where it is steep.
-use Rattle.std.proofs.Common.{◌≡◌, ◌≢◌, ◌⊎◌, ℕ, ◌*◌, ◌<◌, ◌≤◌, Bool, true, false, MatchBool, nat_lt, pos, ◌<ℤ◌, ◌≤ℤ◌, refl, sym, ap, ◌∙◌, subst, arith, inl, inr}
+use Rattle.std.proofs.Common.{◌≡◌, ◌≢◌, ◌⊎◌, ℕ, ◌*◌, ◌<◌, ◌≤◌, Bool, true, false, MatchBool, nat_lt, pos, ◌<ℤ◌, ◌≤ℤ◌, refl, sym, ap, ◌∙◌}
+use Rattle.std.proofs.Common.{subst, arith, inl, inr}
 use Rattle.std.proofs.lemmas.Int.{ints}
 use Rattle.std.proofs.lemmas.Bool.{leb-true, leb-false, ltb-true, ltb-false}
 use Rattle.grid_base.specs.Point.{GridPoint, IsBefore, IsFromTo}
 use Rattle.grid_base.specs.Segment.{GridSegment, is_flat, width, height}
 use Rattle.grid_base.specs.Sides.{turn, On, side}
 use Rattle.grid_base.specs.Crossing.{IsOn}
-use Rattle.grid_base.proofs.Turns.{leftward, rightward, turn_is, on_is}
-use Rattle.grid_base.proofs.Balances.{gap_cancels, balanced_between}
-use Rattle.grid_base.proofs.Ends.{same_point}
+use Rattle.grid_base.proofs.Turns.{times, times_le, leftward, rightward, turn_is, on_is}
+use Rattle.grid_base.proofs.Balances.{balanced_between}
 use Rattle.hook_chain.specs.Close.{Close, IsCloseUp}
 use Rattle.grid_base.specs.Segment.{exchanged, exchanged_point}
 use Rattle.hook_chain.specs.Hook.{IsOnward, IsBeside}
-use Rattle.hook_chain.proofs.Axes.{Axis, rightwards, upwards, downwards}
+use Rattle.hook_chain.proofs.Axes.{Axis, rightwards, upwards, downwards, same_in_column, same_in_row}
 use Rattle.hook_chain.proofs.Paths.{IsForthAlong, IsWithin}
-use Rattle.hook_chain.proofs.LinkSides.{IsOutside, close_by_outside, outside_by_close, reversed, close_reversed, above_link, under_link}
-
-abbrev pub link_of : GridPoint → GridPoint → GridSegment
-link_of v w = record { a = v; b = w }
+use Rattle.hook_chain.proofs.Closes.{IsBareBetween, close_by_sides, bare_by_close}
+use Rattle.hook_chain.proofs.Exchange.{way, reversed, close_by_reversed}
 
 -- p isn't between t and the link from v to w, by its turns: t counts and the link doesn't
 pub record IsApart (t : GridSegment) (v w p : GridPoint) : Type 0 where
@@ -38,48 +36,48 @@ pub record Follows (t : GridSegment) (axis : Axis) : Type 0 where
   pub ordered : IsForthAlong axis t.a t.b
   pub forth : (v w : GridPoint) → IsOnward t v w → IsForthAlong axis v w
   pub onward : (v w : GridPoint) → IsForthAlong axis v w → IsOnward t v w
-  pub apart : (v w : GridPoint) → IsForthAlong axis v w → IsWithin axis t.a t.b v w → Close t (link_of v w) → AllApart t axis v w
-  pub close : (v w : GridPoint) → IsForthAlong axis v w → AllApart t axis v w → Close t (link_of v w)
+  pub apart : (v w : GridPoint) → IsForthAlong axis v w → IsWithin axis t.a t.b v w → Close t (way v w) → AllApart t axis v w
+  pub close : (v w : GridPoint) → IsForthAlong axis v w → AllApart t axis v w → Close t (way v w)
   pub beside : (v w p : GridPoint) → IsForthAlong axis v w → IsBeside t v w p
-      → (axis.along v ≤ℤ axis.along p) × (axis.along p ≤ℤ axis.along w) × (side v w p ≡ On → IsOn (link_of v w) p)
+      → (axis.along v ≤ℤ axis.along p) × (axis.along p ≤ℤ axis.along w) × (side v w p ≡ On → IsOn (way v w) p)
   pub inside : (p : GridPoint) → IsOn t p → p ≢ t.a → p ≢ t.b → IsForthAlong axis t.a p × IsForthAlong axis p t.b
   pub between : (v w p : GridPoint) → IsForthAlong axis v w → axis.along v ≤ℤ axis.along p → axis.along p ≤ℤ axis.along w
       → IsBetweenEnds t v w p
 
 -- ---- from sums to turns, and back
 -- what the sums say of a point, the turns say too
-apart_by : (t link : GridSegment) (p : GridPoint) → IsOutside t link p → IsApart t link.a link.b p
-apart_by t link p outside =
+apart_by_bare : (t link : GridSegment) (p : GridPoint) → IsBareBetween t link p → IsApart t link.a link.b p
+apart_by_bare t link p bare =
     let at_t = turn_is t.a t.b p in
     let at_link = turn_is link.a link.b p in
     record {
-      over = λ above under. outside.over (omega (arith, ints)) (omega (arith, ints));
-      under = λ below over. outside.under (omega (arith, ints)) (omega (arith, ints));
+      over = λ above under. bare.over_o (omega (arith, ints)) (omega (arith, ints));
+      under = λ below over. bare.under_o (omega (arith, ints)) (omega (arith, ints));
     }
 
 -- and the other way
-outside_by : (t link : GridSegment) (p : GridPoint) → IsApart t link.a link.b p → IsOutside t link p
-outside_by t link p apart =
+bare_by_apart : (t link : GridSegment) (p : GridPoint) → IsApart t link.a link.b p → IsBareBetween t link p
+bare_by_apart t link p apart =
     let at_t = turn_is t.a t.b p in
     let at_link = turn_is link.a link.b p in
     record {
-      over = λ above under. apart.over (omega (arith, ints)) (omega (arith, ints));
-      under = λ below over. apart.under (omega (arith, ints)) (omega (arith, ints));
+      over_o = λ above under. apart.over (omega (arith, ints)) (omega (arith, ints));
+      under_o = λ below over. apart.under (omega (arith, ints)) (omega (arith, ints));
     }
 
 -- with rows for columns the two sums change places
-outside_exchanged : (t link : GridSegment) (p : GridPoint) → IsOutside t link p
-    → IsOutside (exchanged t) (exchanged link) (exchanged_point p)
-outside_exchanged t link p outside = record {
-  over = λ above under. outside.under (omega arith) (omega arith);
-  under = λ below over. outside.over (omega arith) (omega arith);
+bare_exchanged : (t link : GridSegment) (p : GridPoint) → IsBareBetween t link p
+    → IsBareBetween (exchanged t) (exchanged link) (exchanged_point p)
+bare_exchanged t link p bare = record {
+  over_o = λ above under. bare.under_o (omega arith) (omega arith);
+  under_o = λ below over. bare.over_o (omega arith) (omega arith);
 }
 
 -- and so they do where the ends are exchanged
-outside_reversed : (t link : GridSegment) (p : GridPoint) → IsOutside t link p → IsOutside (reversed t) (reversed link) p
-outside_reversed t link p outside = record {
-  over = λ above under. outside.under (omega arith) (omega arith);
-  under = λ below over. outside.over (omega arith) (omega arith);
+bare_reversed : (t link : GridSegment) (p : GridPoint) → IsBareBetween t link p → IsBareBetween (reversed t) (reversed link) p
+bare_reversed t link p bare = record {
+  over_o = λ above under. bare.under_o (omega arith) (omega arith);
+  under_o = λ below over. bare.over_o (omega arith) (omega arith);
 }
 
 -- a proof of a fact that is the same
@@ -106,18 +104,48 @@ between_by t v w p above under =
     }
 
 -- ---- the ends
--- a point on the line in the column of an end is that end
-row_of_a : (a b p : GridPoint) → a.x < b.x → leftward a b p ≡ rightward a b p → p.x ≡ a.x → p.y ≡ a.y
-row_of_a a b p wide line column =
-    let by_a = ap (λ (n : ℕ). n * a.y) column in
-    let by_b = ap (λ (n : ℕ). n * b.y) column in
-    gap_cancels p.y a.y b.x a.x (λ same. omega arith) (omega arith)
+-- a point of a segment other than its ends is in neither's column, where these are two
+inner_columns : (t : GridSegment) (p : GridPoint) → t.a.x ≢ t.b.x → IsOn t p → p ≢ t.a → p ≢ t.b → (p.x ≢ t.a.x) × (p.x ≢ t.b.x)
+inner_columns t p apart on not_a not_b =
+    let line = on_is t.a t.b p on.line in (
+      λ at. not_a (sym (same_in_column t.b t.a p apart (sym at) (omega arith))),
+      λ at. not_b (sym (same_in_column t.a t.b p (λ same. apart (sym same)) (sym at) line)),
+    )
 
-row_of_b : (a b p : GridPoint) → a.x < b.x → leftward a b p ≡ rightward a b p → p.x ≡ b.x → p.y ≡ b.y
-row_of_b a b p wide line column =
-    let by_a = ap (λ (n : ℕ). n * a.y) column in
-    let by_b = ap (λ (n : ℕ). n * b.y) column in
-    gap_cancels p.y b.y b.x a.x (λ same. omega arith) (omega arith)
+-- and in neither's row, where these are two
+inner_rows : (t : GridSegment) (p : GridPoint) → t.a.y ≢ t.b.y → IsOn t p → p ≢ t.a → p ≢ t.b → (p.y ≢ t.a.y) × (p.y ≢ t.b.y)
+inner_rows t p apart on not_a not_b =
+    let line = on_is t.a t.b p on.line in (
+      λ at. not_a (sym (same_in_row t.b t.a p apart (sym at) (omega arith))),
+      λ at. not_b (sym (same_in_row t.a t.b p (λ same. apart (sym same)) (sym at) line)),
+    )
+
+-- ---- a link with both ends on one side
+-- a point above a link between two points on or above a line is strictly above the line
+above_link : (a b v w p : GridPoint) → a.x < b.x → v.x < w.x → v.x ≤ p.x → p.x ≤ w.x → rightward a b v ≤ leftward a b v
+    → rightward a b w ≤ leftward a b w
+    → rightward v w p < leftward v w p → rightward a b p < leftward a b p
+above_link a b v w p wide link_wide from to v_above w_above above =
+    let not_under : leftward a b p ≤ rightward a b p → ⊥ = λ under.
+    let by_v = times_le (rightward a b v) (leftward a b v) p.x w.x v_above to in
+    let by_w = times_le (rightward a b w) (leftward a b w) v.x p.x w_above from in
+    let by_link = times (rightward v w p) (leftward v w p) a.x b.x above wide in
+    let by_line = times_le (leftward a b p) (rightward a b p) v.x w.x under (omega arith) in
+    omega arith
+    in omega (arith, not_under)
+
+-- and one under a link between two points on or under a line is strictly under the line
+under_link : (a b v w p : GridPoint) → a.x < b.x → v.x < w.x → v.x ≤ p.x → p.x ≤ w.x → leftward a b v ≤ rightward a b v
+    → leftward a b w ≤ rightward a b w
+    → leftward v w p < rightward v w p → leftward a b p < rightward a b p
+under_link a b v w p wide link_wide from to v_under w_under under =
+    let not_above : rightward a b p ≤ leftward a b p → ⊥ = λ above.
+    let by_v = times_le (leftward a b v) (rightward a b v) p.x w.x v_under to in
+    let by_w = times_le (leftward a b w) (rightward a b w) v.x p.x w_under from in
+    let by_link = times (leftward v w p) (rightward v w p) a.x b.x under wide in
+    let by_line = times_le (rightward a b p) (leftward a b p) v.x w.x above (omega arith) in
+    omega arith
+    in omega (arith, not_above)
 
 -- a point on the line of a link, in its columns, is in its rows
 rows_by_columns : (v w p : GridPoint) → v.x < w.x → leftward v w p ≡ rightward v w p → v.x ≤ p.x → p.x ≤ w.x → IsFromTo v.y w.y p.y
@@ -143,13 +171,13 @@ flat_follows t wide flat = record {
   forth = λ v w onward. let less : v.x < w.x = transport (flat_onward t v w flat) onward in omega (arith, ints);
   onward = λ v w forth. let less : v.x < w.x = omega (arith, ints) in transport (sym (flat_onward t v w flat)) less;
   apart = λ v w forth within close p from to.
-      apart_by t (link_of v w) p (outside_by_close t (link_of v w) wide (omega (arith, ints))
-      (transport (flat_close t (link_of v w) flat) close) p
+      apart_by_bare t (way v w) p (bare_by_close t (way v w) wide (omega (arith, ints))
+      (transport (flat_close t (way v w) flat) close) p
       (omega (arith, ints)) (omega (arith, ints)) (omega (arith, ints)) (omega (arith, ints)));
   close = λ v w forth apart.
-      let up = close_by_outside t (link_of v w) wide (omega (arith, ints))
-      (λ p from to. outside_by t (link_of v w) p (apart p (omega (arith, ints)) (omega (arith, ints)))) in
-      transport (sym (flat_close t (link_of v w) flat)) up;
+      let up = close_by_sides t (way v w) wide (omega (arith, ints))
+      (λ p from to. bare_by_apart t (way v w) p (apart p (omega (arith, ints)) (omega (arith, ints)))) in
+      transport (sym (flat_close t (way v w) flat)) up;
   beside = λ v w p forth fact.
       let range : IsFromTo v.x w.x p.x = transport (flat_beside t v w p flat) fact in (
         omega (arith, ints),
@@ -160,11 +188,9 @@ flat_follows t wide flat = record {
         },
       );
   inside = λ p on not_a not_b.
-      let line = on_is t.a t.b p on.line in
+      let inner = inner_columns t p (omega arith) on not_a not_b in
       let box = on.box in
-      let not_first : p.x ≡ t.a.x → ⊥ = λ at. not_a (same_point p t.a at (row_of_a t.a t.b p wide line at)) in
-      let not_last : p.x ≡ t.b.x → ⊥ = λ at. not_b (same_point p t.b at (row_of_b t.a t.b p wide line at)) in
-      (omega (arith, ints, box.0, not_first), omega (arith, ints, box.0, not_last));
+      (omega (arith, ints, box.0, inner.0), omega (arith, ints, box.0, inner.1));
   between = λ v w p forth from to. between_by t v w p
       (λ v_above w_above above. above_link t.a t.b v w p wide (omega (arith, ints)) (omega (arith, ints))
       (omega (arith, ints)) v_above w_above above)
@@ -200,15 +226,15 @@ rising_follows t high steep rising = record {
   forth = λ v w onward. let less : v.y < w.y = transport (rising_onward t v w steep rising) onward in omega (arith, ints);
   onward = λ v w forth. let less : v.y < w.y = omega (arith, ints) in transport (sym (rising_onward t v w steep rising)) less;
   apart = λ v w forth within close p from to.
-      apart_by t (link_of v w) p (outside_exchanged (exchanged t) (exchanged (link_of v w)) (exchanged_point p)
-      (outside_by_close (exchanged t) (exchanged (link_of v w)) high (omega (arith, ints))
-      (transport (steep_close t (link_of v w) steep) close) (exchanged_point p)
+      apart_by_bare t (way v w) p (bare_exchanged (exchanged t) (exchanged (way v w)) (exchanged_point p)
+      (bare_by_close (exchanged t) (exchanged (way v w)) high (omega (arith, ints))
+      (transport (steep_close t (way v w) steep) close) (exchanged_point p)
       (omega (arith, ints)) (omega (arith, ints)) (omega (arith, ints)) (omega (arith, ints))));
   close = λ v w forth apart.
-      let up = close_by_outside (exchanged t) (exchanged (link_of v w)) high (omega (arith, ints))
-      (λ p from to. outside_exchanged t (link_of v w) (exchanged_point p)
-      (outside_by t (link_of v w) (exchanged_point p) (apart (exchanged_point p) (omega (arith, ints)) (omega (arith, ints))))) in
-      transport (sym (steep_close t (link_of v w) steep)) up;
+      let up = close_by_sides (exchanged t) (exchanged (way v w)) high (omega (arith, ints))
+      (λ p from to. bare_exchanged t (way v w) (exchanged_point p)
+      (bare_by_apart t (way v w) (exchanged_point p) (apart (exchanged_point p) (omega (arith, ints)) (omega (arith, ints))))) in
+      transport (sym (steep_close t (way v w) steep)) up;
   beside = λ v w p forth fact.
       let range : IsFromTo v.y w.y p.y = transport (steep_beside t v w p steep) fact in (
         omega (arith, ints),
@@ -223,13 +249,9 @@ rising_follows t high steep rising = record {
         },
       );
   inside = λ p on not_a not_b.
-      let line = on_is t.a t.b p on.line in
+      let inner = inner_rows t p (omega arith) on not_a not_b in
       let box = on.box in
-      let not_first : p.y ≡ t.a.y → ⊥ =
-      λ at. not_a (same_point p t.a (row_of_a (exchanged_point t.a) (exchanged_point t.b) (exchanged_point p) high (omega arith) at) at) in
-      let not_last : p.y ≡ t.b.y → ⊥ =
-      λ at. not_b (same_point p t.b (row_of_b (exchanged_point t.a) (exchanged_point t.b) (exchanged_point p) high (omega arith) at) at) in
-      (omega (arith, ints, box.1, not_first), omega (arith, ints, box.1, not_last));
+      (omega (arith, ints, box.1, inner.0), omega (arith, ints, box.1, inner.1));
   between = λ v w p forth from to. between_by t v w p
       (λ v_above w_above above. let less = under_link (exchanged_point t.a) (exchanged_point t.b) (exchanged_point v) (exchanged_point w)
       (exchanged_point p)
@@ -246,18 +268,18 @@ falling_follows t high steep falling = record {
   forth = λ v w onward. let less : w.y < v.y = transport (falling_onward t v w steep falling) onward in omega (arith, ints);
   onward = λ v w forth. let less : w.y < v.y = omega (arith, ints) in transport (sym (falling_onward t v w steep falling)) less;
   apart = λ v w forth within close p from to.
-      let up = close_reversed (reversed (exchanged t)) (reversed (exchanged (link_of v w)))
-      (transport (steep_close t (link_of v w) steep) close) in
-      let outside = outside_by_close (reversed (exchanged t)) (reversed (exchanged (link_of v w))) high (omega (arith, ints)) up
+      let up = close_by_reversed (reversed (exchanged t)) (reversed (exchanged (way v w)))
+      (transport (steep_close t (way v w) steep) close) in
+      let bare = bare_by_close (reversed (exchanged t)) (reversed (exchanged (way v w))) high (omega (arith, ints)) up
       (exchanged_point p)
       (omega (arith, ints)) (omega (arith, ints)) (omega (arith, ints)) (omega (arith, ints)) in
-      apart_by t (link_of v w) p (outside_exchanged (exchanged t) (exchanged (link_of v w)) (exchanged_point p)
-      (outside_reversed (reversed (exchanged t)) (reversed (exchanged (link_of v w))) (exchanged_point p) outside));
+      apart_by_bare t (way v w) p (bare_exchanged (exchanged t) (exchanged (way v w)) (exchanged_point p)
+      (bare_reversed (reversed (exchanged t)) (reversed (exchanged (way v w))) (exchanged_point p) bare));
   close = λ v w forth apart.
-      let up = close_by_outside (reversed (exchanged t)) (reversed (exchanged (link_of v w))) high (omega (arith, ints))
-      (λ p from to. outside_reversed (exchanged t) (exchanged (link_of v w)) p (outside_exchanged t (link_of v w) (exchanged_point p)
-      (outside_by t (link_of v w) (exchanged_point p) (apart (exchanged_point p) (omega (arith, ints)) (omega (arith, ints)))))) in
-      transport (sym (steep_close t (link_of v w) steep)) (close_reversed (exchanged t) (exchanged (link_of v w)) up);
+      let up = close_by_sides (reversed (exchanged t)) (reversed (exchanged (way v w))) high (omega (arith, ints))
+      (λ p from to. bare_reversed (exchanged t) (exchanged (way v w)) p (bare_exchanged t (way v w) (exchanged_point p)
+      (bare_by_apart t (way v w) (exchanged_point p) (apart (exchanged_point p) (omega (arith, ints)) (omega (arith, ints)))))) in
+      transport (sym (steep_close t (way v w) steep)) (close_by_reversed (exchanged t) (exchanged (way v w)) up);
   beside = λ v w p forth fact.
       let range : IsFromTo v.y w.y p.y = transport (steep_beside t v w p steep) fact in (
         omega (arith, ints),
@@ -268,13 +290,9 @@ falling_follows t high steep falling = record {
             (omega (arith, ints)) in record { line = line; box = (omega arith, range) },
       );
   inside = λ p on not_a not_b.
-      let line = on_is t.a t.b p on.line in
+      let inner = inner_rows t p (omega arith) on not_a not_b in
       let box = on.box in
-      let not_first : p.y ≡ t.a.y → ⊥ =
-      λ at. not_a (same_point p t.a (row_of_b (exchanged_point t.b) (exchanged_point t.a) (exchanged_point p) high (omega arith) at) at) in
-      let not_last : p.y ≡ t.b.y → ⊥ =
-      λ at. not_b (same_point p t.b (row_of_a (exchanged_point t.b) (exchanged_point t.a) (exchanged_point p) high (omega arith) at) at) in
-      (omega (arith, ints, box.1, not_first), omega (arith, ints, box.1, not_last));
+      (omega (arith, ints, box.1, inner.0), omega (arith, ints, box.1, inner.1));
   between = λ v w p forth from to. between_by t v w p
       (λ v_above w_above above. let more = above_link (exchanged_point t.b) (exchanged_point t.a) (exchanged_point w) (exchanged_point v)
       (exchanged_point p)

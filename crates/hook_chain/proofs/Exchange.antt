@@ -3,25 +3,17 @@ use Rattle.std.proofs.Common.{◌≡◌, Bool, true, false, if◌then◌else◌,
 use Rattle.grid_base.specs.Point.{GridPoint, is_before}
 use Rattle.grid_base.specs.Segment.{GridSegment, segment_of, is_flat}
 use Rattle.grid_base.specs.Places.{RationalPoint, IsPlace}
-use Rattle.grid_base.proofs.Lines.{IsOnLine, line_is, line_by}
+pub use Rattle.segment_envelope.proofs.Ways.{way, place_back}
 use Rattle.hook_chain.specs.Close.{IsCloseUp, Close}
 use Rattle.grid_base.specs.Segment.{exchanged, exchanged_point}
 
--- the way from v to w, as a segment whose ends may stand in either order
-abbrev pub way : GridPoint → GridPoint → GridSegment
-way v w = record { a = v; b = w }
+-- the same segment with its ends exchanged
+abbrev pub reversed : GridSegment → GridSegment
+reversed s = way s.b s.a
 
--- a place of the way there is a place of the way back
-pub place_back : (v w : GridPoint) (q : RationalPoint) → IsPlace (way v w) q → IsPlace (way w v) q
-place_back v w q place =
-    let line = line_is (way v w) q place in
-    let back : IsOnLine (way w v) q = omega arith in
-    record {
-      real = place.real;
-      line = line_by (way w v) q back;
-      across = omega (arith, place.across);
-      up = omega (arith, place.up);
-    }
+-- what is close by columns with the ends of both exchanged is close
+pub close_by_reversed : (o p : GridSegment) → IsCloseUp (reversed o) (reversed p) → IsCloseUp o p
+close_by_reversed o p close g r q of_o of_p = close g r q (place_back o.a o.b r of_o) (place_back p.a p.b q of_p)
 
 -- the way, turned round where the test says no
 abbrev turned_unless : Bool → GridPoint → GridPoint → GridSegment

@@ -1,5 +1,6 @@
 -- A piece has a hook at each point near it, and hooks are monotone: what the code computes is there whether it is computed or not.
-use Rattle.std.proofs.Common.{◌≡◌, ◌≢◌, ◌⊎◌, ℕ, zero, suc, ◌+◌, ◌-◌, ◌*◌, ◌/◌, ◌<◌, ◌≤◌, Bool, true, false, not, ◌&&◌, nat_lt, List, [], ◌∷◌, ◌++◌, map, reverse, refl, sym, subst, arith, inl, inr}
+use Rattle.std.proofs.Common.{◌≡◌, ◌≢◌, ◌⊎◌, ℕ, zero, suc, ◌+◌, ◌-◌, ◌*◌, ◌/◌, ◌<◌, ◌≤◌, Bool, true, false, not, ◌&&◌, nat_lt, List, []}
+use Rattle.std.proofs.Common.{◌∷◌, ◌++◌, map, reverse, refl, sym, subst, arith, inl, inr}
 use Rattle.grid_base.specs.Point.{GridPoint, point_at, IsBefore}
 use Rattle.grid_base.specs.Segment.{GridSegment, is_flat}
 use Rattle.grid_base.specs.Sides.{Side, Left, On, Right, side}
@@ -12,7 +13,8 @@ use Rattle.hook_chain.specs.Parts.{IsPartTo}
 use Rattle.hook_chain.specs.Placing.{cross, are_diagonals, placed, seen, side_for, IsGoal, IsSeen, IsWalkedTo, IsChartOf, turned}
 use Rattle.hook_chain.specs.Redrawing.{front}
 use Rattle.hook_chain.specs.ValidChain.{IsMonotone}
-use Rattle.hook_chain.proofs.LeastFractions.{HasLeast, has_least, less_or_not}
+use Rattle.hook_chain.proofs.LeastFractions.{HasLeast, has_least}
+use Rattle.hook_chain.proofs.Farey.{order}
 use Rattle.hook_chain.proofs.Walks.{away, IsWalk, begin, go_on, come, further}
 use Rattle.hook_chain.proofs.PieceCharts.{both_charted}
 use Rattle.hook_chain.proofs.HookParts.{IsMonotoneHook, hook_of_walks}
@@ -33,8 +35,9 @@ least_for c d (suc n) some columns = has_least c d n some
 walk_ends : (turns c d : ℕ) (goal z : GridPoint) (path : List GridPoint) → IsGoal c d goal → IsWalk c d goal z path
     → goal.x ≤ z.x + turns → HasPart c d goal
 walk_ends zero c d goal z path is_goal walk left = record { path = path; part = come c d goal z path is_goal walk (omega arith) }
-walk_ends (suc turns) c d goal z path is_goal walk left = elim (less_or_not z.x goal.x) [
-  | inl before ↦
+walk_ends (suc turns) c d goal z path is_goal walk left = elim (order goal.x z.x) [
+  | inl come_to ↦ record { path = path; part = come c d goal z path is_goal walk come_to }
+  | inr before ↦
       let proper = is_goal.proper in
       let least = least_for c d (goal.x - z.x) (omega arith) (omega arith) in
       let m = (goal.x - z.x) / least.q in
@@ -42,7 +45,6 @@ walk_ends (suc turns) c d goal z path is_goal walk left = elim (less_or_not z.x 
       let on = further c d least.p least.q m goal z least.is refl in
       walk_ends turns c d goal next (path ++ next ∷ []) is_goal (go_on c d least.p least.q m goal z path is_goal walk before least.is refl)
       (omega arith)
-  | inr come_to ↦ record { path = path; part = come c d goal z path is_goal walk come_to }
 ]
 
 has_part : (c d : ℕ) (goal : GridPoint) → IsGoal c d goal → HasPart c d goal

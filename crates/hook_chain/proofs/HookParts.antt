@@ -1,5 +1,6 @@
 -- The walks from both ends of a piece to a point beside it make up its hook there.
-use Rattle.std.proofs.Common.{◌≡◌, ◌≢◌, ◌<ℤ◌, List, [], ◌∷◌, ◌++◌, reverse, Option, Some, None, MatchOption, ℕ, ◌+◌, length, append-nil, refl, sym, ap, subst, ◌∙◌, arith, inr}
+use Rattle.std.proofs.Common.{◌≡◌, ◌≢◌, ◌<ℤ◌, List, [], ◌∷◌, ◌++◌, reverse, Option, Some, None, MatchOption, ℕ, ◌+◌, length, append-nil}
+use Rattle.std.proofs.Common.{refl, sym, ap, subst, ◌∙◌, arith, inr}
 use Rattle.std.proofs.lemmas.Int.{ints}
 use Rattle.std.specs.List.{AllByRecursion}
 use Rattle.std.specs.Option.{option_to_list}
@@ -17,7 +18,8 @@ use Rattle.hook_chain.specs.Redrawing.{front}
 use Rattle.hook_chain.specs.Placing.{seen, IsSeen, IsWalkedTo, IsChartOf, turned}
 use Rattle.hook_chain.proofs.Axes.{Axis}
 use Rattle.hook_chain.proofs.TautPaths.{Frame, IsTaut}
-use Rattle.hook_chain.proofs.Paths.{backwards, reverse_is, rest_of, head_and_rest, links_map, links_both, links_join, links_back, IsForthAlong}
+use Rattle.hook_chain.proofs.Paths.{backwards, reverse_is, rest_of, head_and_rest, links_map, links_both, links_join, links_back}
+use Rattle.hook_chain.proofs.Paths.{IsForthAlong}
 use Rattle.hook_chain.proofs.Directions.{Follows}
 use Rattle.hook_chain.proofs.BentPaths.{frame_of}
 use Rattle.hook_chain.proofs.Placings.{along_for, along_placed}

@@ -12,7 +12,8 @@ use Rattle.hook_chain.specs.Chains.{AllLinks}
 use Rattle.hook_chain.specs.Hook.{InTriangle, IsOnward, IsBent}
 use Rattle.hook_chain.proofs.Axes.{Axis, bend, bend_swap, bend_back, bend_above}
 use Rattle.hook_chain.proofs.TautPaths.{Frame, IsSound, frame_sound, IsBeyond, IsForth, BendsUp, IsBare, IsTaut}
-use Rattle.hook_chain.proofs.Paths.{vertices_map, vertices_both, links_map, links_both, bends_map, links_of_vertices, vertices_join, links_join, IsBetween, vertices_between, IsForthAlong}
+use Rattle.hook_chain.proofs.Paths.{vertices_map, vertices_both, links_map, links_both, bends_map, links_of_vertices, vertices_join}
+use Rattle.hook_chain.proofs.Paths.{links_join, IsBetween, vertices_between, IsForthAlong}
 use Rattle.hook_chain.proofs.Directions.{Follows, AllApart}
 use Rattle.hook_chain.proofs.PlacedParts.{IsUnderChord}
 use Rattle.hook_chain.proofs.BentPaths.{frame_of, IsCloseLink}

@@ -1,7 +1,9 @@
 -- There is a least fraction that isn't below another, among those with a small denominator.
 use Rattle.std.proofs.Common.{◌≡◌, ◌⊎◌, ℕ, zero, suc, ◌+◌, ◌-◌, ◌*◌, ◌/◌, ◌<◌, ◌≤◌, ap, subst, arith, inl, inr}
+use Rattle.std.proofs.Math.Nat.{lt_of_mul-lt-mul_right}
 use Rattle.grid_base.proofs.Turns.{times, times_le}
 use Rattle.hook_chain.specs.Fractions.{IsLeastAbove}
+use Rattle.hook_chain.proofs.Farey.{order}
 
 -- the least multiple of d that isn't below m, by its factor
 record IsCeiling (m d a : ℕ) : Type 0 where
@@ -23,12 +25,6 @@ pub record HasLeast (c d n : ℕ) : Type 0 where
   pub q : ℕ
   pub is : IsLeastAbove c d n p q
 
--- a factor above 0 cancels in a strict order
-cancels : (a b q : ℕ) → a * q < b * q → a < b
-cancels a b q less =
-    let not_at_least : b ≤ a → ⊥ = λ at_least. let product = times_le b a 0 q at_least (omega arith) in omega arith in
-    omega (arith, not_at_least)
-
 -- a whole number, where the denominator is 1
 with_one : (c d : ℕ) → 0 < d → HasLeast c d 1
 with_one c d some =
@@ -49,28 +45,25 @@ with_one c d some =
       };
     }
 
--- a denominator is the last one or one before
-last_or_before : (n e : ℕ) → e ≤ n + 1 → (e ≡ n + 1) ⊎ (e ≤ n)
-last_or_before n e at_most = grind arith
-
 -- the fraction of the next denominator is less than the least of the others, or not
-with_next : (c d n a p q : ℕ) → IsCeiling (c * (n + 1)) d a → IsLeastAbove c d n p q → (a * q < p * (n + 1)) ⊎ (p * (n + 1) ≤ a * q)
+with_next : (c d n a p q : ℕ) → IsCeiling (c * (n + 1)) d a → IsLeastAbove c d n p q → (p * (n + 1) ≤ a * q) ⊎ (a * q < p * (n + 1))
     → HasLeast c d (n + 1)
-with_next c d n a p q top old (inl less) = record {
+with_next c d n a p q top old (inr less) = record {
   p = a;
   q = n + 1;
   is = record {
     some = omega arith;
     within = omega arith;
     above = omega (arith, top.above);
-    least = λ b e some_e at_most above. elim (last_or_before n e at_most) [
-      | inl last ↦
+    least = λ b e some_e at_most above. elim (order e n) [
+      | inl before ↦ (let strict = smaller b e some_e before above in omega arith)
+      | inr after ↦
+          let last : e ≡ n + 1 = omega arith in
           let c_last = ap (λ (k : ℕ). c * k) last in
           let a_last = ap (λ (k : ℕ). a * k) last in
           let at_least = top.least b (omega arith) in
           let product = times_le a b 0 (n + 1) at_least (omega arith) in
           omega arith
-      | inr before ↦ (let strict = smaller b e some_e before above in omega arith)
     ];
     lowest = λ b e some_e before above. smaller b e some_e (omega arith) above;
   };
@@ -81,30 +74,27 @@ with_next c d n a p q top old (inl less) = record {
         let at_least = old.least b e some_e before above in
         let first = times 0 e (a * q) (p * (n + 1)) some_e less in
         let second = times_le (p * e) (b * q) 0 (n + 1) at_least (omega arith) in
-        cancels (a * e) (b * (n + 1)) q (omega arith)
-with_next c d n a p q top old (inr not_less) = record {
+        lt_of_mul-lt-mul_right q {m = a * e} {n = b * (n + 1)} (omega arith)
+with_next c d n a p q top old (inl not_less) = record {
   p = p;
   q = q;
   is = record {
     some = old.some;
     within = omega (arith, old.within);
     above = old.above;
-    least = λ b e some_e at_most above. elim (last_or_before n e at_most) [
-      | inl last ↦
+    least = λ b e some_e at_most above. elim (order e n) [
+      | inl before ↦ old.least b e some_e before above
+      | inr after ↦
+          let last : e ≡ n + 1 = omega arith in
           let c_last = ap (λ (k : ℕ). c * k) last in
           let p_last = ap (λ (k : ℕ). p * k) last in
           let at_least = top.least b (omega arith) in
           let product = times_le a b 0 q at_least (omega arith) in
           omega arith
-      | inr before ↦ old.least b e some_e before above
     ];
     lowest = old.lowest;
   };
 }
-
--- of two numbers one is less, or not
-pub less_or_not : (m n : ℕ) → (m < n) ⊎ (n ≤ m)
-less_or_not m n = grind arith
 
 -- for each greatest denominator there is one
 pub has_least : (c d n : ℕ) → 0 < d → HasLeast c d (suc n)
@@ -114,4 +104,4 @@ has_least c d (suc n) some =
     let a = (c * (suc n + 1) + (d - 1)) / d in
     let next : suc n + 1 ≡ suc (suc n) = omega arith in
     subst (λ (k : ℕ). HasLeast c d k) next (with_next c d (suc n) a old.p old.q (ceiling (c * (suc n + 1)) d some) old.is
-    (less_or_not (a * old.q) (old.p * (suc n + 1))))
+    (order (old.p * (suc n + 1)) (a * old.q)))

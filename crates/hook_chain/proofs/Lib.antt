@@ -4,8 +4,10 @@ pub mod Axes
 pub mod Paths
 -- taut paths, of which there is one
 pub mod TautPaths
--- close links, by side numbers
-pub mod LinkSides
+-- close by the sides of grid points
+pub mod Closes
+-- segments with their ends in either order
+pub mod Exchange
 -- each piece follows an axis
 pub mod Directions
 -- the parts of a bent hook are taut
@@ -40,8 +42,6 @@ pub mod CloseHooks
 mod Climbs
 -- the search along a piece, turn by turn
 mod Descents
--- close by the sides of grid points
-pub mod Closes
 -- closeness as a matter of ways in raised columns
 mod Raised
 -- when a piece is clear of a line
@@ -50,8 +50,6 @@ mod Clear
 mod Slanted
 -- vertical pieces
 pub mod Upright
--- segments with their ends in either order
-pub mod Exchange
 -- pieces of close pieces, and an original itself
 pub mod CloseParts
 -- grid points on close pieces

@@ -1,5 +1,6 @@
 -- The walks from the two ends of a piece to a point near it, along the piece's chart and back, are ones that the search can go.
-use Rattle.std.proofs.Common.{◌≡◌, ◌≢◌, ℕ, ◌+◌, ◌-◌, ◌*◌, ◌<◌, ◌≤◌, max, Bool, true, false, not, ◌&&◌, nat_lt, unsigned_abs, ℤ, pos, negsuc, neg_ℤ, ◌<ℤ◌, ◌≤ℤ◌, refl, sym, ap, subst, arith, inl, inr}
+use Rattle.std.proofs.Common.{◌≡◌, ◌≢◌, ℕ, ◌+◌, ◌-◌, ◌*◌, ◌<◌, ◌≤◌, max, Bool, true, false, not, ◌&&◌, nat_lt, unsigned_abs, ℤ, pos, negsuc}
+use Rattle.std.proofs.Common.{neg_ℤ, ◌<ℤ◌, ◌≤ℤ◌, refl, sym, ap, subst, arith, inl, inr}
 use Rattle.std.proofs.lemmas.Int.{ints}
 use Rattle.std.proofs.lemmas.Bool.{leb-true, leb-false, ltb-true, ltb-false, lt-ltb, le-ltb}
 use Rattle.grid_base.specs.Point.{GridPoint, point_at, IsBefore, gap, InBox}
@@ -8,7 +9,8 @@ use Rattle.grid_base.specs.Sides.{turn, Side, Left, On, Right, side}
 use Rattle.grid_base.proofs.Turns.{times_le}
 use Rattle.segment_envelope.specs.Near.{Near}
 use Rattle.hook_chain.specs.declared.charts.Chart.{Chart}
-use Rattle.hook_chain.specs.Placing.{course, cross, seen, IsAcross, IsUp, IsPlaced, side_for, IsGoal, are_diagonals, IsCharted, IsSeen, IsChartOf, turned}
+use Rattle.hook_chain.specs.Placing.{course, cross, seen, IsAcross, IsUp, IsPlaced, side_for, IsGoal, are_diagonals, IsCharted, IsSeen}
+use Rattle.hook_chain.specs.Placing.{IsChartOf, turned}
 use Rattle.hook_chain.proofs.Axes.{Axis, rightwards, upwards, downwards, bend, bend_above}
 use Rattle.hook_chain.proofs.Directions.{Follows, flat_follows, rising_follows, falling_follows}
 use Rattle.hook_chain.proofs.Placings.{along_for, bend_placed, place_of, start_placed, seen_is}

@@ -1,5 +1,6 @@
 -- The places of a walk and the points of the grid at them: they turn alike, so what is proved of the one holds of the other.
-use Rattle.std.proofs.Common.{◌≡◌, ℕ, ◌+◌, ◌-◌, ◌*◌, ◌<◌, ◌≤◌, Bool, true, false, if◌then◌else◌, ℤ, pos, ◌-ℤ◌, ◌+ℤ◌, neg_ℤ, ◌≤ℤ◌, refl, sym, ap, subst, ◌∙◌, arith}
+use Rattle.std.proofs.Common.{◌≡◌, ℕ, ◌+◌, ◌-◌, ◌*◌, ◌<◌, ◌≤◌, Bool, true, false, if◌then◌else◌, ℤ, pos, ◌-ℤ◌, ◌+ℤ◌, neg_ℤ, ◌≤ℤ◌, refl, sym}
+use Rattle.std.proofs.Common.{ap, subst, ◌∙◌, arith}
 use Rattle.std.proofs.lemmas.Int.{ints}
 use Rattle.grid_base.specs.Point.{GridPoint, point_at}
 use Rattle.grid_base.specs.Sides.{turn}
@@ -34,26 +35,20 @@ turn_flipped p q r p1 q1 r1 sums =
     let walk = turn_is p1 q1 r1 in
     omega (arith, ints)
 
+-- three equations, each times the one and the other of two numbers, as the two sums of a turn take them
+sums_scaled : (n1 n2 n3 l1 l2 l3 r1 r2 r3 : ℕ) → l1 ≡ r1 → l2 ≡ r2 → l3 ≡ r3
+    → (l1 * n2 + l2 * n3 + l3 * n1 ≡ r1 * n2 + r2 * n3 + r3 * n1) × (l1 * n3 + l2 * n1 + l3 * n2 ≡ r1 * n3 + r2 * n1 + r3 * n2)
+sums_scaled n1 n2 n3 l1 l2 l3 r1 r2 r3 e1 e2 e3 =
+    (λ i. e1 i * n2 + e2 i * n3 + e3 i * n1, λ i. e1 i * n3 + e2 i * n1 + e3 i * n2)
+
 -- columns of the grid for those of a walk
 turn_across : (back : Bool) (start n1 n2 n3 m1 m2 m3 y1 y2 y3 : ℕ) → IsAcross back start n1 m1 → IsAcross back start n2 m2
     → IsAcross back start n3 m3
     → turn (point_at m1 y1) (point_at m2 y2) (point_at m3 y3) ≡ flip back (turn (point_at n1 y1) (point_at n2 y2) (point_at n3 y3))
 turn_across false start n1 n2 n3 m1 m2 m3 y1 y2 y3 e1 e2 e3 =
-    let a1 = ap (λ (t : ℕ). t * y2) e1 in
-    let a2 = ap (λ (t : ℕ). t * y3) e2 in
-    let a3 = ap (λ (t : ℕ). t * y1) e3 in
-    let b1 = ap (λ (t : ℕ). t * y3) e1 in
-    let b2 = ap (λ (t : ℕ). t * y1) e2 in
-    let b3 = ap (λ (t : ℕ). t * y2) e3 in
-    turn_kept (point_at m1 y1) (point_at m2 y2) (point_at m3 y3) (point_at n1 y1) (point_at n2 y2) (point_at n3 y3) (omega arith)
+    let sums = sums_scaled y1 y2 y3 _ _ _ _ _ _ e1 e2 e3 in turn_kept _ _ _ _ _ _ (omega arith)
 turn_across true start n1 n2 n3 m1 m2 m3 y1 y2 y3 e1 e2 e3 =
-    let a1 = ap (λ (t : ℕ). t * y2) e1 in
-    let a2 = ap (λ (t : ℕ). t * y3) e2 in
-    let a3 = ap (λ (t : ℕ). t * y1) e3 in
-    let b1 = ap (λ (t : ℕ). t * y3) e1 in
-    let b2 = ap (λ (t : ℕ). t * y1) e2 in
-    let b3 = ap (λ (t : ℕ). t * y2) e3 in
-    turn_flipped (point_at m1 y1) (point_at m2 y2) (point_at m3 y3) (point_at n1 y1) (point_at n2 y2) (point_at n3 y3) (omega arith)
+    let sums = sums_scaled y1 y2 y3 _ _ _ _ _ _ e1 e2 e3 in turn_flipped _ _ _ _ _ _ (omega arith)
 
 -- rows of the grid for those of a walk
 turn_up : (under sheared : Bool) (start n1 n2 n3 k1 k2 k3 o1 o2 o3 : ℕ) → IsUp under sheared start n1 k1 o1
@@ -61,37 +56,13 @@ turn_up : (under sheared : Bool) (start n1 n2 n3 k1 k2 k3 o1 o2 o3 : ℕ) → Is
     → IsUp under sheared start n3 k3 o3
     → turn (point_at n1 o1) (point_at n2 o2) (point_at n3 o3) ≡ flip under (turn (point_at n1 k1) (point_at n2 k2) (point_at n3 k3))
 turn_up false false start n1 n2 n3 k1 k2 k3 o1 o2 o3 e1 e2 e3 =
-    let a1 = ap (λ (t : ℕ). t * n2) e1 in
-    let a2 = ap (λ (t : ℕ). t * n3) e2 in
-    let a3 = ap (λ (t : ℕ). t * n1) e3 in
-    let b1 = ap (λ (t : ℕ). t * n3) e1 in
-    let b2 = ap (λ (t : ℕ). t * n1) e2 in
-    let b3 = ap (λ (t : ℕ). t * n2) e3 in
-    turn_kept (point_at n1 o1) (point_at n2 o2) (point_at n3 o3) (point_at n1 k1) (point_at n2 k2) (point_at n3 k3) (omega arith)
+    let sums = sums_scaled n1 n2 n3 _ _ _ _ _ _ e1 e2 e3 in turn_kept _ _ _ _ _ _ (omega arith)
 turn_up false true start n1 n2 n3 k1 k2 k3 o1 o2 o3 e1 e2 e3 =
-    let a1 = ap (λ (t : ℕ). t * n2) e1 in
-    let a2 = ap (λ (t : ℕ). t * n3) e2 in
-    let a3 = ap (λ (t : ℕ). t * n1) e3 in
-    let b1 = ap (λ (t : ℕ). t * n3) e1 in
-    let b2 = ap (λ (t : ℕ). t * n1) e2 in
-    let b3 = ap (λ (t : ℕ). t * n2) e3 in
-    turn_kept (point_at n1 o1) (point_at n2 o2) (point_at n3 o3) (point_at n1 k1) (point_at n2 k2) (point_at n3 k3) (omega arith)
+    let sums = sums_scaled n1 n2 n3 _ _ _ _ _ _ e1 e2 e3 in turn_kept _ _ _ _ _ _ (omega arith)
 turn_up true false start n1 n2 n3 k1 k2 k3 o1 o2 o3 e1 e2 e3 =
-    let a1 = ap (λ (t : ℕ). t * n2) e1 in
-    let a2 = ap (λ (t : ℕ). t * n3) e2 in
-    let a3 = ap (λ (t : ℕ). t * n1) e3 in
-    let b1 = ap (λ (t : ℕ). t * n3) e1 in
-    let b2 = ap (λ (t : ℕ). t * n1) e2 in
-    let b3 = ap (λ (t : ℕ). t * n2) e3 in
-    turn_flipped (point_at n1 o1) (point_at n2 o2) (point_at n3 o3) (point_at n1 k1) (point_at n2 k2) (point_at n3 k3) (omega arith)
+    let sums = sums_scaled n1 n2 n3 _ _ _ _ _ _ e1 e2 e3 in turn_flipped _ _ _ _ _ _ (omega arith)
 turn_up true true start n1 n2 n3 k1 k2 k3 o1 o2 o3 e1 e2 e3 =
-    let a1 = ap (λ (t : ℕ). t * n2) e1 in
-    let a2 = ap (λ (t : ℕ). t * n3) e2 in
-    let a3 = ap (λ (t : ℕ). t * n1) e3 in
-    let b1 = ap (λ (t : ℕ). t * n3) e1 in
-    let b2 = ap (λ (t : ℕ). t * n1) e2 in
-    let b3 = ap (λ (t : ℕ). t * n2) e3 in
-    turn_flipped (point_at n1 o1) (point_at n2 o2) (point_at n3 o3) (point_at n1 k1) (point_at n2 k2) (point_at n3 k3) (omega arith)
+    let sums = sums_scaled n1 n2 n3 _ _ _ _ _ _ e1 e2 e3 in turn_flipped _ _ _ _ _ _ (omega arith)
 
 -- ---- both coordinates
 -- a point of the grid as the walk sees its coordinates

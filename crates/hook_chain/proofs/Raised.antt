@@ -5,7 +5,7 @@ use Rattle.grid_base.specs.Point.{GridPoint, point_at}
 use Rattle.grid_base.specs.Segment.{GridSegment}
 use Rattle.grid_base.proofs.Turns.{times, times_le, leftward, rightward}
 use Rattle.hook_chain.specs.Climbs.{IsRaised}
-use Rattle.hook_chain.proofs.Climbs.{order}
+use Rattle.hook_chain.proofs.Farey.{order}
 use Rattle.hook_chain.proofs.Closes.{IsBare}
 
 -- the sum to the left at column x, in the row of n less m

@@ -8,7 +8,7 @@ use Rattle.grid_base.proofs.Turns.{leftward, rightward, turn_is}
 use Rattle.grid_base.proofs.Signs
 use Rattle.hook_chain.specs.Close.{IsCloseUp}
 use Rattle.hook_chain.specs.Climbs.{IsRaised, AllSteeperClimb, AllSteeperWithinClimb}
-use Rattle.hook_chain.proofs.Climbs.{order}
+use Rattle.hook_chain.proofs.Farey.{order}
 use Rattle.hook_chain.proofs.Closes.{close_by_sides, sides_by_close}
 use Rattle.hook_chain.proofs.Raised.{IsRaisedPair, IsClear, sides_at, bare_by_clear, clear_by_bare}
 use Rattle.hook_chain.proofs.Clear.{IsSpan, clear_by_steeper, clear_by_flatter, near_ends, steeper_by_clear, flatter_by_clear}

@@ -1,10 +1,12 @@
 -- The points of the grid that the walk has come by.
-use Rattle.std.proofs.Common.{◌≡◌, ℕ, ◌+◌, ◌-◌, ◌*◌, ◌/◌, ◌<◌, ◌≤◌, ◌^◌, Bool, true, false, if◌then◌else◌, List, [], ◌∷◌, ◌++◌, map, refl, sym, ap, subst, ◌∙◌, arith}
+use Rattle.std.proofs.Common.{◌≡◌, ℕ, ◌+◌, ◌-◌, ◌*◌, ◌/◌, ◌<◌, ◌≤◌, ◌^◌, Bool, true, false, if◌then◌else◌, List, [], ◌∷◌, ◌++◌, map, refl}
+use Rattle.std.proofs.Common.{sym, ap, subst, ◌∙◌, arith}
 use Rattle.grid_base.specs.Point.{GridPoint, point_at, OnGrid}
 use Rattle.hook_chain.specs.declared.charts.Chart.{Chart}
 use Rattle.hook_chain.specs.Fractions.{IsLeastAbove}
 use Rattle.hook_chain.specs.Parts.{IsInReach}
-use Rattle.hook_chain.specs.Placing.{course, cross, passed, raised, placed, seen, IsAcross, IsUp, IsPlaced, IsCharted, IsSeen, IsWalked, IsWalkedTo}
+use Rattle.hook_chain.specs.Placing.{course, cross, passed, raised, placed, seen, IsAcross, IsUp, IsPlaced, IsCharted, IsSeen, IsWalked}
+use Rattle.hook_chain.specs.Placing.{IsWalkedTo}
 use Rattle.hook_chain.proofs.Paths.{vertices_last}
 use Rattle.hook_chain.proofs.Placings.{placed_one, placed_is, start_placed}
 use Rattle.hook_chain.proofs.PlacedParts.{origin_in_reach}

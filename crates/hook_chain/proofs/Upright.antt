@@ -1,5 +1,6 @@
 -- That a vertical piece is close by columns exactly where it is one high and the original passes strictly between its ends.
 use Rattle.std.proofs.Common.{◌≡◌, ℕ, ◌+◌, ◌*◌, ◌<◌, ◌≤◌, ap, arith, inl, inr}
+use Rattle.std.proofs.Math.Nat.{lt_of_mul-lt-mul_right}
 use Rattle.grid_base.specs.Point.{GridPoint, point_at, IsBefore}
 use Rattle.grid_base.specs.Segment.{GridSegment}
 use Rattle.grid_base.specs.Sides.{Left, Right, side}
@@ -9,7 +10,7 @@ use Rattle.grid_base.proofs.Lines.{IsOnLine, line_by}
 use Rattle.grid_base.proofs.Columns.{placed}
 use Rattle.hook_chain.specs.Close.{IsCloseUp}
 use Rattle.grid_base.specs.Places.{InColumn}
-use Rattle.hook_chain.proofs.Climbs.{order}
+use Rattle.hook_chain.proofs.Farey.{order}
 use Rattle.hook_chain.proofs.Closes.{in_range, not_under_place, not_above_place}
 
 -- the grid point (x, y) as a rational point
@@ -59,12 +60,6 @@ place_under_b o p g r upright straddled of_o here column =
     let right = not_above_place o p.b r upright.wide of_o in_b over in omega (arith, straddled.under_b) in
     omega (arith, not_over)
 
--- a strict order of products with one factor above 0 is one of the other factors
-less_by_product : (m n w : ℕ) → m * w < n * w → m < n
-less_by_product m n w less =
-    let not_more : n ≤ m → ⊥ = λ more. let gap = times_le n m 0 w more (omega arith) in omega arith in
-    omega (arith, not_more)
-
 -- a piece that is straddled is close
 pub close_by_straddled : (o p : GridSegment) → IsUpright o p → IsStraddled o p → IsCloseUp o p
 close_by_straddled o p upright straddled g r q of_o of_p column_o column_p from =
@@ -76,12 +71,12 @@ close_by_straddled o p upright straddled g r q of_o of_p column_o column_p from 
     let high = times_le p.a.y p.b.y 0 q.w (omega (arith, upright.up)) (omega arith) in
     elim from [
       | inl up ↦
-          let over = less_by_product p.a.y g.y r.w (omega arith) in
-          let under = less_by_product g.y p.b.y q.w (omega arith) in
+          let over = lt_of_mul-lt-mul_right r.w {m = p.a.y} {n = g.y} (omega arith) in
+          let under = lt_of_mul-lt-mul_right q.w {m = g.y} {n = p.b.y} (omega arith) in
           omega (arith, straddled.one_high)
       | inr down ↦
-          let under = less_by_product g.y p.b.y r.w (omega arith) in
-          let over = less_by_product p.a.y g.y q.w (omega arith) in
+          let under = lt_of_mul-lt-mul_right r.w {m = g.y} {n = p.b.y} (omega arith) in
+          let over = lt_of_mul-lt-mul_right q.w {m = p.a.y} {n = g.y} (omega arith) in
           omega (arith, straddled.one_high)
     ]
 

@@ -1,5 +1,6 @@
 -- The walk along least fractions keeps a part of a hook: from where it is, it turns to the least slope that isn't below the line's.
-use Rattle.std.proofs.Common.{◌≡◌, ◌⊎◌, ℕ, ◌+◌, ◌-◌, ◌*◌, ◌/◌, ◌<◌, ◌≤◌, ℤ, pos, ◌-ℤ◌, ◌<ℤ◌, List, [], ◌∷◌, ◌++◌, refl, sym, ap, subst, ◌∙◌, arith, inl, inr}
+use Rattle.std.proofs.Common.{◌≡◌, ◌⊎◌, ℕ, ◌+◌, ◌-◌, ◌*◌, ◌/◌, ◌<◌, ◌≤◌, ℤ, pos, ◌-ℤ◌, ◌<ℤ◌, List, [], ◌∷◌, ◌++◌, refl, sym, ap, subst, ◌∙◌}
+use Rattle.std.proofs.Common.{arith, inl, inr}
 use Rattle.std.proofs.lemmas.Int.{ints}
 use Rattle.grid_base.specs.Point.{GridPoint, point_at}
 use Rattle.grid_base.proofs.Turns.{times, times_le, leftward, rightward, turn_is}
@@ -7,7 +8,7 @@ use Rattle.grid_base.proofs.Ends.{same_point}
 use Rattle.hook_chain.specs.Fractions.{IsLeastAbove}
 use Rattle.hook_chain.specs.Parts.{Reaches, IsLow, IsLater, IsGentle, BendsLeft, IsBareLink, IsInReach, IsPartTo}
 use Rattle.hook_chain.specs.Placing.{IsGoal}
-use Rattle.hook_chain.proofs.Farey.{product_of_quotient}
+use Rattle.hook_chain.proofs.Farey.{order, product_of_quotient}
 use Rattle.hook_chain.proofs.Paths.{leads_push, vertices_push, links_push, LastLink, bends_push, last_pushed}
 
 -- the point q to the right of z and p above it, m times over
@@ -38,9 +39,6 @@ steep_enough c d r s b f some steep along =
     omega arith
     in omega (arith, not_below)
 
-none_or_some : (b : ℕ) → (b ≡ 0) ⊎ (0 < b)
-none_or_some b = grind arith
-
 -- a slope of at most p / q, where r / s is at most p / q too
 at_most_slope : (zx zy r s p q : ℕ) → 0 < s → zy * s ≤ r * zx → r * q ≤ p * s → zy * q ≤ p * zx
 at_most_slope zx zy r s p q some gradual less =
@@ -66,8 +64,8 @@ turned c d p q r s x z before some steep least tangent g from to reach =
     let s_up = ap (λ (n : ℕ). s * n) up in
     let along : r * b ≤ s * f = omega arith in
     let enough = steep_enough c d r s b f some steep along in
-    let best : p * b ≤ f * q = elim (none_or_some b) [
-      | inl none ↦ let e = ap (λ (n : ℕ). p * n) none in omega arith
+    let best : p * b ≤ f * q = elim (order b 0) [
+      | inl none ↦ let level = times_le b 0 0 p none (omega arith) in omega arith
       | inr more ↦ least.least f b more (omega arith) enough
     ] in
     let p_across = ap (λ (n : ℕ). p * n) across in
@@ -212,10 +210,6 @@ begin c d x leads =
       tangent = λ g from to reach. omega arith;
       bend = λ p q k some_k some fits steep. tt;
     }
-
--- the next place of the walk
-abbrev next_place : GridPoint → GridPoint → ℕ → ℕ → GridPoint
-next_place x z p q = away z ((x.x - z.x) / q * q) ((x.x - z.x) / q * p)
 
 -- and goes on by whole steps of the least fraction
 pub go_on : (c d p q m : ℕ) (x z : GridPoint) (path : List GridPoint) → IsGoal c d x → IsWalk c d x z path → z.x < x.x

@@ -1,4 +1,5 @@
--- Ways that climb against a line. A way is some columns across and some rows up.
+-- Ways that climb against a line. A way is some columns across and some rows up. No public clause cites
+-- this file.
 use Rattle.std.specs.Prelude.{◌≡◌, ℕ, ◌+◌, ◌*◌, ◌<◌, ◌≤◌}
 use Rattle.grid_base.specs.Segment.{GridSegment}
 

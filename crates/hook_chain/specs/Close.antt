@@ -11,7 +11,8 @@ IsFrom r q p = ((r.y ≤ p.y * r.w) × (p.y * q.w < q.y)) ⊎ ((p.y * r.w ≤ r.
 -- in no column a grid point lies from a place of o to a place of p
 abbrev pub IsCloseUp : GridSegment → GridSegment → Type 0
 IsCloseUp o p =
-    (g : GridPoint) (r q : RationalPoint) → IsPlace o r → IsPlace p q → InColumn g r → InColumn g q → IsFrom r q g → ⊥
+    (g : GridPoint) (r q : RationalPoint) → IsPlace o r → IsPlace p q → InColumn g r → InColumn g q
+    → IsFrom r q g → ⊥
 
 -- the piece p is close to o: by columns where o is flat, and by rows where it is steep
 abbrev pub Close : GridSegment → GridSegment → Type 0

@@ -1,6 +1,6 @@
--- The hook of a piece at a point: the way of a rubber band along the piece that is pulled to the point, with the grid
--- points as nails. The list and its conditions are this project's own, after the redrawing of Daniel H. Greene and
--- F. Frances Yao, "Finite-Resolution Computational Geometry" (1986).
+-- The hook of a piece at a point: the way of a rubber band along the piece that is pulled to the point,
+-- with the grid points as nails. The list and its conditions are this project's own, after the redrawing of
+-- Daniel H. Greene and F. Frances Yao, "Finite-Resolution Computational Geometry" (1986).
 use Rattle.std.specs.Prelude.{◌≡◌, ◌≢◌, ◌⊎◌, ◌<◌, nat_lt, MatchBool, List, [], ◌∷◌, ◌++◌}
 use Rattle.std.specs.List.{AllByRecursion}
 use Rattle.grid_base.specs.Point.{GridPoint, IsFromTo}
@@ -10,8 +10,8 @@ use Rattle.grid_base.specs.Crossing.{IsOn}
 use Rattle.hook_chain.specs.Close.{Close}
 use Rattle.hook_chain.specs.Chains.{AllLinks, AllBends, Leads}
 
--- p is in the closed triangle a, b, x: on the line of each side of it, or on the side of that line on which the
--- third corner is
+-- p is in the closed triangle a, b, x: on the line of each side of it, or on the side of that line on which
+-- the third corner is
 pub record InTriangle (a b x p : GridPoint) : Type 0 where
   pub first : (side a b p ≡ On) ⊎ (side a b p ≡ side a b x)
   pub second : (side b x p ≡ On) ⊎ (side b x p ≡ side a b x)

@@ -1,5 +1,5 @@
 -- A part of a hook in columns and rows of its own: it leads from the origin along a line that rises
--- less than a diagonal, to a point less than 1 above the line.
+-- less than a diagonal, to a point less than 1 above the line. No public clause cites this file.
 use Rattle.std.specs.Prelude.{ℕ, ◌+◌, ◌*◌, ◌<◌, ◌≤◌, pos, ◌<ℤ◌, List}
 use Rattle.std.specs.List.{AllByRecursion}
 use Rattle.grid_base.specs.Point.{GridPoint, point_at}

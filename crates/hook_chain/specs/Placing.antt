@@ -1,6 +1,8 @@
 -- How the columns and rows of a walk lie on the grid: from where it starts, along the grid's columns or
--- its rows, in one direction or the other, and with its own rows level or along a diagonal.
-use Rattle.std.specs.Prelude.{◌≡◌, ◌⊎◌, ℕ, zero, ◌+◌, ◌-◌, ◌<◌, ◌≤◌, Bool, true, false, not, ◌&&◌, nat_lt, if◌then◌else◌, List, map}
+-- its rows, in one direction or the other, and with its own rows level or along a diagonal. No public
+-- clause cites this file.
+use Rattle.std.specs.Prelude.{◌≡◌, ◌⊎◌, ℕ, zero, ◌+◌, ◌-◌, ◌<◌, ◌≤◌, Bool, true, false, not, ◌&&◌, nat_lt}
+use Rattle.std.specs.Prelude.{if◌then◌else◌, List, map}
 use Rattle.grid_base.specs.Point.{GridPoint, point_at}
 use Rattle.grid_base.specs.Segment.{GridSegment, is_flat}
 use Rattle.grid_base.specs.Sides.{Side, Left, On, Right, side}

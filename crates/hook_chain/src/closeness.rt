@@ -9,8 +9,6 @@ ghost use Rattle.grid_base.specs.Segment.{exchanged_point};
 ghost use Rattle.hook_chain.specs.Climbs.{IsRaised};
 
 mod climbing;
-#[cfg(test)]
-mod tests;
 
 use crate::fraction::Fraction;
 use climbing::all_climb;
@@ -158,6 +156,7 @@ fn raised(s: &Segment) -> Fraction
     requires slanted { s.now.a.x < s.now.b.x }
     ensures raised { IsRaised (2 ^ 28) s.now result.q result.p }
     ensures some { (0 < result.p) × (0 < result.q) }
+    ensures steep { result.q ≤ result.p }
     ensures below { (result.p < 2 ^ 57) × (result.q < 2 ^ 28) }
 {
     let dx = u64::from(s.b().x()) - u64::from(s.a().x());

@@ -2,6 +2,7 @@
 //! point. A part of a hook goes on to the grid point of the triangle whose direction is the nearest
 //! to the piece, the farthest of equals. A piece is close where no grid point of a column, or row,
 //! lies between the two places, compared as fractions.
+use crate::tests::point;
 use crate::{HookError, close, hook};
 use grid_base::{Point, Segment, in_box};
 use std::alloc::Global;
@@ -12,10 +13,6 @@ type Place = [i64; 2];
 
 fn place(p: &Point) -> Place {
     [i64::from(p.x()), i64::from(p.y())]
-}
-
-fn point(rt: &impl Abort, x: u64, y: u64) -> Point {
-    Point::new(x, y).expect(rt, "a point of the grid")
 }
 
 // Twice the area of the triangle p, q, t: above 0 where t is on the left of the way from p to q.

@@ -4,12 +4,13 @@ use Rattle.grid_base.specs.Point.{GridPoint, IsBefore, IsFromTo, point_at}
 use Rattle.grid_base.specs.Segment.{GridSegment, is_flat}
 use Rattle.grid_base.specs.Places.{RationalPoint, IsPlace}
 use Rattle.grid_base.proofs.Balances.{factor_keeps}
-use Rattle.grid_base.proofs.Lines.{line_is, line_by}
+use Rattle.grid_base.proofs.Lines.{line_by}
 use Rattle.grid_base.proofs.Columns.{up_mean}
 use Rattle.segment_envelope.specs.ColumnPair.{IsColumn, at_column}
 use Rattle.segment_envelope.specs.Course.{IsCourse, IsOnGrid, run, weighted}
 use Rattle.segment_envelope.specs.declared.columns.Course.{Course}
 use Rattle.segment_envelope.proofs.Shapes.{flat_is, steep_is}
+use Rattle.segment_envelope.proofs.Ways.{way, place_back, exchanged_place}
 use Rattle.segment_envelope.proofs.Distances.{IsSeen, flat_seen, steep_seen}
 
 -- ---- the place of a course
@@ -36,10 +37,6 @@ at_mean c k on_grid from to = record {
       subst (λ (d : ℕ). IsFromTo (c.first * d) (c.last * d) (weighted c k)) whole (up_mean (k - c.from) (c.to - k) c.first c.last);
 }
 
--- the segment between two points
-abbrev between : GridPoint → GridPoint → GridSegment
-between p q = record { a = p; b = q }
-
 -- the place at n / d in column k, and in row k
 abbrev column_place : (k d n : ℕ) → RationalPoint
 column_place k d n = record { x = k * d; y = n; w = d }
@@ -49,44 +46,28 @@ row_place k d n = record { x = n; y = k * d; w = d }
 
 -- it is a place of the segment whose columns are those of the course
 place_of_columns : (c : Course) (k d n : ℕ) → IsAt c k d n
-    → IsPlace (between (point_at c.from c.first) (point_at c.to c.last)) (column_place k d n)
+    → IsPlace (way (point_at c.from c.first) (point_at c.to c.last)) (column_place k d n)
 place_of_columns c k d n at = record {
   real = at.real;
   line =
       let across = ap (λ (m : ℕ). n * m) at.run in
       let sums = ap (λ (m : ℕ). m * d) at.sums in
-      line_by (between (point_at c.from c.first) (point_at c.to c.last)) (column_place k d n) (omega arith);
+      line_by (way (point_at c.from c.first) (point_at c.to c.last)) (column_place k d n) (omega arith);
   across = at.along;
   up = at.across;
 }
 
--- it is a place of the segment whose rows are those of the course
+-- and, with rows for columns, of the segment whose rows are those of the course
 place_of_rows : (c : Course) (k d n : ℕ) → IsAt c k d n
-    → IsPlace (between (point_at c.first c.from) (point_at c.last c.to)) (row_place k d n)
-place_of_rows c k d n at = record {
-  real = at.real;
-  line =
-      let across = ap (λ (m : ℕ). n * m) at.run in
-      let sums = ap (λ (m : ℕ). m * d) at.sums in
-      line_by (between (point_at c.first c.from) (point_at c.last c.to)) (row_place k d n) (omega arith);
-  across = at.across;
-  up = at.along;
-}
-
--- a place is one whichever end is the first
-place_turned : (p q : GridPoint) (r : RationalPoint) → IsPlace (between p q) r → IsPlace (between q p) r
-place_turned p q r place = record {
-  real = place.real;
-  line = line_by (between q p) r (omega (arith, line_is (between p q) r place));
-  across = omega (arith, place.across);
-  up = omega (arith, place.up);
-}
+    → IsPlace (way (point_at c.first c.from) (point_at c.last c.to)) (row_place k d n)
+place_of_rows c k d n at = exchanged_place (way (point_at c.from c.first) (point_at c.to c.last)) (column_place k d n)
+    (place_of_columns c k d n at)
 
 -- ---- a segment and its course
 -- what holds of the segment between p and q holds of s where these are its ends
-by_ends : (P : GridSegment → Type 0) (s : GridSegment) (p q : GridPoint) → p ≡ s.a → q ≡ s.b → P (between p q) → P s
+by_ends : (P : GridSegment → Type 0) (s : GridSegment) (p q : GridPoint) → p ≡ s.a → q ≡ s.b → P (way p q) → P s
 by_ends P s p q at_a at_b holds =
-    subst (λ (b : GridPoint). P (between s.a b)) at_b (subst (λ (a : GridPoint). P (between a q)) at_a holds)
+    subst (λ (b : GridPoint). P (way s.a b)) at_b (subst (λ (a : GridPoint). P (way a q)) at_a holds)
 
 -- the point y in column k, or in row k where the segment isn't flat
 abbrev at_axis : Bool → ℕ → ℕ → GridPoint
@@ -110,9 +91,9 @@ column_of_course s c k course from to = by_axis (is_flat s) course
 
 -- a place of the segment between p and q is one of s, whichever of these is its lesser end
 place_by_ends : (s : GridSegment) (p q : GridPoint) (r : RationalPoint) → ((p ≡ s.a) × (q ≡ s.b)) ⊎ ((p ≡ s.b) × (q ≡ s.a))
-    → IsPlace (between p q) r → IsPlace s r
+    → IsPlace (way p q) r → IsPlace s r
 place_by_ends s p q r (inl ends) place = by_ends (λ t. IsPlace t r) s p q ends.0 ends.1 place
-place_by_ends s p q r (inr ends) place = by_ends (λ t. IsPlace t r) s q p ends.1 ends.0 (place_turned p q r place)
+place_by_ends s p q r (inr ends) place = by_ends (λ t. IsPlace t r) s q p ends.1 ends.0 (place_back p q r place)
 
 -- the points of a column are seen from the place of the course there
 pub course_seen : (s : GridSegment) (c : Course) (k : ℕ) → IsBefore s.a s.b → IsCourse s c → IsOnGrid c → c.from ≤ k → k ≤ c.to
@@ -122,7 +103,7 @@ course_seen s c k ordered course on_grid from to y = by_axis (is_flat s) refl co
     at : IsAt c k (run c) (weighted c k)
     at = at_mean c k on_grid from to
 
-    by_axis : (flat : Bool) → is_flat s ≡ flat → Leads flat s c → IsSeen s (at_axis flat k y) (y * run c) (weighted c k) (run c)
+    by_axis : (flat : Bool) → flat ≡ is_flat s → Leads flat s c → IsSeen s (at_axis flat k y) (y * run c) (weighted c k) (run c)
     by_axis true flat ends =
         let place = place_by_ends s _ _ (column_place k (run c) (weighted c k)) ends (place_of_columns c k (run c) (weighted c k) at) in
         flat_seen s (point_at k y) _ ordered (flat_is s flat) place refl

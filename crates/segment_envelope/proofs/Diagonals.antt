@@ -3,7 +3,7 @@ use Rattle.std.proofs.Common.{◌≡◌, ◌⊎◌, ℕ, ◌+◌, ◌*◌, ◌<�
 use Rattle.grid_base.specs.Point.{GridPoint, IsBefore}
 use Rattle.grid_base.specs.Segment.{GridSegment, width, height}
 use Rattle.grid_base.specs.Places.{RationalPoint}
-use Rattle.grid_base.proofs.Turns.{leftward, rightward}
+use Rattle.grid_base.proofs.Turns.{leftward, rightward, in_order}
 use Rattle.grid_base.proofs.Balances.{gap_cancels}
 use Rattle.grid_base.proofs.Lines.{IsOnLine}
 
@@ -21,14 +21,10 @@ pub record IsFalling (s : GridSegment) : Type 0 where
 
 -- a diagonal rises or falls
 pub rises_or_falls : (s : GridSegment) → IsBefore s.a s.b → width s ≡ height s → IsRising s ⊎ IsFalling s
-rises_or_falls s ordered same = by_order (order s.a.y s.b.y)
-  where
-    order : (m n : ℕ) → (m < n) ⊎ (n ≤ m)
-    order m n = grind arith
-
-    by_order : (s.a.y < s.b.y) ⊎ (s.b.y ≤ s.a.y) → IsRising s ⊎ IsFalling s
-    by_order (inl up) = inl (record { across = omega arith; up = up; even = omega arith })
-    by_order (inr down) = inr (record { across = omega arith; down = omega arith; even = omega arith })
+rises_or_falls s ordered same = elim (in_order s.a.y s.b.y) [
+  | inl up ↦ inl (record { across = omega arith; up = omega arith; even = omega arith })
+  | inr down ↦ inr (record { across = omega arith; down = omega arith; even = omega arith })
+]
 
 -- at the places of a rising diagonal x and y have the same difference
 pub rising_place : (s : GridSegment) (q : RationalPoint) → IsRising s → IsOnLine s q → q.y + s.a.x * q.w ≡ q.x + s.a.y * q.w

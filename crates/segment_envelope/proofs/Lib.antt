@@ -6,6 +6,8 @@ pub mod Sizes
 pub mod Ranges
 -- how far a point is from the place of its column or row
 pub mod Distances
+-- segments with their ends in either order, and with columns and rows exchanged
+pub mod Ways
 -- a segment along its own axis, and its place in each column
 pub mod Courses
 -- the two points next to the place of a column

@@ -1,4 +1,5 @@
--- A segment along its own axis, by columns where it is flat and by rows where it is steep.
+-- A segment along its own axis, by columns where it is flat and by rows where it is steep. No public
+-- clause cites this file.
 use Rattle.std.specs.Prelude.{◌≡◌, ◌⊎◌, ℕ, ◌+◌, ◌-◌, ◌*◌, ◌<◌, ◌≤◌, ◌^◌}
 use Rattle.grid_base.specs.Segment.{GridSegment}
 use Rattle.segment_envelope.specs.ColumnPair.{at_column}

@@ -11,13 +11,11 @@ pub(crate) fn all_climb(line: Fraction, margin: u64, piece: Fraction) -> bool
     requires line_below { (line.p < 2 ^ 57) × (line.q < 2 ^ 57) × (margin < 2 ^ 57) }
     requires piece_below { (piece.p < 2 ^ 57) × (piece.q < 2 ^ 57) }
     requires some { (0 < piece.p) × (0 < piece.q) }
+    requires small { margin < line.q }
     requires forth { line.p * piece.q ≤ line.q * piece.p }
     ensures steeper { IsTrue result → AllSteeperClimb line.q line.p margin piece.q piece.p }
     ensures only { AllSteeperWithinClimb line.q line.p margin piece.q piece.p → IsTrue result }
 {
-    if margin >= line.q {
-        return false;
-    }
     let mut low = Fraction { p: 0, q: 1 };
     let mut high = Fraction { p: 1, q: 0 };
     let mut under = piece.p;

@@ -1,12 +1,28 @@
 use Rattle.std.proofs.Common.{refl, arith}
-use Rattle.hook_chain.proofs.Descents.{high_moved, high_descends, low_ascends, within_piece, high_climbs, descent_ends}
+use Rattle.hook_chain.proofs.Descents.{high_moved, high_descends, low_ascends, high_within, low_within, high_climbs, descent_ends}
 use Rattle.hook_chain.proofs.closeness.climbing.all_climb.Goals as goal
 
 -- the new upper way is within the piece
+pub moved-high-requires-clause-p_below : goal.moved-high-requires-clause-p_below
+moved-high-requires-clause-p_below c =
+    let within = high_within _ _ _ _ _ _ _ _ _ c.loop-under.invariant.split refl in omega (arith, within.0)
+
+pub moved-high-requires-clause-q_below : goal.moved-high-requires-clause-q_below
+moved-high-requires-clause-q_below c =
+    let within = high_within _ _ _ _ _ _ _ _ _ c.loop-under.invariant.split refl in omega (arith, within.1)
+
 pub climbs-requires-clause-way_below : goal.climbs-requires-clause-way_below
 climbs-requires-clause-way_below c =
-    let within = within_piece _ _ _ _ _ _ _ _ (high_moved _ _ _ _ _ _ _ _ _ c.loop-under.invariant.split refl) in
-    omega arith
+    let within = high_within _ _ _ _ _ _ _ _ _ c.loop-under.invariant.split refl in omega (arith, within.0, within.1)
+
+-- and so is the new lower way
+pub moved-low-requires-clause-p_below : goal.moved-low-requires-clause-p_below
+moved-low-requires-clause-p_below c =
+    let within = low_within _ _ _ _ _ _ _ _ _ c.loop-under.invariant.split refl in omega (arith, within.0)
+
+pub moved-low-requires-clause-q_below : goal.moved-low-requires-clause-q_below
+moved-low-requires-clause-q_below c =
+    let within = low_within _ _ _ _ _ _ _ _ _ c.loop-under.invariant.split refl in omega (arith, within.1)
 
 -- a way within the piece that doesn't climb is the new upper one
 pub returns-then-not-climbs-clause-only : goal.returns-then-not-climbs-clause-only
