@@ -15,7 +15,7 @@ pub(crate) fn nearest_point(place: &Place) -> Point
 {
     let x = nearest_whole(place.x(), place.w());
     let y = nearest_whole(place.y(), place.w());
-    grid_point(x, y)
+    Point::at(x, y)
 }
 
 /// Whether `place` is the centre of a cell of the grid.
@@ -32,7 +32,7 @@ pub(crate) fn cell_of(place: &Place) -> Point
 {
     let x = whole_part(place.x(), place.w());
     let y = whole_part(place.y(), place.w());
-    grid_point(x, y)
+    Point::at(x, y)
 }
 
 /// Of the corners of the cell whose centre is `place`, the one on the diagonal `d` with the greater
@@ -47,7 +47,7 @@ pub(crate) fn right_corner(d: &Segment, place: &Place) -> Point
     } else {
         whole_part(place.y(), place.w())
     };
-    grid_point(x, y)
+    Point::at(x, y)
 }
 
 /// Whether `s` is diagonal: as wide as it is high.
@@ -65,44 +65,36 @@ pub(crate) fn rises(s: &Segment) -> bool
     s.a().y() < s.b().y()
 }
 
-fn grid_point(x: u128, y: u128) -> Point
-    requires column { x < 2 ^ 28 }
-    requires row { y < 2 ^ 28 }
-    ensures { result ≡ point_at x y }
-{
-    Point::new(x as u64, y as u64).unwrap()
-}
-
 // n / w, where a half is rounded up.
-fn nearest_whole(n: u128, w: u128) -> u128
+fn nearest_whole(n: u128, w: u128) -> u32
     requires real { 0 < w }
     requires below { w < 2 ^ 58 }
     requires on_grid { n ≤ (2 ^ 28 - 1) * w }
     ensures nearest { result ≡ nearest n w }
     ensures on_grid { result < 2 ^ 28 }
 {
-    (2 * n + w) / (2 * w)
+    ((2 * n + w) / (2 * w)) as u32
 }
 
 // n / w without its fraction.
-fn whole_part(n: u128, w: u128) -> u128
+fn whole_part(n: u128, w: u128) -> u32
     requires real { 0 < w }
     requires on_grid { n ≤ (2 ^ 28 - 1) * w }
     ensures whole { result ≡ n / w }
     ensures on_grid { result < 2 ^ 28 }
 {
-    n / w
+    (n / w) as u32
 }
 
 // The whole number above n / w, which lies halfway between two.
-fn next_whole(n: u128, w: u128) -> u128
+fn next_whole(n: u128, w: u128) -> u32
     requires real { 0 < w }
     requires on_grid { n ≤ (2 ^ 28 - 1) * w }
     requires halfway { 2 * (n % w) ≡ w }
     ensures next { result ≡ n / w + 1 }
     ensures on_grid { result < 2 ^ 28 }
 {
-    n / w + 1
+    (n / w + 1) as u32
 }
 
 // Whether n / w lies halfway between two whole numbers.

@@ -8,7 +8,7 @@ use Rattle.grid_base.specs.Segment.{GridSegment}
 use Rattle.grid_base.specs.Sides.{turn, Side, Left, On, Right, opposite, side}
 use Rattle.grid_base.proofs.Turns.{times, times_le, turn_is, left_is, right_is, on_is}
 use Rattle.hook_chain.specs.Chains.{AllLinks}
-use Rattle.hook_chain.specs.Hook.{Hook, IsOnward, IsBetween}
+use Rattle.hook_chain.specs.Hook.{Hook, IsOnward, IsBetweenPieceAndHook}
 use Rattle.grid_base.specs.Crossing.{IsOn}
 use Rattle.hook_chain.proofs.Axes.{Axis, bend, bend_not_below, turn_back}
 use Rattle.hook_chain.proofs.Paths.{links_map, links_both, leads_on, IsForthAlong, IsWithin, links_within}
@@ -113,17 +113,17 @@ hook_close t x chain ordered (inr (inr (inr beside))) = subst (λ (l : List Grid
 -- ---- the points between
 -- each point between t and the link is on the link
 abbrev pub HoldsBetween : GridSegment → GridPoint → GridPoint → GridPoint → Type 0
-HoldsBetween t x v w = (p : GridPoint) → IsBetween t x v w p → IsOn (record { a = v; b = w }) p
+HoldsBetween t x v w = (p : GridPoint) → IsBetweenPieceAndHook t x v w p → IsOn (record { a = v; b = w }) p
 
 -- a point not beyond a link of a straight hook is on its line
-on_straight : (t : GridSegment) (x v w p : GridPoint) → side t.a t.b x ≡ On → IsBetween t x v w p → side v w p ≡ On
+on_straight : (t : GridSegment) (x v w p : GridPoint) → side t.a t.b x ≡ On → IsBetweenPieceAndHook t x v w p → side v w p ≡ On
 on_straight t x v w p on between = elim between.not_beyond [
   | inl line ↦ line
   | inr other ↦ other ∙ ap opposite on
 ]
 
 -- a point that is apart from a link, between it and t, is on its line
-on_bent : (s : Side) (t : GridSegment) (x v w p : GridPoint) → side t.a t.b x ≡ s → s ≢ On → IsApart t v w p → IsBetween t x v w p
+on_bent : (s : Side) (t : GridSegment) (x v w p : GridPoint) → side t.a t.b x ≡ s → s ≢ On → IsApart t v w p → IsBetweenPieceAndHook t x v w p
     → side v w p ≡ On
 on_bent s t x v w p is off apart between = elim between.not_beyond [
   | inl line ↦ line

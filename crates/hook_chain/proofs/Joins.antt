@@ -13,7 +13,7 @@ use Rattle.hook_chain.specs.Hook.{InTriangle, IsOnward, IsBent}
 use Rattle.hook_chain.proofs.Axes.{Axis, bend, bend_swap, bend_back, bend_above}
 use Rattle.hook_chain.proofs.TautPaths.{Frame, IsSound, frame_sound, IsBeyond, IsForth, BendsUp, IsBare, IsTaut}
 use Rattle.hook_chain.proofs.Paths.{vertices_map, vertices_both, links_map, links_both, bends_map, links_of_vertices, vertices_join}
-use Rattle.hook_chain.proofs.Paths.{links_join, IsBetween, vertices_between, IsForthAlong}
+use Rattle.hook_chain.proofs.Paths.{links_join, IsPointWithin, vertices_within, IsForthAlong}
 use Rattle.hook_chain.proofs.Directions.{Follows, AllApart}
 use Rattle.hook_chain.proofs.PlacedParts.{IsUnderChord}
 use Rattle.hook_chain.proofs.BentPaths.{frame_of, IsCloseLink}
@@ -141,20 +141,20 @@ bent_by_parts t axis x to from follows off after before first first_chord second
     let s = side t.a t.b x in
     let sound = frame_sound axis s t.a t.b in
     let apex : IsApex f x = record { off = off; above = bend_above s t.a t.b x off refl; after_a = after; before_b = before } in
-    let facts_first = vertices_both (IsBeyond f) (λ p. IsUnderChord f t.a x p × IsBetween axis.along t.a x p) (to ++ x ∷ []) first.beyond
-    (vertices_both (IsUnderChord f t.a x) (IsBetween axis.along t.a x) (to ++ x ∷ []) first_chord
-    (vertices_between axis.along t.a x (to ++ x ∷ []) first.leads first.onward)) in
-    let facts_second = vertices_both (IsBeyond f) (λ p. IsUnderChord f x t.b p × IsBetween axis.along x t.b p) (x ∷ from) second.beyond
-    (vertices_both (IsUnderChord f x t.b) (IsBetween axis.along x t.b) (x ∷ from) second_chord
-    (vertices_between axis.along x t.b (x ∷ from) second.leads second.onward)) in
+    let facts_first = vertices_both (IsBeyond f) (λ p. IsUnderChord f t.a x p × IsPointWithin axis.along t.a x p) (to ++ x ∷ []) first.beyond
+    (vertices_both (IsUnderChord f t.a x) (IsPointWithin axis.along t.a x) (to ++ x ∷ []) first_chord
+    (vertices_within axis.along t.a x (to ++ x ∷ []) first.leads first.onward)) in
+    let facts_second = vertices_both (IsBeyond f) (λ p. IsUnderChord f x t.b p × IsPointWithin axis.along x t.b p) (x ∷ from) second.beyond
+    (vertices_both (IsUnderChord f x t.b) (IsPointWithin axis.along x t.b) (x ∷ from) second_chord
+    (vertices_within axis.along x t.b (x ∷ from) second.leads second.onward)) in
     record {
       leads_to_x = first.leads;
       leads_from_x = second.leads;
       all_in_triangle = vertices_join (InTriangle t.a t.b x) x to from
-          (vertices_map (λ p. IsBeyond f p × (IsUnderChord f t.a x p × IsBetween axis.along t.a x p)) (InTriangle t.a t.b x)
+          (vertices_map (λ p. IsBeyond f p × (IsUnderChord f t.a x p × IsPointWithin axis.along t.a x p)) (InTriangle t.a t.b x)
           (λ p fact. in_triangle s t.a t.b x p off refl fact.0 fact.1.0 (under_second_line f x p sound apex fact.1.0 fact.1.1.1))
           (to ++ x ∷ []) facts_first)
-          (vertices_map (λ p. IsBeyond f p × (IsUnderChord f x t.b p × IsBetween axis.along x t.b p)) (InTriangle t.a t.b x)
+          (vertices_map (λ p. IsBeyond f p × (IsUnderChord f x t.b p × IsPointWithin axis.along x t.b p)) (InTriangle t.a t.b x)
           (λ p fact. in_triangle s t.a t.b x p off refl fact.0 (under_first_line f x p sound apex fact.1.0 fact.1.1.0) fact.1.0)
           (x ∷ from) facts_second);
       no_point_between = links_join (IsCloseLink t) x to from

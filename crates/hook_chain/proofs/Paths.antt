@@ -217,21 +217,21 @@ reverse_is (v ∷ path) = reverse-append (v ∷ []) path ∙ ap (λ (l : List Gr
 
 -- ---- how far along the vertices of a path are
 -- p lies between a and b
-abbrev pub IsBetween : (GridPoint → ℤ) → GridPoint → GridPoint → GridPoint → Type 0
-IsBetween along a b p = (along a ≤ℤ along p) × (along p ≤ℤ along b)
+abbrev pub IsPointWithin : (GridPoint → ℤ) → GridPoint → GridPoint → GridPoint → Type 0
+IsPointWithin along a b p = (along a ≤ℤ along p) × (along p ≤ℤ along b)
 
-pub vertices_between : (along : GridPoint → ℤ) (a b : GridPoint) (path : List GridPoint) → Leads a b path
+pub vertices_within : (along : GridPoint → ℤ) (a b : GridPoint) (path : List GridPoint) → Leads a b path
     → AllLinks (λ v w. along v <ℤ along w) path
-    → AllByRecursion (IsBetween along a b) path
-vertices_between along a b [] leads forth = tt
-vertices_between along a b (v ∷ []) leads forth =
+    → AllByRecursion (IsPointWithin along a b) path
+vertices_within along a b [] leads forth = tt
+vertices_within along a b (v ∷ []) leads forth =
     let at_a = ap along leads.0 in
     let at_b = ap along leads.1 in
     ((omega (arith, ints, at_a, at_b), omega (arith, ints, at_a, at_b)), tt)
-vertices_between along a b (v ∷ w ∷ path) leads forth =
+vertices_within along a b (v ∷ w ∷ path) leads forth =
     let at_a = ap along leads.0 in
-    let rest = vertices_between along w b (w ∷ path) leads.1 forth.1 in (
+    let rest = vertices_within along w b (w ∷ path) leads.1 forth.1 in (
       (omega (arith, ints, at_a), omega (arith, ints, rest.0.1, forth.0)),
-      vertices_map (IsBetween along w b) (IsBetween along a b) (λ p within. (omega (arith, ints, within.0, at_a, forth.0), within.1))
+      vertices_map (IsPointWithin along w b) (IsPointWithin along a b) (λ p within. (omega (arith, ints, within.0, at_a, forth.0), within.1))
           (w ∷ path) rest,
     )

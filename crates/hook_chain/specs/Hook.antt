@@ -48,7 +48,7 @@ abbrev pub IsBeside : GridSegment → GridPoint → GridPoint → GridPoint → 
 IsBeside t v w p = MatchBool (is_flat t) (IsFromTo v.x w.x p.x) (IsFromTo v.y w.y p.y)
 
 -- p lies between t and the link from v to w of its hook at x, both counted
-pub record IsBetween (t : GridSegment) (x v w p : GridPoint) : Type 0 where
+pub record IsBetweenPieceAndHook (t : GridSegment) (x v w p : GridPoint) : Type 0 where
   pub beside : IsBeside t v w p
   -- on t, or on the side of it on which x is
   pub not_behind : (side t.a t.b p ≡ On) ⊎ (side t.a t.b p ≡ side t.a t.b x)

@@ -15,7 +15,7 @@ course steep p = if steep then p.y else p.x
 
 -- and the other one
 abbrev pub cross : Bool → GridPoint → ℕ
-cross steep p = if steep then p.x else p.y
+cross steep p = course (not steep) p
 
 -- how far the rows are moved in column n
 abbrev pub moved : Bool → ℕ → ℕ

@@ -2,7 +2,6 @@
 //! leads, in columns and rows of its own, to the right and up, and less steeply than a diagonal.
 ghost use Rattle.std.specs.Prelude.{◌≡◌, ◌⊎◌, ◌<◌, ◌+◌, ◌-◌, ◌^◌, not, nat_lt, if◌then◌else◌};
 ghost use Rattle.grid_base.specs.Point.{point_at, OnGrid};
-ghost use Rattle.grid_base.specs.Segment.{is_flat};
 ghost use Rattle.grid_base.specs.Sides.{On, side_of};
 ghost use Rattle.hook_chain.specs.Placing.{course, cross, passed, passing, raised, rising, placed, seen};
 ghost use Rattle.hook_chain.specs.Placing.{side_for, are_diagonals, IsChartOf, turned};
@@ -34,10 +33,10 @@ pub(crate) fn chart_of(t: &Segment, x: &Point) -> Chart
     ensures { IsChartOf t.now x.now result }
 {
     let (a, b) = (t.a(), t.b());
-    let steep = is_steep(t);
+    let steep = !t.is_flat();
     let back = steep && b.y() < a.y();
     let under = rows_go_down(cross_of(t, x), steep, back);
-    let sheared = are_sheared(under, beside(steep, a), beside(steep, b));
+    let sheared = are_sheared(under, coordinate(!steep, a), coordinate(!steep, b));
     Chart {
         steep,
         back,
@@ -65,13 +64,17 @@ pub(crate) fn seen_at(chart: &Chart, start: Point, p: Point) -> Place
     ensures start_on_grid { OnGrid start }
     ensures point_on_grid { OnGrid p }
 {
-    let across = passing_of(chart.back, along(chart.steep, start), along(chart.steep, p));
+    let across = passing_of(
+        chart.back,
+        coordinate(chart.steep, start),
+        coordinate(chart.steep, p),
+    );
     let up = rising_of(
         chart.under,
         chart.sheared,
-        beside(chart.steep, start),
+        coordinate(!chart.steep, start),
         across,
-        beside(chart.steep, p),
+        coordinate(!chart.steep, p),
     );
     Place { across, up }
 }
@@ -83,26 +86,19 @@ pub(crate) fn point_of(chart: &Chart, start: Point, at: Place) -> Point
     requires on_grid { OnGrid (placed chart.now start (point_at at.across at.up)) }
     ensures { result ≡ placed chart.now start (point_at at.across at.up) }
 {
-    let along = passed_by(chart.back, along(chart.steep, start), at.across);
+    let along = passed_by(chart.back, coordinate(chart.steep, start), at.across);
     let beside = raised_to(
         chart.under,
         chart.sheared,
-        beside(chart.steep, start),
+        coordinate(!chart.steep, start),
         at.across,
         at.up,
     );
     if chart.steep {
-        Point::new(beside, along).unwrap()
+        Point::at(beside as u32, along as u32)
     } else {
-        Point::new(along, beside).unwrap()
+        Point::at(along as u32, beside as u32)
     }
-}
-
-// Whether `t` is higher than wide.
-fn is_steep(t: &Segment) -> bool
-    ensures { result ≡ not (is_flat t.now) }
-{
-    t.a().x().abs_diff(t.b().x()) < t.a().y().abs_diff(t.b().y())
 }
 
 // Whether a walk along a piece counts its rows down, so that they are on the side that the side number
@@ -121,8 +117,8 @@ fn are_sheared(under: bool, start: u64, end: u64) -> bool
     if under { start < end } else { end < start }
 }
 
-// The coordinate of `p` along which a walk goes.
-fn along(steep: bool, p: Point) -> u64
+// The coordinate of `p` along which a walk goes, and with `!steep` the other one.
+fn coordinate(steep: bool, p: Point) -> u64
     ensures course { result ≡ course steep p }
     ensures on_grid { result < 2 ^ 28 }
 {
@@ -130,18 +126,6 @@ fn along(steep: bool, p: Point) -> u64
         u64::from(p.y())
     } else {
         u64::from(p.x())
-    }
-}
-
-// The other coordinate of `p`.
-fn beside(steep: bool, p: Point) -> u64
-    ensures cross { result ≡ cross steep p }
-    ensures on_grid { result < 2 ^ 28 }
-{
-    if steep {
-        u64::from(p.x())
-    } else {
-        u64::from(p.y())
     }
 }
 

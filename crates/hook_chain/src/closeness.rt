@@ -2,10 +2,9 @@
 //! exchanged.
 ghost use Rattle.std.specs.Prelude.{◌≡◌, ◌+◌, ◌*◌, ◌^◌, ◌<◌, ◌≤◌, ◌↔◌, ◌≤ℤ◌, IsTrue, unsigned_abs};
 ghost use Rattle.grid_base.specs.Point.{InBox, IsBefore};
-ghost use Rattle.grid_base.specs.Segment.{is_flat, segment_of};
+ghost use Rattle.grid_base.specs.Segment.{segment_of, exchanged_point};
 ghost use Rattle.grid_base.specs.Sides.{Left, Right, side, side_number};
 ghost use Rattle.hook_chain.specs.Close.{Close, IsCloseUp};
-ghost use Rattle.grid_base.specs.Segment.{exchanged_point};
 ghost use Rattle.hook_chain.specs.Climbs.{IsRaised};
 
 mod climbing;
@@ -23,21 +22,11 @@ pub fn close(o: &Segment, p: &Segment) -> bool
     requires in_box { InBox o.now.a o.now.b p.now.a × InBox o.now.a o.now.b p.now.b }
     ensures { IsTrue result ↔ Close o.now p.now }
 {
-    if runs_flat(o) {
+    if o.is_flat() {
         is_close_up(o, p)
     } else {
         is_close_up(&exchange(o), &exchange(p))
     }
-}
-
-// Whether `s` is at least as wide as it is high.
-fn runs_flat(s: &Segment) -> bool
-    ensures flat { result ≡ is_flat s.now }
-    ensures ordered { IsBefore s.now.a s.now.b }
-{
-    let width = s.a().x().abs_diff(s.b().x());
-    let height = s.a().y().abs_diff(s.b().y());
-    height <= width
 }
 
 // The segment with its columns and rows exchanged, its lesser end first again.
@@ -53,10 +42,7 @@ fn exchange(s: &Segment) -> Segment
 fn exchange_point(p: Point) -> Point
     ensures { result ≡ exchanged_point p }
 {
-    match Point::new(u64::from(p.y()), u64::from(p.x())) {
-        Ok(exchanged) => exchanged,
-        Err(_) => unreachable!(),
-    }
+    Point::at(p.y(), p.x())
 }
 
 // Whether `p`, which lies in the columns of `o`, is close to it by columns.

@@ -6,7 +6,7 @@ ghost use Rattle.grid_base.specs.Crossing.{IsOn};
 ghost use Rattle.segment_envelope.specs.Near.{Near};
 ghost use Rattle.hook_chain.specs.Close.{Close};
 ghost use Rattle.hook_chain.specs.Chains.{AllLinks, Leads};
-ghost use Rattle.hook_chain.specs.Hook.{Hook, IsBetween};
+ghost use Rattle.hook_chain.specs.Hook.{Hook, IsBetweenPieceAndHook};
 ghost use Rattle.hook_chain.specs.ValidChain.{IsMonotone};
 
 /// A piece has at most one hook at a point.
@@ -45,5 +45,5 @@ pub fn hook_is_close()
 /// Each grid point between a piece and its hook, both counted, is on the hook.
 pub fn hook_holds_points_between()
     ensures { (t : GridSegment) (x : GridPoint) (chain : List GridPoint) → IsBefore t.a t.b → Hook t x chain
-        → AllLinks (λ v w. (p : GridPoint) → IsBetween t x v w p → IsOn (record { a = v; b = w }) p) chain }
+        → AllLinks (λ v w. (p : GridPoint) → IsBetweenPieceAndHook t x v w p → IsOn (record { a = v; b = w }) p) chain }
 {}

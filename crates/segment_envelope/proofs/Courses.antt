@@ -7,7 +7,7 @@ use Rattle.grid_base.proofs.Balances.{factor_keeps}
 use Rattle.grid_base.proofs.Lines.{line_by}
 use Rattle.grid_base.proofs.Columns.{up_mean}
 use Rattle.segment_envelope.specs.ColumnPair.{IsColumn, at_column}
-use Rattle.segment_envelope.specs.Course.{IsCourse, IsOnGrid, run, weighted}
+use Rattle.segment_envelope.specs.Course.{IsCourseOf, IsOnGrid, run, weighted}
 use Rattle.segment_envelope.specs.declared.columns.Course.{Course}
 use Rattle.segment_envelope.proofs.Shapes.{flat_is, steep_is}
 use Rattle.segment_envelope.proofs.Ways.{way, place_back, exchanged_place}
@@ -80,7 +80,7 @@ Leads flat s c =
     ⊎ ((at_axis flat c.from c.first ≡ s.b) × (at_axis flat c.to c.last ≡ s.a))
 
 -- the columns of a course are those of its segment
-pub column_of_course : (s : GridSegment) (c : Course) (k : ℕ) → IsCourse s c → c.from ≤ k → k ≤ c.to → IsColumn s k
+pub column_of_course : (s : GridSegment) (c : Course) (k : ℕ) → IsCourseOf s c → c.from ≤ k → k ≤ c.to → IsColumn s k
 column_of_course s c k course from to = by_axis (is_flat s) course
   where
     by_axis : (flat : Bool) → Leads flat s c → IsFromTo (if flat then s.a.x else s.a.y) (if flat then s.b.x else s.b.y) k
@@ -96,7 +96,7 @@ place_by_ends s p q r (inl ends) place = by_ends (λ t. IsPlace t r) s p q ends.
 place_by_ends s p q r (inr ends) place = by_ends (λ t. IsPlace t r) s q p ends.1 ends.0 (place_back p q r place)
 
 -- the points of a column are seen from the place of the course there
-pub course_seen : (s : GridSegment) (c : Course) (k : ℕ) → IsBefore s.a s.b → IsCourse s c → IsOnGrid c → c.from ≤ k → k ≤ c.to
+pub course_seen : (s : GridSegment) (c : Course) (k : ℕ) → IsBefore s.a s.b → IsCourseOf s c → IsOnGrid c → c.from ≤ k → k ≤ c.to
     → (y : ℕ) → IsSeen s (at_column s k y) (y * run c) (weighted c k) (run c)
 course_seen s c k ordered course on_grid from to y = by_axis (is_flat s) refl course
   where

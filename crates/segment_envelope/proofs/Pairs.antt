@@ -5,7 +5,7 @@ use Rattle.grid_base.specs.Point.{IsBefore}
 use Rattle.grid_base.specs.Segment.{GridSegment}
 use Rattle.grid_base.proofs.Balances.{factor_cancels_le}
 use Rattle.segment_envelope.specs.ColumnPair.{IsColumn, at_column, IsColumnPair, AreNextTo}
-use Rattle.segment_envelope.specs.Course.{IsCourse, IsOnGrid, AreRoundings, run, weighted}
+use Rattle.segment_envelope.specs.Course.{IsCourseOf, IsOnGrid, AreRoundings, run, weighted}
 use Rattle.segment_envelope.specs.declared.columns.Course.{Course}
 use Rattle.segment_envelope.proofs.Distances.{IsSeen, seen_near, seen_on}
 use Rattle.segment_envelope.proofs.Courses.{column_of_course, course_seen}
@@ -48,7 +48,7 @@ roundings_are_next_to s k n d down up place rounded = record {
 }
 
 -- the place of a course in column k, rounded down and up, is the column's pair
-pub course_pair : (s : GridSegment) (c : Course) (k down up : ℕ) → IsBefore s.a s.b → IsCourse s c → IsOnGrid c → c.from ≤ k → k ≤ c.to
+pub course_pair : (s : GridSegment) (c : Course) (k down up : ℕ) → IsBefore s.a s.b → IsCourseOf s c → IsOnGrid c → c.from ≤ k → k ≤ c.to
     → AreRoundings (weighted c k) (run c) down up → IsColumnPair s k down up × AreNextTo s k down up
 course_pair s c k down up ordered course on_grid from to rounded =
     (roundings_are_pair s k _ _ down up place rounded, roundings_are_next_to s k _ _ down up place rounded)

@@ -6,8 +6,8 @@ use Rattle.segment_envelope.specs.ColumnPair.{at_column}
 use Rattle.segment_envelope.specs.declared.columns.Course.{Course}
 
 -- c leads from one end of s to the other
-abbrev pub IsCourse : GridSegment → Course → Type 0
-IsCourse s c =
+abbrev pub IsCourseOf : GridSegment → Course → Type 0
+IsCourseOf s c =
     ((at_column s c.from c.first ≡ s.a) × (at_column s c.to c.last ≡ s.b))
     ⊎ ((at_column s c.from c.first ≡ s.b) × (at_column s c.to c.last ≡ s.a))
 

@@ -2,11 +2,9 @@
 //! and rounded up. Where it is steep, rows stand for columns and columns for rows.
 ghost use Rattle.std.specs.Prelude.{◌≡◌, ◌↔◌, ◌*◌, ◌<◌, ◌≤◌, ◌^◌, IfSome, IsNone};
 ghost use Rattle.grid_base.specs.Point.{IsBefore};
-ghost use Rattle.grid_base.specs.Segment.{is_flat};
 ghost use Rattle.segment_envelope.specs.ColumnPair.{IsBeyond, IsColumnPair, AreNextTo};
-ghost use Rattle.segment_envelope.specs.Course.{IsCourse, IsOnGrid, AreRoundings, run, weighted};
+ghost use Rattle.segment_envelope.specs.Course.{IsCourseOf, IsOnGrid, AreRoundings, run, weighted};
 
-use crate::nearness::{run_across, run_up};
 use grid_base::Segment;
 
 /// The least and the greatest row of a near point of `s` in column `k`; where `s` is steep, the least
@@ -36,12 +34,12 @@ struct Course {
 
 // The course of `s`.
 fn course_of(s: &Segment) -> Course
-    ensures course { IsCourse s.now result }
+    ensures course { IsCourseOf s.now result }
     ensures on_grid { IsOnGrid result }
     ensures ordered { IsBefore s.now.a s.now.b }
 {
     let (a, b) = (s.a(), s.b());
-    if lies_flat(s) {
+    if s.is_flat() {
         leading(a.x(), a.y(), b.x(), b.y())
     } else if a.y() < b.y() {
         leading(a.y(), a.x(), b.y(), b.x())
@@ -60,13 +58,6 @@ fn leading(from: u32, first: u32, to: u32, last: u32) -> Course
         first,
         last,
     }
-}
-
-// Whether `s` is flat: at least as wide as it is high.
-fn lies_flat(s: &Segment) -> bool
-    ensures { result ≡ is_flat s.now }
-{
-    run_up(s) <= run_across(s)
 }
 
 // Where the course is in column `k`, rounded down and rounded up.

@@ -27,7 +27,7 @@ pub fn in_envelope(s: &Segment, p: &Point) -> bool
 }
 
 // How many columns `s` runs across.
-pub(crate) fn run_across(s: &Segment) -> u32
+fn run_across(s: &Segment) -> u32
     ensures width { result ≡ width s.now }
     ensures below { result < 2 ^ 28 }
 {
@@ -35,7 +35,7 @@ pub(crate) fn run_across(s: &Segment) -> u32
 }
 
 // How many rows `s` runs up or down.
-pub(crate) fn run_up(s: &Segment) -> u32
+fn run_up(s: &Segment) -> u32
     ensures height { result ≡ height s.now }
     ensures below { result < 2 ^ 28 }
 {
