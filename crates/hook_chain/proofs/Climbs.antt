@@ -1,6 +1,6 @@
 -- That each way steeper than a piece climbs, where a few do. Seen from below, the steeper ways are the lattice points above
 -- the piece's slope; the tested ones are the corners of their hull.
-use Rattle.std.proofs.Common.{◌≡◌, ◌⊎◌, ℕ, ◌+◌, ◌-◌, ◌*◌, ◌<◌, ◌≤◌, ap, arith, inl, inr}
+use Rattle.std.proofs.Common.{◌≡◌, ℕ, ◌+◌, ◌-◌, ◌*◌, ◌<◌, ◌≤◌, ap, arith, inl, inr}
 use Rattle.grid_base.proofs.Turns.{times, times_le}
 use Rattle.hook_chain.specs.Climbs.{Climbs}
 use Rattle.hook_chain.proofs.Farey.{order}

@@ -1,7 +1,7 @@
 -- That close is carried on: an original is close to itself, a piece that is close to a close piece is close, and so is a part of one.
 use Rattle.std.proofs.Common.{◌≡◌, ◌≢◌, ◌⊎◌, ℕ, ◌*◌, ◌<◌, ◌≤◌, Bool, true, false, MatchBool, refl, sym, ap, subst, arith, inl, inr}
 use Rattle.grid_base.specs.Point.{GridPoint, IsBefore, IsFromTo, InBox}
-use Rattle.grid_base.specs.Segment.{GridSegment, width, height, is_flat}
+use Rattle.grid_base.specs.Segment.{GridSegment, width, is_flat}
 use Rattle.grid_base.specs.Crossing.{IsOn}
 use Rattle.grid_base.specs.Places.{RationalPoint, IsPlace}
 use Rattle.grid_base.proofs.Turns.{in_order, leftward, rightward, on_is}

@@ -1,5 +1,5 @@
 -- That the order in which the ends of a segment are named doesn't matter to its places, nor to what is close by columns.
-use Rattle.std.proofs.Common.{◌≡◌, Bool, true, false, if◌then◌else◌, MatchBool, subst, sym, arith}
+use Rattle.std.proofs.Common.{◌≡◌, Bool, true, false, if◌then◌else◌, MatchBool, subst, sym}
 use Rattle.grid_base.specs.Point.{GridPoint, is_before}
 use Rattle.grid_base.specs.Segment.{GridSegment, segment_of, is_flat}
 use Rattle.grid_base.specs.Places.{RationalPoint, IsPlace}
