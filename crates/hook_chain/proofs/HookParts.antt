@@ -18,7 +18,7 @@ use Rattle.hook_chain.specs.Redrawing.{front}
 use Rattle.hook_chain.specs.Placing.{seen, IsSeen, IsWalkedTo, IsChartOf, turned}
 use Rattle.hook_chain.proofs.Axes.{Axis}
 use Rattle.hook_chain.proofs.TautPaths.{Frame, IsTaut}
-use Rattle.hook_chain.proofs.Paths.{backwards, reverse_is, rest_of, head_and_rest, links_map, links_both, links_join, links_back}
+use Rattle.hook_chain.proofs.Paths.{backwards, reverse_is, rest_of, head_and_rest, front_and_last, links_map, links_both, links_join, links_back}
 use Rattle.hook_chain.proofs.Paths.{IsForthAlong}
 use Rattle.hook_chain.proofs.Directions.{Follows}
 use Rattle.hook_chain.proofs.BentPaths.{frame_of}
@@ -34,12 +34,6 @@ front_pushed : (path : List GridPoint) (p : GridPoint) → front (path ++ p ∷ 
 front_pushed [] p = refl
 front_pushed (q ∷ []) p = refl
 front_pushed (q ∷ r ∷ path) p = ap (λ (l : List GridPoint). q ∷ l) (front_pushed (r ∷ path) p)
-
--- a path to x is the path without its last point, and x
-front_and_last : (a x : GridPoint) (path : List GridPoint) → Leads a x path → front path ++ x ∷ [] ≡ path
-front_and_last a x [] leads = absurd leads
-front_and_last a x (p ∷ []) leads = ap (λ (q : GridPoint). q ∷ []) (sym leads.1)
-front_and_last a x (p ∷ q ∷ path) leads = ap (λ (l : List GridPoint). p ∷ l) (front_and_last q x (q ∷ path) leads.1)
 
 -- a list of no length is empty
 no_points : (list : List GridPoint) (n : ℕ) → n ≡ length list → n ≡ 0 → list ≡ []

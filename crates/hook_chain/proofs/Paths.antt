@@ -5,6 +5,7 @@ use Rattle.std.proofs.lemmas.List.{reverse-append}
 use Rattle.std.specs.List.{AllByRecursion}
 use Rattle.grid_base.specs.Point.{GridPoint}
 use Rattle.hook_chain.specs.Chains.{AllLinks, AllBends, Leads}
+use Rattle.hook_chain.specs.Redrawing.{front}
 use Rattle.hook_chain.proofs.Axes.{Axis}
 
 -- ---- one fact from others
@@ -83,6 +84,12 @@ unfolding rest_of
 head_and_rest x b [] leads = absurd leads
 head_and_rest x b (p ∷ []) leads = ap (λ (q : GridPoint). q ∷ []) (sym leads.0)
 head_and_rest x b (p ∷ q ∷ path) leads = ap (λ (r : GridPoint). r ∷ q ∷ path) (sym leads.0)
+
+-- a path to x is the path without its last point, and x
+pub front_and_last : (a x : GridPoint) (path : List GridPoint) → Leads a x path → front path ++ x ∷ [] ≡ path
+front_and_last a x [] leads = absurd leads
+front_and_last a x (p ∷ []) leads = ap (λ (q : GridPoint). q ∷ []) (sym leads.1)
+front_and_last a x (p ∷ q ∷ path) leads = ap (λ (l : List GridPoint). p ∷ l) (front_and_last q x (q ∷ path) leads.1)
 
 -- ---- a path along an axis
 abbrev pub IsForthAlong : Axis → GridPoint → GridPoint → Type 0

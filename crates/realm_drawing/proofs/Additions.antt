@@ -5,9 +5,8 @@ use Rattle.grid_base.specs.Segment.{GridSegment, IsEnd}
 use Rattle.grid_base.specs.Drawing.{Drawing, HasLink, IsPiece, IsPoint}
 use Rattle.grid_base.specs.declared.original.Original.{Original}
 use Rattle.realm_drawing.specs.Straight.{IsStraight, straight, placed}
-use Rattle.realm_drawing.proofs.Elements.{Any-append_cases, Any-append_left, Any-append_right, Any-head, Any-single}
-use Rattle.realm_drawing.proofs.Elements.{Contains-head, Contains-later}
-use Rattle.realm_drawing.proofs.StraightPieces.{link_is_along, along_is_link, vertex_is_end}
+use Rattle.realm_drawing.proofs.Elements.{Any-append_cases, Any-append_left, Any-single}
+use Rattle.realm_drawing.proofs.StraightPieces.{link_is_along, vertex_is_end}
 
 straight_is_straight : (id : ℕ) (s : GridSegment) → IsBefore s.a s.b → IsStraight (straight id s)
 straight_is_straight id s ordered = record { ordered = ordered; two_ends = refl }
@@ -27,13 +26,6 @@ pub piece_stays : (d : Drawing) (id : ℕ) (s t : GridSegment) → IsPiece d t �
 piece_stays d id s t piece =
     (piece.0, Any-append_left (λ q. HasLink q.chain t) d.originals (straight id s ∷ []) piece.1)
 
-pub new_piece : (d : Drawing) (id : ℕ) (s : GridSegment) → IsBefore s.a s.b → IsPiece (placed d id s) s
-new_piece d id s ordered =
-    let o = straight id s in
-    let Has = λ (q : Original). HasLink q.chain s in
-    let link = along_is_link o s (straight_is_straight id s ordered) refl in
-    (ordered, Any-append_right Has d.originals (o ∷ []) (Any-head Has o [] link))
-
 -- ---- points
 pub point_is_old_or_end : (d : Drawing) (id : ℕ) (s : GridSegment) (p : GridPoint) → IsBefore s.a s.b
     → IsPoint (placed d id s) p → IsPoint d p ⊎ IsEnd p s
@@ -45,19 +37,3 @@ point_is_old_or_end d id s p ordered (inr vertex) =
       | inl old ↦ inl (inr old)
       | inr new ↦ inr (vertex_is_end o p (straight_is_straight id s ordered) (Any-single Has o new))
     ]
-
-pub point_stays : (d : Drawing) (id : ℕ) (s : GridSegment) (p : GridPoint) → IsPoint d p → IsPoint (placed d id s) p
-point_stays d id s p (inl explicit) = inl explicit
-point_stays d id s p (inr vertex) =
-    inr (Any-append_left (λ q. Contains q.chain p) d.originals (straight id s ∷ []) vertex)
-
-vertex_is_point : (d : Drawing) (id : ℕ) (s : GridSegment) (p : GridPoint)
-    → Contains (s.a ∷ s.b ∷ []) p → IsPoint (placed d id s) p
-vertex_is_point d id s p vertex =
-    let Has = λ (q : Original). Contains q.chain p in
-    inr (Any-append_right Has d.originals (straight id s ∷ []) (Any-head Has (straight id s) [] vertex))
-
-pub new_ends : (d : Drawing) (id : ℕ) (s : GridSegment) → IsPoint (placed d id s) s.a × IsPoint (placed d id s) s.b
-new_ends d id s =
-    let second = Contains-later s.a (s.b ∷ []) s.b (Contains-head s.b [] s.b refl) in
-    (vertex_is_point d id s s.a (Contains-head s.a (s.b ∷ []) s.a refl), vertex_is_point d id s s.b second)

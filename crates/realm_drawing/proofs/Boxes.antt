@@ -1,5 +1,5 @@
 -- This file shows that points that lead from end to end of a segment, and never turn back, stay in its box.
-use Rattle.std.proofs.Common.{◌≡◌, ◌≤◌, ℕ, ◌<◌, length, get_or, inl, inr, List, [], ◌∷◌, All, ap, subst, sym, arith}
+use Rattle.std.proofs.Common.{◌≡◌, ◌≤◌, ℕ, suc, ◌<◌, length, get_or, inl, inr, List, [], ◌∷◌, All, ap, subst, sym, arith}
 use Rattle.std.proofs.lemmas.List.Elements.{All-cons, All-nil}
 use Rattle.grid_base.specs.Point.{GridPoint, InBox}
 use Rattle.grid_base.specs.Segment.{GridSegment}
@@ -56,14 +56,35 @@ rest_in_box o a v (w ∷ points) from leads links =
     let to = short o v w rest.0 links.0 in
     (to, All-cons (InBox o.a o.b) v (w ∷ points) (boxed o v from to) rest.1)
 
-all_in_box : (o : GridSegment) (points : List GridPoint) → IsCourse o points → All (InBox o.a o.b) points
-all_in_box o [] course = absurd course.ends.leads
-all_in_box o (v ∷ points) course =
-    let from = past_first o v (begins o.a o.b v points course.ends.leads) in
-    (rest_in_box o o.a v points from course.ends.leads course.monotone).1
+points_in_box : (o : GridSegment) (points : List GridPoint) → Leads o.a o.b points → AllLinks (IsMonotone o.a o.b) points
+    → All (InBox o.a o.b) points
+points_in_box o [] leads links = absurd leads
+points_in_box o (v ∷ points) leads links =
+    (rest_in_box o o.a v points (past_first o v (begins o.a o.b v points leads)) leads links).1
 
 -- so does each point that is read
 pub read_in_box : (o : GridSegment) (points : List GridPoint) → IsCourse o points → (i : ℕ) (p : GridPoint)
     → i < length points
     → p ≡ get_or points i p → InBox o.a o.b p
-read_in_box o points course i p within is = subst (InBox o.a o.b) (sym is) (all_in_box o points course i p within)
+read_in_box o points course i p within is =
+    subst (InBox o.a o.b) (sym is) (points_in_box o points course.ends.leads course.monotone i p within)
+
+-- ---- links in the box
+-- what a chain of o has at each link: it goes on as o does, and its ends are in the box of o
+pub record IsInChain (o : GridSegment) (v w : GridPoint) : Type 0 where
+  pub monotone : IsMonotone o.a o.b v w
+  pub first_in_box : InBox o.a o.b v
+  pub second_in_box : InBox o.a o.b w
+
+links_between : (o : GridSegment) (points : List GridPoint) → All (InBox o.a o.b) points
+    → AllLinks (IsMonotone o.a o.b) points → AllLinks (IsInChain o) points
+links_between o [] boxed links = tt
+links_between o (v ∷ []) boxed links = tt
+links_between o (v ∷ w ∷ points) boxed links = (
+  record { monotone = links.0; first_in_box = boxed 0 v (omega arith); second_in_box = boxed 1 w (omega arith) },
+  links_between o (w ∷ points) (λ k d within. boxed (suc k) d (omega arith)) links.1,
+)
+
+pub links_in_chain : (o : GridSegment) (points : List GridPoint) → Leads o.a o.b points
+    → AllLinks (IsMonotone o.a o.b) points → AllLinks (IsInChain o) points
+links_in_chain o points leads links = links_between o points (points_in_box o points leads links) links

@@ -17,7 +17,7 @@ use Rattle.hook_chain.proofs.Exchange.{way}
 use Rattle.hook_chain.proofs.Paths.{links_map}
 use Rattle.hook_chain.proofs.CloseNear.{near_by_close}
 use Rattle.realm_drawing.specs.Chains.{StaysInEnvelope, HasNearEnds}
-use Rattle.realm_drawing.proofs.ChainBounds.{IsLinkInBox, links_in_box}
+use Rattle.realm_drawing.proofs.Boxes.{IsInChain, links_in_chain}
 
 -- ---- close links
 -- an end of a segment is on it
@@ -31,18 +31,19 @@ on_close_is_near : (o : GridSegment) (v w p : GridPoint) → IsBefore o.a o.b �
 on_close_is_near o v w p ordered box on close =
     record { box = box; near = near_by_close o (way v w) p ordered box on close }
 
-near_ends : (o : GridSegment) → IsBefore o.a o.b → (v w : GridPoint) → IsLinkInBox o v w → Close o (way v w)
-    → Near o v × Near o w
-near_ends o ordered v w box close = (
-  on_close_is_near o v w v ordered box.0 (end_is_on (way v w) v (inl refl)) close,
-  on_close_is_near o v w w ordered box.1 (end_is_on (way v w) w (inr refl)) close,
+near_ends : (o : GridSegment) (v w : GridPoint) → IsBefore o.a o.b → InBox o.a o.b v → InBox o.a o.b w
+    → Close o (way v w) → Near o v × Near o w
+near_ends o v w ordered box_v box_w close = (
+  on_close_is_near o v w v ordered box_v (end_is_on (way v w) v (inl refl)) close,
+  on_close_is_near o v w w ordered box_w (end_is_on (way v w) w (inr refl)) close,
 )
 
 -- the ends of each close link of a valid chain are near its original
 pub ends_are_near : (o : GridSegment) (chain : List GridPoint) → ValidChain o chain → HasNearEnds o chain
 ends_are_near o chain valid =
-    let boxes = links_in_box o chain valid in
-    links_map (IsLinkInBox o) (λ v w. Close o (way v w) → Near o v × Near o w) (near_ends o valid.ends) chain boxes
+    links_map (IsInChain o) (λ v w. Close o (way v w) → Near o v × Near o w)
+    (λ v w inside. near_ends o v w valid.ends inside.first_in_box inside.second_in_box) chain
+    (links_in_chain o chain valid.leads valid.monotone)
 
 -- ---- the envelope
 -- near points are in the envelope: the greater run is at most both together
@@ -50,8 +51,8 @@ pub near_in_envelope : (o : GridSegment) (p : GridPoint) → Near o p → Env o 
 near_in_envelope o p near = record { box = near.box; close = omega (arith, near.near) }
 
 -- a grid point on a link in a box is in the box
-on_link_in_box : (o : GridSegment) (v w p : GridPoint) → IsLinkInBox o v w → IsOn (way v w) p → InBox o.a o.b p
-on_link_in_box o v w p box on = let range = on.box in omega arith
+on_link_in_box : (o : GridSegment) (v w p : GridPoint) → IsInChain o v w → IsOn (way v w) p → InBox o.a o.b p
+on_link_in_box o v w p box on = let range = on.box in omega (arith, box.first_in_box, box.second_in_box)
 
 -- by how much the side numbers of the three points of a corner differ
 record AreCornerSums (o : GridSegment) (u v w : GridPoint) : Type 0 where
@@ -116,7 +117,7 @@ on_right o u v w p corner on =
 abbrev IsLinkInEnvelope : GridSegment → GridPoint → GridPoint → Type 0
 IsLinkInEnvelope o v w = (p : GridPoint) → IsOn (way v w) p → Env o p
 
-close_link_in_envelope : (o : GridSegment) (v w : GridPoint) → IsBefore o.a o.b → IsLinkInBox o v w → Close o (way v w)
+close_link_in_envelope : (o : GridSegment) (v w : GridPoint) → IsBefore o.a o.b → IsInChain o v w → Close o (way v w)
     → IsLinkInEnvelope o v w
 close_link_in_envelope o v w ordered box close = λ p on.
     near_in_envelope o p (on_close_is_near o v w p ordered (on_link_in_box o v w p box on) on close)
@@ -127,18 +128,18 @@ ends_in_envelope o v w p first second (inl is) = subst (Env o) (sym is) first
 ends_in_envelope o v w p first second (inr is) = subst (Env o) (sym is) second
 
 -- the two links of a corner have no other grid points than their ends
-corner_in_envelope : (o : GridSegment) (u v w : GridPoint) → IsBefore o.a o.b → IsLinkInBox o u v → IsLinkInBox o v w
+corner_in_envelope : (o : GridSegment) (u v w : GridPoint) → IsBefore o.a o.b → IsInChain o u v → IsInChain o v w
     → IsCorner o u v w → IsLinkInEnvelope o u v × IsLinkInEnvelope o v w
 corner_in_envelope o u v w ordered first second corner =
-    let near = near_ends o ordered u w (first.0, second.1) corner.diagonal in
+    let near = near_ends o u w ordered first.first_in_box second.second_in_box corner.diagonal in
     let at_u = near_in_envelope o u near.0 in
-    let at_v = vertex_in_envelope o u v w ordered first.1 corner near.0 near.1 in
+    let at_v = vertex_in_envelope o u v w ordered first.second_in_box corner near.0 near.1 in
     let at_w = near_in_envelope o w near.1 in (
       λ p on. ends_in_envelope o u v p at_u at_v (on_down o u v w p corner on),
       λ p on. ends_in_envelope o v w p at_v at_w (on_right o u v w p corner on),
     )
 
-links_in_envelope : (o : GridSegment) (chain : List GridPoint) → IsBefore o.a o.b → AllLinks (IsLinkInBox o) chain
+links_in_envelope : (o : GridSegment) (chain : List GridPoint) → IsBefore o.a o.b → AllLinks (IsInChain o) chain
     → IsCloseChain o chain → AllLinks (IsLinkInEnvelope o) chain
 links_in_envelope o [] ordered boxes close = tt
 links_in_envelope o (v ∷ []) ordered boxes close = tt
@@ -153,4 +154,5 @@ links_in_envelope o (u ∷ v ∷ w ∷ chain) ordered boxes (inr corner) =
 
 -- each grid point on a valid chain is in the envelope of its original
 pub chain_in_envelope : (o : GridSegment) (chain : List GridPoint) → ValidChain o chain → StaysInEnvelope o chain
-chain_in_envelope o chain valid = links_in_envelope o chain valid.ends (links_in_box o chain valid) valid.close
+chain_in_envelope o chain valid =
+    links_in_envelope o chain valid.ends (links_in_chain o chain valid.leads valid.monotone) valid.close

@@ -18,7 +18,7 @@ back_where false o v w close = λ g r q on_o on_way.
     close g r q on_o (place_back (exchanged_point w) (exchanged_point v) q on_way)
 
 -- the way back is close too
-close_back : (o : GridSegment) (v w : GridPoint) → Close o (way v w) → Close o (way w v)
+pub close_back : (o : GridSegment) (v w : GridPoint) → Close o (way v w) → Close o (way w v)
 close_back o v w close = back_where (is_flat o) o v w close
 
 close_turned : (o : GridSegment) (v w : GridPoint) (straight : Bool)
@@ -126,25 +126,6 @@ close_at o points i u v within at_u at_v =
       },
       λ at. subst (λ (p : GridPoint). Close o (way p v)) (sym (first u))
           (subst (λ (q : GridPoint). Close o (way (get_or points i u) q)) (sym (second u)) (at.close u)),
-    )
-
-pub corner_at : (o : GridSegment) (points : List GridPoint) (i : ℕ) (u v w : GridPoint) → i + 2 < length points
-    → u ≡ get_or points i u
-    → v ≡ get_or points (i + 1) v → w ≡ get_or points (i + 2) w → IsCorner o u v w ↔ IsCornerAt o points i
-corner_at o points i u v w within at_u at_v at_w =
-    let first = reads points i u (omega arith) at_u in
-    let second = reads points (i + 1) v (omega arith) at_v in
-    let third = reads points (i + 2) w within at_w in (
-      λ corner. record {
-        within = within;
-        corner = λ d. subst (λ (p : GridPoint). IsCorner o p (get_or points (i + 1) d) (get_or points (i + 2) d)) (first d)
-            (subst (λ (q : GridPoint). IsCorner o u q (get_or points (i + 2) d)) (second d)
-            (subst (λ (r : GridPoint). IsCorner o u v r) (third d) corner));
-      },
-      λ at. subst (λ (p : GridPoint). IsCorner o p v w) (sym (first u))
-          (subst (λ (q : GridPoint). IsCorner o (get_or points i u) q w) (sym (second u))
-          (subst (λ (r : GridPoint). IsCorner o (get_or points i u) (get_or points (i + 1) u) r) (sym (third u))
-          (at.corner u))),
     )
 
 -- no link and no corner begins at the last point

@@ -1,15 +1,11 @@
 -- This file shows that a chain stays valid where a falling diagonal is drawn round the lower left corner of a cell, and
--- where a piece is cut at a point on it.
+-- that a piece cut at a point on it is a hook.
 use Rattle.std.proofs.Common.{◌≡◌, ◌≢◌, ◌+◌, ◌<◌, ◌≤◌, Bool, true, false, IsTrue, if◌then◌else◌, List, [], ◌∷◌, ◌++◌}
 use Rattle.std.proofs.Common.{refl, ap, sym, arith, inl, inr}
-use Rattle.std.proofs.lemmas.Bool.Decides.{nat_tests}
 use Rattle.grid_base.specs.Point.{GridPoint, point_at, IsBefore, is_point}
 use Rattle.grid_base.specs.Segment.{GridSegment, is_diagonal}
 use Rattle.grid_base.specs.Crossing.{IsOn}
-use Rattle.grid_base.proofs.Turns.{on_is}
-use Rattle.grid_base.proofs.Ends.{same_point}
 use Rattle.segment_envelope.proofs.Diagonals.{IsFalling}
-use Rattle.segment_envelope.proofs.Sizes.{on_line_is_near}
 use Rattle.hook_chain.specs.Close.{Close}
 use Rattle.hook_chain.specs.Hook.{Hook}
 use Rattle.hook_chain.specs.Redrawing.{redrawn, round_corner, cut_at}
@@ -18,8 +14,8 @@ use Rattle.hook_chain.proofs.CloseParts.{part_close}
 use Rattle.hook_chain.proofs.HookLaw.{a_is_on, b_is_on}
 use Rattle.realm_drawing.proofs.ChainJoins.{GoesOn, join_ways}
 use Rattle.realm_drawing.proofs.Replacements.{Serves, Replaces, replaced_valid}
-use Rattle.realm_drawing.proofs.RedrawnChains.{redrawn_valid}
 use Rattle.realm_drawing.proofs.CrossedCells.{upper_left, lower_right, falling_by}
+use Rattle.realm_drawing.proofs.Stretches.{same_by_test, apart_by_test}
 
 -- ---- the way round the corner
 -- what a falling diagonal passes in a chain goes down there, as the whole chain does
@@ -27,16 +23,6 @@ falls_on : (o u : GridSegment) (v w : GridPoint) → IsFalling u → IsMonotone 
     → w.y ≤ v.y → IsMonotone o.a o.b v w
 falls_on o u v w falling whole apart across down =
     (apart, across, λ up. let no = whole.2 up in absurd (omega (arith, falling.down)), λ so. down)
-
--- two points that the test finds to be one, and two that it tells apart
-is_same : (p q : GridPoint) → is_point p q ≡ true → p ≡ q
-is_same p q same = same_point p q (grind (arith, nat_tests)) (grind (arith, nat_tests))
-
-is_apart : (p q : GridPoint) → is_point p q ≡ false → p ≢ q
-is_apart p q other same =
-    let column = ap (λ (r : GridPoint). r.x) same in
-    let row = ap (λ (r : GridPoint). r.y) same in
-    grind (arith, nat_tests)
 
 -- the falling diagonal u passes both corners between which z lies
 pub record PassesCorner (u : GridSegment) (z : GridPoint) : Type 0 where
@@ -56,9 +42,9 @@ to_first : (o u : GridSegment) (z : GridPoint) (at_a : Bool) → is_point u.a (u
     → IsMonotone o.a o.b u.a u.b → Close o u
     → GoesOn o u.a (upper_left z) ((if at_a then [] else u.a ∷ []) ++ upper_left z ∷ [])
 to_first o u z true is passes monotone close =
-    record { leads = (sym (is_same u.a (upper_left z) is), refl); monotone = tt; close = tt }
+    record { leads = (sym (same_by_test u.a (upper_left z) is), refl); monotone = tt; close = tt }
 to_first o u z false is passes monotone close =
-    let apart = is_apart u.a (upper_left z) is in
+    let apart = apart_by_test u.a (upper_left z) is in
     let box = passes.first.box in
     let down = passes.falling.down in
     record {
@@ -72,9 +58,9 @@ from_last : (o u : GridSegment) (z : GridPoint) (at_b : Bool) → is_point u.b (
     → IsMonotone o.a o.b u.a u.b → Close o u
     → GoesOn o (lower_right z) u.b (lower_right z ∷ (if at_b then [] else u.b ∷ []))
 from_last o u z true is passes monotone close =
-    record { leads = (refl, sym (is_same u.b (lower_right z) is)); monotone = tt; close = tt }
+    record { leads = (refl, sym (same_by_test u.b (lower_right z) is)); monotone = tt; close = tt }
 from_last o u z false is passes monotone close =
-    let apart : lower_right z ≢ u.b = λ same. is_apart u.b (lower_right z) is (sym same) in
+    let apart : lower_right z ≢ u.b = λ same. apart_by_test u.b (lower_right z) is (sym same) in
     let box = passes.last.box in
     let across = passes.falling.across in
     let down = passes.falling.down in
@@ -153,16 +139,9 @@ cornered_valid o u z chain ordered diagonal down first last valid =
 
 -- ---- the cut
 -- the cut at a point of t other than its greater end is the hook there
-cut_is_hook : (t : GridSegment) (z : GridPoint) → IsOn t z → z ≢ t.b → Hook t z (cut_at t z)
+pub cut_is_hook : (t : GridSegment) (z : GridPoint) → IsOn t z → z ≢ t.b → Hook t z (cut_at t z)
 cut_is_hook t z on not_b = by_test (is_point t.a z) refl
   where
     by_test : (at_a : Bool) → is_point t.a z ≡ at_a → Hook t z (if at_a then t.a ∷ t.b ∷ [] else t.a ∷ z ∷ t.b ∷ [])
-    by_test true is = inl (sym (is_same t.a z is), refl)
-    by_test false is = inr (inr (inl (λ same. is_apart t.a z is (sym same), not_b, on, refl)))
-
--- a chain stays valid where a piece is cut at a point on it
-pub cut_valid : (o t : GridSegment) (z : GridPoint) (chain : List GridPoint) → IsBefore t.a t.b → IsOn t z → z ≢ t.b
-    → ValidChain o chain → ValidChain o (redrawn t (cut_at t z) chain)
-cut_valid o t z chain ordered on not_b valid =
-    let near = on_line_is_near t z ordered on.box (on_is t.a t.b z on.line) in
-    redrawn_valid o t z (cut_at t z) chain ordered near (cut_is_hook t z on not_b) valid
+    by_test true is = inl (sym (same_by_test t.a z is), refl)
+    by_test false is = inr (inr (inl (λ same. apart_by_test t.a z is (sym same), not_b, on, refl)))

@@ -41,19 +41,10 @@ Any-append_right P (x ∷ xs) ys some = Any-later P x (xs ++ ys) (Any-append_rig
 pub Any-weaker : {X : Type 0} (P R : X → Type 0) → ((x : X) → P x → R x) → (xs : List X) → Any P xs → Any R xs
 Any-weaker P R step xs (k, x, within, is, p) = (k, x, within, is, step x p)
 
--- the same where the step needs what all elements have
-pub Any-weaker_where : {X : Type 0} (Q P R : X → Type 0) → ((x : X) → Q x → P x → R x)
-    → (xs : List X) → All Q xs → Any P xs → Any R xs
-Any-weaker_where Q P R step xs all (k, x, within, is, p) = (k, x, within, is, step x (subst Q is (all k x within)) p)
-
 -- what follows from P at an element follows from P at some element
 pub All-of_some : {X : Type 0} (Q P : X → Type 0) (R : Type 0) → ((x : X) → Q x → P x → R)
     → (xs : List X) → All Q xs → Any P xs → R
 All-of_some Q P R step xs all (k, x, within, is, p) = step x (subst Q is (all k x within)) p
-
--- where P holds of no element, it doesn't hold of some element
-pub Any-never : {X : Type 0} (P : X → Type 0) (xs : List X) → All (λ x. P x → ⊥) xs → Any P xs → ⊥
-Any-never P xs none (k, x, within, is, p) = none k x within (subst P (sym is) p)
 
 -- where f makes P hold of some value, it holds of some element of `map f xs`
 pub Any-map : {X Y : Type 0} (P : Y → Type 0) (f : X → Y) (xs : List X) → Any (λ x. P (f x)) xs → Any P (map f xs)

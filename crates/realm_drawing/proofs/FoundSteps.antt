@@ -1,20 +1,12 @@
 -- This file shows that a step that a search finds at a link is for a violation, and permitted.
 use Rattle.std.proofs.Common.{◌≡◌, ℕ, ◌<◌, List, length, get_or, sym, subst}
 use Rattle.grid_base.specs.Point.{GridPoint}
-use Rattle.grid_base.specs.Realm.Violation.{PointInside, TwoCross}
 use Rattle.grid_base.specs.Drawing.{Drawing, HasViolation}
 use Rattle.grid_base.specs.declared.original.Original.{Original}
 use Rattle.grid_base.specs.declared.kinds.Step.{Step}
-use Rattle.grid_base.specs.declared.kinds.Step.TheVariants.{Split, Meet, Corner}
-use Rattle.realm_drawing.specs.Mending.{IsMending, HasParts, IsPermitted}
+use Rattle.realm_drawing.specs.Mending.{IsPermitted}
 use Rattle.realm_drawing.specs.Found.{SomeLink, MendsPiece}
-use Rattle.realm_drawing.proofs.Mendings.{mending_is_permitted}
-
--- a step whose point and pieces are those of the drawing, and such as it asks for, is for a violation
-mending_is_violation : (d : Drawing) (step : Step) → IsMending step → HasParts d step → HasViolation d
-mending_is_violation d (Split p t) inside parts = PointInside p t parts.0 parts.1 inside
-mending_is_violation d (Meet t u x) mending parts = TwoCross t u parts.0 parts.1 mending.1.cross
-mending_is_violation d (Corner t u) mending parts = TwoCross t u parts.0 parts.1 mending.0
+use Rattle.realm_drawing.proofs.Mendings.{mending_is_violation, mending_is_permitted}
 
 -- the link at which a step was found is a piece, so the step has its parts
 pub found_step : (d : Drawing) (k : ℕ) (o : Original) (chain : List GridPoint) (step : Step)

@@ -1,9 +1,8 @@
 -- This file shows which links a path has when it is turned round, and with another path behind it.
-use Rattle.std.proofs.Common.{◌≡◌, ◌⊎◌, ◌↔◌, ◌&&◌, true, false, List, [], ◌∷◌, ◌++◌, reverse}
-use Rattle.std.proofs.Common.{sym, ap₂, subst, ◌∙◌, inl, inr, arith}
+use Rattle.std.proofs.Common.{◌≡◌, ◌⊎◌, ◌↔◌, List, [], ◌∷◌, ◌++◌, reverse}
+use Rattle.std.proofs.Common.{sym, ap₂, subst, ◌∙◌, inl, inr}
 use Rattle.std.proofs.lemmas.List.{reverse-append}
-use Rattle.std.proofs.lemmas.Bool.Decides.{nat_tests}
-use Rattle.grid_base.specs.Point.{GridPoint, point_at, IsBefore, is_point}
+use Rattle.grid_base.specs.Point.{GridPoint, IsBefore}
 use Rattle.grid_base.specs.Segment.{GridSegment}
 use Rattle.grid_base.specs.Drawing.{IsLink, HasLink}
 use Rattle.grid_base.proofs.Orders.{IsBefore-asym, segment_between}
@@ -12,15 +11,6 @@ use Rattle.hook_chain.specs.Redrawing.{front}
 use Rattle.hook_chain.proofs.Paths.{leads_back, reverse_is}
 
 -- ---- one link
--- two points are the two others, or they aren't
-pub are_both : (v w p q : GridPoint) → (is_point v p && is_point w q) ≡ true → (v ≡ p) × (w ≡ q)
-are_both v w p q h =
-    let same : (v.x ≡ p.x) × (v.y ≡ p.y) × (w.x ≡ q.x) × (w.y ≡ q.y) = grind (arith, nat_tests) in
-    (ap₂ point_at same.0 same.1, ap₂ point_at same.2 same.3)
-
-pub are_not_both : (v w p q : GridPoint) → (is_point v p && is_point w q) ≡ false → (v ≡ p) × (w ≡ q) → ⊥
-are_not_both v w p q h same = let first = same.0 in let second = same.1 in grind (arith, nat_tests)
-
 turned_link : (s : GridSegment) (v w : GridPoint) → IsLink s v w → IsLink s w v
 turned_link s v w (inl forth) = inr (forth.1, forth.0)
 turned_link s v w (inr back) = inl (back.1, back.0)

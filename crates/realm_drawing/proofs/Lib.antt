@@ -14,6 +14,8 @@ mod SteepPieces
 pub mod HookVertices
 -- hooks stay close to the original of their piece
 pub mod AcrossAxes
+-- what stands for a link of a redrawn chain
+pub mod Stretches
 -- ways that are joined to parts of chains
 pub mod ChainJoins
 -- paths that may stand for a piece in a chain
@@ -28,8 +30,6 @@ pub mod Corners
 pub mod StepsKeep
 -- the keys of pieces
 pub mod Keys
--- the box of a valid chain, and how many links it has
-pub mod ChainBounds
 -- valid chains stay in the envelope
 pub mod ChainEnvelope
 -- the places of a chain
@@ -40,9 +40,11 @@ mod SidesOfLinks
 pub mod Unswept
 -- sums over lists whose elements change
 mod Sums
--- what redrawing does to one chain
+-- how many points redrawing gives a chain
 mod Redrawings
--- each step adds a link, and there are few
+-- the paths that a permitted step draws
+pub mod StepPaths
+-- each step adds a link and takes none from any chain, and there are few
 pub mod StepsAdd
 -- the links of a path, one by one
 pub mod PathLinks
@@ -66,7 +68,7 @@ pub mod PathSides
 pub mod StepRedrawings
 -- a binary search in a list along which a number rises
 pub mod KeySearches
--- how far a chain has come at its points
+-- how far a chain has come at its points, and how many links it has
 pub mod Progress
 -- where the links of a chain stand, and what comes of a path there
 pub mod Links
@@ -74,7 +76,7 @@ pub mod Links
 pub mod Passings
 -- a path without its last point
 pub mod Fronts
--- a course stays in the box of its segment
+-- a chain stays in the box of its original
 pub mod Boxes
 -- close links and corners, from a place of a list on
 pub mod CloseChains

@@ -8,19 +8,13 @@ use Rattle.grid_base.specs.Drawing.{HasLink}
 use Rattle.component_registry.specs.Registry.{Holdings, Owns}
 use Rattle.realm_drawing.specs.declared.shares.Share.{Share}
 use Rattle.realm_drawing.specs.Shares.{share_of, Held, ListsAlso, IsBetween, IsGained, IsOfChain}
-use Rattle.realm_drawing.proofs.PathLinks.{no_link_at_first, link_more, made_between}
-use Rattle.realm_drawing.proofs.ShareLists.{lists_nothing, lists_one, lists_same, lists_both}
+use Rattle.realm_drawing.proofs.PathLinks.{link_more, made_between}
+use Rattle.realm_drawing.proofs.ShareLists.{lists_one, lists_same, lists_both}
 
 -- ---- links
 -- t is one of the first links of the path, its lesser end first
 abbrev pub IsAmong : List GridPoint → ℕ → GridSegment → Type 0
 IsAmong path i t = HasLink (take i path) t × IsBefore t.a t.b
-
--- before the first link
-pub lists_no_link : (A : Share → Type 0) (xs : List Share) (path : List GridPoint)
-    → ListsAlso xs xs (λ y. A y × IsAmong path 1 y.piece)
-lists_no_link A xs path = lists_nothing xs (λ y. A y × IsAmong path 1 y.piece)
-    (λ y (a, (link, ordered)). no_link_at_first path y.piece link)
 
 -- the first links and one more, where A holds
 pub next_among : (A : Type 0) (path : List GridPoint) (i : ℕ) (v w : GridPoint) (t : GridSegment)

@@ -7,7 +7,8 @@ use Rattle.grid_base.specs.Segment.{GridSegment, IsSegmentBefore, is_diagonal}
 use Rattle.grid_base.specs.Crossing.{Inside}
 use Rattle.grid_base.specs.Places.{RationalPoint}
 use Rattle.grid_base.specs.MeetPoint.{MeetPoint, IsCell, crossing_of, is_centre, meet_at}
-use Rattle.grid_base.specs.Drawing.{Drawing}
+use Rattle.grid_base.specs.Realm.Violation.{PointInside, TwoCross}
+use Rattle.grid_base.specs.Drawing.{Drawing, HasViolation}
 use Rattle.grid_base.specs.declared.kinds.Step.{Step}
 use Rattle.grid_base.specs.declared.kinds.Step.TheVariants.{Split, Meet, Corner}
 use Rattle.grid_base.proofs.Turns.{on_is}
@@ -97,7 +98,13 @@ permitted_mends d new (Corner t u) permitted =
     (permitted.2, permitted.3, permitted.4, permitted.5, permitted.6, permitted.7, permitted.8) in
     (mending, (permitted.0, permitted.1))
 
--- and where it mends and the drawing has its parts it is permitted, since each piece has its hook
+-- where it mends and the drawing has its parts there is a violation
+pub mending_is_violation : (d : Drawing) (step : Step) → IsMending step → HasParts d step → HasViolation d
+mending_is_violation d (Split p t) inside parts = PointInside p t parts.0 parts.1 inside
+mending_is_violation d (Meet t u x) mending parts = TwoCross t u parts.0 parts.1 mending.1.cross
+mending_is_violation d (Corner t u) mending parts = TwoCross t u parts.0 parts.1 mending.0
+
+-- and it is permitted, since each piece has its hook
 pub mending_is_permitted : (d : Drawing) (step : Step) → IsMending step → HasParts d step → IsPermitted d step
 mending_is_permitted d (Split p t) inside parts =
     let hook = has_hook t p parts.1.0 (inside_near t p parts.1.0 inside) in

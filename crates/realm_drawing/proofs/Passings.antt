@@ -1,5 +1,5 @@
 -- This file shows that a chain passes a piece at most once, and what it becomes with a path in the place of the piece.
-use Rattle.std.proofs.Common.{◌≡◌, ◌≢◌, ℕ, suc, ◌+◌, ◌-◌, ◌<◌, List, ◌++◌, All, get_or, take, drop, reverse}
+use Rattle.std.proofs.Common.{◌≡◌, ◌≢◌, ◌⊎◌, ℕ, suc, ◌+◌, ◌-◌, ◌<◌, List, ◌++◌, All, get_or, take, drop, reverse}
 use Rattle.std.proofs.Common.{subst, add-one, inl, inr, arith}
 use Rattle.grid_base.specs.Point.{GridPoint}
 use Rattle.grid_base.specs.Segment.{GridSegment}
@@ -8,34 +8,24 @@ use Rattle.hook_chain.specs.Redrawing.{front, redrawn}
 use Rattle.realm_drawing.specs.Chains.{IsSomeChain}
 use Rattle.realm_drawing.specs.Passages.{IsPlaceAt, GoesFrom}
 use Rattle.realm_drawing.proofs.Progress.{one_place, chain_rises}
-use Rattle.realm_drawing.proofs.Links.{link_at, IsOnlyLink, forth_stands, back_stands, redrawn_at}
+use Rattle.realm_drawing.proofs.Links.{link_at, redrawn_at}
+use Rattle.realm_drawing.proofs.Stretches.{forth_stretch, back_stretch}
 
 -- the next place
 at_next : (chain : List GridPoint) (k : ℕ) (d p : GridPoint) → IsPlaceAt chain p (k + 1) → get_or chain (suc k) d ≡ p
 at_next chain k d p place = rw add-one at (place.at d)
 
 -- ---- a chain that has no point twice
--- where it goes forth along t, it doesn't elsewhere
-forth_is_only : (chain : List GridPoint) → IsSomeChain chain → (t : GridSegment) (k : ℕ) → GoesFrom chain t.a t.b k
-    → IsOnlyLink chain t k
-forth_is_only chain valid t k goes i other (inl forth) =
+-- where it goes from p to q, it goes nowhere else between the two
+goes_once : (chain : List GridPoint) → IsSomeChain chain → (p q : GridPoint) (k i : ℕ) → GoesFrom chain p q k → i ≢ k
+    → GoesFrom chain p q i ⊎ GoesFrom chain q p i → ⊥
+goes_once chain valid p q k i goes other (inl forth) =
     let rises = chain_rises chain valid in
-    other (one_place rises.0 chain rises.1 t.a i k forth.from goes.from)
-forth_is_only chain valid t k goes i other (inr back) =
+    other (one_place rises.0 chain rises.1 p i k forth.from goes.from)
+goes_once chain valid p q k i goes other (inr back) =
     let rises = chain_rises chain valid in
-    let first = one_place rises.0 chain rises.1 t.b i (k + 1) back.from goes.to in
-    let second = one_place rises.0 chain rises.1 t.a (i + 1) k back.to goes.from in
-    omega arith
-
-back_is_only : (chain : List GridPoint) → IsSomeChain chain → (t : GridSegment) (k : ℕ) → GoesFrom chain t.b t.a k
-    → IsOnlyLink chain t k
-back_is_only chain valid t k goes i other (inr back) =
-    let rises = chain_rises chain valid in
-    other (one_place rises.0 chain rises.1 t.b i k back.from goes.from)
-back_is_only chain valid t k goes i other (inl forth) =
-    let rises = chain_rises chain valid in
-    let first = one_place rises.0 chain rises.1 t.a i (k + 1) forth.from goes.to in
-    let second = one_place rises.0 chain rises.1 t.b (i + 1) k forth.to goes.from in
+    let first = one_place rises.0 chain rises.1 q i (k + 1) back.from goes.to in
+    let second = one_place rises.0 chain rises.1 p (i + 1) k back.to goes.from in
     omega arith
 
 -- the chain with the path in the place of the piece, there and back
@@ -45,8 +35,8 @@ redrawn_forth t path chain k valid goes =
     let within = goes.to.within in
     rw add-one
     (redrawn_at t path (front path) chain k (omega arith)
-    (λ d. forth_stands t path (get_or chain k d) (get_or chain (suc k) d) (goes.from.at d) (at_next chain k d t.b goes.to))
-    (forth_is_only chain valid t k goes))
+    (λ d. forth_stretch t path (get_or chain k d) (get_or chain (suc k) d) (goes.from.at d) (at_next chain k d t.b goes.to))
+    (λ i other link. goes_once chain valid t.a t.b k i goes other link))
 
 pub redrawn_back : (t : GridSegment) (path chain : List GridPoint) (k : ℕ) → IsSomeChain chain → GoesFrom chain t.b t.a k
     → redrawn t path chain ≡ take k chain ++ front (reverse path) ++ drop (k + 1) chain
@@ -60,9 +50,10 @@ redrawn_back t path chain k valid goes =
     in
     rw add-one
     (redrawn_at t path (front (reverse path)) chain k (omega arith)
-    (λ d. back_stands t path (get_or chain k d) (get_or chain (suc k) d) apart (goes.from.at d)
+    (λ d. back_stretch t path (get_or chain k d) (get_or chain (suc k) d) apart (goes.from.at d)
     (at_next chain k d t.a goes.to))
-    (back_is_only chain valid t k goes))
+    (λ i other link. goes_once chain valid t.b t.a k i goes other
+    (elim link [ inl forth ↦ inr forth | inr back ↦ inl back ])))
 
 -- a chain that doesn't come by the lesser end of t hasn't t
 pub without_end : (chain : List GridPoint) (t : GridSegment) → All (λ q. q ≢ t.a) chain → HasLink chain t → ⊥

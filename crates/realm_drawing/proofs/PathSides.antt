@@ -1,19 +1,18 @@
 -- This file shows that no path of a step has the piece of the other path for a link, as it stays on one side of its own.
 use Rattle.std.proofs.Common.{◌≡◌, ◌≢◌, ◌⊎◌, ◌+◌, Bool, true, false, if◌then◌else◌, List, [], ◌∷◌, ◌++◌}
-use Rattle.std.proofs.Common.{refl, sym, subst, inl, inr, arith}
+use Rattle.std.proofs.Common.{refl, sym, subst, inl, inr}
 use Rattle.std.specs.List.{AllByRecursion}
-use Rattle.std.proofs.lemmas.Bool.Decides.{nat_tests}
 use Rattle.grid_base.specs.Point.{GridPoint, point_at, is_point}
 use Rattle.grid_base.specs.Segment.{GridSegment}
 use Rattle.grid_base.specs.Sides.{Side, Left, On, Right, opposite, side}
 use Rattle.grid_base.specs.Crossing.{IsOn, IsParted}
 use Rattle.grid_base.specs.Drawing.{IsLink, HasLink}
-use Rattle.grid_base.proofs.Ends.{same_point}
 use Rattle.hook_chain.specs.Chains.{Leads}
 use Rattle.hook_chain.specs.Hook.{Hook, InTriangle}
-use Rattle.hook_chain.specs.Redrawing.{round_corner, cut_at}
+use Rattle.hook_chain.specs.Redrawing.{round_corner}
 use Rattle.hook_chain.proofs.HookLaw.{a_is_on, b_is_on}
 use Rattle.hook_chain.proofs.Paths.{vertices_map}
+use Rattle.realm_drawing.proofs.Stretches.{same_by_test}
 
 -- ---- paths on one side
 -- v is on the line of t, or on the side `on_side` of it
@@ -82,15 +81,7 @@ hook_beside t x path hook =
     ]
 
 -- ---- corners
--- the cut piece lies on its line
-pub cut_beside : (t : GridSegment) (z : GridPoint) → IsOn t z → StaysBeside t On (cut_at t z)
-cut_beside t z on = by_test (is_point t.a z)
-  where
-    by_test : (at_a : Bool) → StaysBeside t On (if at_a then t.a ∷ t.b ∷ [] else t.a ∷ z ∷ t.b ∷ [])
-    by_test true = (a_beside t On, (b_beside t On, tt))
-    by_test false = (a_beside t On, (inl on.line, (b_beside t On, tt)))
-
--- and the way round the corner z but for z
+-- the way round the corner z of a cell lies on the diagonal but for z
 pub round_beside : (u : GridSegment) (z : GridPoint) → IsOn u (point_at z.x (z.y + 1)) → IsOn u (point_at (z.x + 1) z.y)
     → StaysBeside u (side u.a u.b z) (round_corner u z)
 round_beside u z first last = by_tests (is_point u.a (point_at z.x (z.y + 1))) (is_point u.b (point_at (z.x + 1) z.y))
@@ -107,17 +98,7 @@ round_beside u z first last = by_tests (is_point u.a (point_at z.x (z.y + 1))) (
     by_tests true at_b = (inl first.line, (inr refl, from_last at_b))
     by_tests false at_b = (a_beside u (side u.a u.b z), (inl first.line, (inr refl, from_last at_b)))
 
--- ---- where the paths lead
-same_by_test : (p q : GridPoint) → is_point p q ≡ true → p ≡ q
-same_by_test p q same = same_point p q (grind (arith, nat_tests)) (grind (arith, nat_tests))
-
-pub cut_leads : (t : GridSegment) (z : GridPoint) → Leads t.a t.b (cut_at t z)
-cut_leads t z = by_test (is_point t.a z)
-  where
-    by_test : (at_a : Bool) → Leads t.a t.b (if at_a then t.a ∷ t.b ∷ [] else t.a ∷ z ∷ t.b ∷ [])
-    by_test true = (refl, (refl, refl))
-    by_test false = (refl, (refl, (refl, refl)))
-
+-- and leads from end to end
 pub round_leads : (u : GridSegment) (z : GridPoint) → Leads u.a u.b (round_corner u z)
 round_leads u z = by_tests (is_point u.a (point_at z.x (z.y + 1))) (is_point u.b (point_at (z.x + 1) z.y)) refl refl
   where

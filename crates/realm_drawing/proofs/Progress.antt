@@ -1,5 +1,5 @@
--- This file shows that a chain comes farther with each link, so it comes by each point at most once.
-use Rattle.std.proofs.Common.{◌≡◌, ◌≢◌, ◌⊎◌, ℕ, ◌<◌, ◌≤◌, List, [], ◌∷◌, length, get_or, All, refl, ap, ap₂, sym, ◌∙◌}
+-- This file shows that a chain comes farther with each link, so it has few links, and comes by each point at most once.
+use Rattle.std.proofs.Common.{◌≡◌, ◌≢◌, ◌⊎◌, ℕ, ◌+◌, ◌<◌, ◌≤◌, List, [], ◌∷◌, length, get_or, All, refl, ap, ap₂, sym, ◌∙◌}
 use Rattle.std.proofs.Common.{subst, inl, inr, arith}
 use Rattle.std.proofs.Common.{Result, Option, None, Some, MatchOption, nat_cmp}
 use Rattle.std.specs.List.Sorted.{IsSearchInRange, IsBinarySearchResult}
@@ -11,8 +11,9 @@ use Rattle.grid_base.specs.Point.{GridPoint, point_at}
 use Rattle.grid_base.specs.Segment.{GridSegment}
 use Rattle.grid_base.proofs.Turns.{in_order}
 use Rattle.hook_chain.specs.Chains.{AllLinks, Leads}
-use Rattle.hook_chain.specs.ValidChain.{IsMonotone}
+use Rattle.hook_chain.specs.ValidChain.{IsMonotone, ValidChain}
 use Rattle.realm_drawing.specs.Chains.{IsSomeChain}
+use Rattle.realm_drawing.specs.Measure.{links_in, most_links}
 use Rattle.realm_drawing.specs.Passages.{progress, IsPlaceAt, IsOnlyPlace}
 use Rattle.realm_drawing.proofs.KeySearches.{Rises, HasAt, searched, one_place_for_a_number}
 
@@ -79,6 +80,25 @@ past_first o v same =
 pub begins : (a b v : GridPoint) (chain : List GridPoint) → Leads a b (v ∷ chain) → v ≡ a
 begins a b v [] leads = leads.0
 begins a b v (w ∷ chain) leads = leads.0
+
+-- each link comes farther, so there are no more of them than there is way
+way_of_links : (o : GridSegment) (a v : GridPoint) (chain : List GridPoint) → IsPast o v → Leads a o.b (v ∷ chain)
+    → AllLinks (IsMonotone o.a o.b) (v ∷ chain) → length chain + progress o.a v ≤ progress o.a o.b
+way_of_links o a v [] here leads links = let there = ap (progress o.a) leads.1 in omega arith
+way_of_links o a v (w ∷ chain) here leads links =
+    one_more (progress o.a v) (progress o.a w) (farther o v w here links.0)
+    (way_of_links o w w chain (past o v w here links.0) leads.1 links.1)
+  where
+    one_more : (n m : ℕ) → n < m → length chain + m ≤ progress o.a o.b → length (w ∷ chain) + n ≤ progress o.a o.b
+    one_more n m next rest = omega (arith, next, rest)
+
+-- a valid chain has at most one link for each column and each row
+pub chain_is_short : (o : GridSegment) (chain : List GridPoint) → ValidChain o chain → links_in chain ≤ most_links o
+chain_is_short o [] valid = absurd valid.leads
+chain_is_short o (v ∷ chain) valid =
+    let start = begins o.a o.b v chain valid.leads in
+    let way = way_of_links o o.a v chain (past_first o v start) valid.leads valid.monotone in
+    omega (arith, way, ap (progress o.a) start)
 
 -- how far a chain has come rises from its first point on
 progress_rises : (chain : List GridPoint) (first : GridPoint) → 0 < length chain → first ≡ get_or chain 0 first

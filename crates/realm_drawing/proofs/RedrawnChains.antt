@@ -1,7 +1,7 @@
 -- This file shows that a chain stays valid where the hook of a piece is drawn in the place of the piece.
-use Rattle.std.proofs.Common.{◌≡◌, ◌⊎◌, ◌≤◌, Bool, true, false, List, [], ◌∷◌, subst, sym, arith, inl, inr}
+use Rattle.std.proofs.Common.{◌≡◌, ◌⊎◌, ◌≤◌, List, [], ◌∷◌, subst, sym, arith, inl, inr}
 use Rattle.grid_base.specs.Point.{GridPoint, IsBefore, InBox}
-use Rattle.grid_base.specs.Segment.{GridSegment, is_flat, exchanged_point}
+use Rattle.grid_base.specs.Segment.{GridSegment}
 use Rattle.grid_base.proofs.Signs.{three_ways}
 use Rattle.grid_base.proofs.Ends.{same_point}
 use Rattle.segment_envelope.specs.Near.{Near}
@@ -9,23 +9,15 @@ use Rattle.hook_chain.specs.Close.{Close}
 use Rattle.hook_chain.specs.Hook.{Hook}
 use Rattle.hook_chain.specs.Redrawing.{redrawn}
 use Rattle.hook_chain.specs.ValidChain.{IsMonotone, ValidChain}
-use Rattle.hook_chain.proofs.CloseParts.{CloseWhere}
-use Rattle.hook_chain.proofs.Exchange.{way, place_back}
+use Rattle.hook_chain.proofs.Exchange.{way}
 use Rattle.hook_chain.proofs.Existence.{hook_monotone}
 use Rattle.hook_chain.proofs.HookLaw.{a_is_on, b_is_on, hook_leads}
 use Rattle.hook_chain.proofs.Paths.{backwards, reverse_is, leads_back, links_back, links_map}
 use Rattle.realm_drawing.proofs.AcrossAxes.{hook_stays_close}
-use Rattle.realm_drawing.proofs.ChainJoins.{GoesOn, close_links, IsInChain, links_in_chain}
+use Rattle.realm_drawing.proofs.Boxes.{IsInChain, links_in_chain}
+use Rattle.realm_drawing.proofs.ChainJoins.{GoesOn, close_links}
+use Rattle.realm_drawing.proofs.CloseChains.{close_back}
 use Rattle.realm_drawing.proofs.Replacements.{IsUnit, Replaces, replaced_valid}
-
--- a piece that is close is close with its ends the other way, since it has the same places
-turned_where : (flat : Bool) (o : GridSegment) (v w : GridPoint) → CloseWhere flat o (way v w) → CloseWhere flat o (way w v)
-turned_where true o v w close = λ g r q of_o of_p. close g r q of_o (place_back w v q of_p)
-turned_where false o v w close = λ g r q of_o of_p.
-    close g r q of_o (place_back (exchanged_point w) (exchanged_point v) q of_p)
-
-close_turned : (o : GridSegment) (v w : GridPoint) → Close o (way v w) → Close o (way w v)
-close_turned o v w close = turned_where (is_flat o) o v w close
 
 -- where the chain of o passes t from b to a, t is upright and o falls, so that a link of the hook goes the other way
 turned_monotone : (o t : GridSegment) (v w : GridPoint) → IsBefore t.a t.b → IsMonotone o.a o.b t.b t.a → IsInChain t v w
@@ -81,14 +73,14 @@ hook_replaces o t x path ends ordered near hook =
       };
       back = λ inside close.
           let links = hook_stays_close o t x path ends ordered inside.second_in_box inside.first_in_box near hook
-          (close_turned o t.b t.a close) in
+          (close_back o t.b t.a close) in
           subst (λ (l : List GridPoint). GoesOn o t.b t.a l) (sym (reverse_is path)) (record {
             leads = leads_back t.a t.b path leads;
             monotone = links_back (IsInChain t) (IsMonotone o.a o.b)
                 (λ v w link. turned_monotone o t v w ordered inside.monotone link)
                 t.a t.b path leads (links_in_chain t path leads monotone);
             close = close_links o (backwards path)
-                (links_back IsCloseLink IsCloseLink (close_turned o) t.a t.b path leads links);
+                (links_back IsCloseLink IsCloseLink (close_back o) t.a t.b path leads links);
           });
       unit = unit_hook t x path near.box hook;
     }

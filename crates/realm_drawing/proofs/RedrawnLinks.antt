@@ -1,22 +1,17 @@
 -- This file shows which links a redrawn chain has: its own but the piece, and those of the path if it had the piece.
-use Rattle.std.proofs.Common.{◌≡◌, ◌≢◌, ◌⊎◌, ◌↔◌, ◌&&◌, if◌then◌else◌, Bool, true, false, List, [], ◌∷◌, ◌++◌, reverse}
-use Rattle.std.proofs.Common.{refl, sym, ap, subst, ◌∙◌, inl, inr}
-use Rattle.grid_base.specs.Point.{GridPoint, IsBefore, is_point}
+use Rattle.std.proofs.Common.{◌≡◌, ◌≢◌, ◌⊎◌, ◌↔◌, List, [], ◌∷◌, ◌++◌, reverse}
+use Rattle.std.proofs.Common.{refl, sym, ap₂, subst, inl, inr}
+use Rattle.grid_base.specs.Point.{GridPoint, IsBefore}
 use Rattle.grid_base.specs.Segment.{GridSegment}
 use Rattle.grid_base.specs.Drawing.{IsLink, HasLink}
 use Rattle.hook_chain.specs.Chains.{Leads}
 use Rattle.hook_chain.specs.Redrawing.{front, redrawn}
-use Rattle.realm_drawing.proofs.JoinedLinks.{are_both, are_not_both, one_segment, BeginsWith, path_begins, first_link}
+use Rattle.realm_drawing.proofs.JoinedLinks.{one_segment, BeginsWith, path_begins, first_link}
 use Rattle.realm_drawing.proofs.JoinedLinks.{joined_links, leads_back_by_reverse, reversed_links}
+use Rattle.realm_drawing.proofs.Stretches.{stretch, Drawn, drawn, other_stretch}
+use Rattle.realm_drawing.proofs.Stretches.Drawn.{Forth, Back, Other}
 
 -- ---- what stands for one link
--- the points that stand for the link from v to w, but the last
-abbrev stretch : GridSegment → List GridPoint → GridPoint → GridPoint → List GridPoint
-stretch t path v w =
-    if is_point v t.a && is_point w t.b then front path
-    else if is_point v t.b && is_point w t.a then front (reverse path)
-    else v ∷ []
-
 -- the list stands for the link from v to w: the links of the path for the piece, and else the link itself
 record Stands (t : GridSegment) (path : List GridPoint) (v w : GridPoint) (list rest : List GridPoint) : Type 0 where
   begins : BeginsWith v (list ++ rest)
@@ -42,33 +37,24 @@ path_stands t path v w way rest link leads same begins = record {
 
 stands : (t : GridSegment) (path : List GridPoint) (v w : GridPoint) (rest : List GridPoint) → Leads t.a t.b path
     → BeginsWith w rest → Stands t path v w (stretch t path v w) rest
-stands t path v w rest leads begins =
-    by_tests (is_point v t.a && is_point w t.b) (is_point v t.b && is_point w t.a) refl refl
+stands t path v w rest leads begins = by_case (stretch t path v w) (drawn t path v w)
   where
-    by_tests : (forth back : Bool) → (is_point v t.a && is_point w t.b) ≡ forth → (is_point v t.b && is_point w t.a) ≡ back
-        → Stands t path v w (if forth then front path else if back then front (reverse path) else v ∷ []) rest
-    by_tests true back is_forth is_back =
-        let same = are_both v w t.a t.b is_forth in
+    by_case : (way : List GridPoint) → Drawn t path v w way → Stands t path v w way rest
+    by_case way (Forth v_is w_is is) =
         let leads_on : Leads v w path =
-        subst (λ p. Leads p w path) (sym same.0) (subst (λ q. Leads t.a q path) (sym same.1) leads) in
-        path_stands t path v w path rest (inl same) leads_on (λ s. (λ h. h, λ h. h)) begins
-    by_tests false true is_forth is_back =
-        let same = are_both v w t.b t.a is_back in
-        let way = reverse path in
-        let leads_on : Leads v w way =
-        subst (λ p. Leads p w way) (sym same.0)
-        (subst (λ q. Leads t.b q way) (sym same.1) (leads_back_by_reverse t.a t.b path leads)) in
-        path_stands t path v w way rest (inr same) leads_on (λ s. reversed_links s t.a t.b path leads) begins
-    by_tests false false is_forth is_back = record {
-      begins = refl;
-      links = λ s. inr (
-        λ h. elim h [
-          | inl forth ↦ are_not_both v w t.a t.b is_forth forth
-          | inr back ↦ are_not_both v w t.b t.a is_back back
-        ],
-        first_link s v w rest begins,
-      );
-    }
+        subst (λ p. Leads p w path) (sym v_is) (subst (λ q. Leads t.a q path) (sym w_is) leads) in
+        subst (λ (l : List GridPoint). Stands t path v w l rest) (sym is)
+        (path_stands t path v w path rest (inl (v_is, w_is)) leads_on (λ s. (λ h. h, λ h. h)) begins)
+    by_case way (Back not_forth v_is w_is is) =
+        let back = reverse path in
+        let leads_on : Leads v w back =
+        subst (λ p. Leads p w back) (sym v_is)
+        (subst (λ q. Leads t.b q back) (sym w_is) (leads_back_by_reverse t.a t.b path leads)) in
+        subst (λ (l : List GridPoint). Stands t path v w l rest) (sym is)
+        (path_stands t path v w back rest (inr (v_is, w_is)) leads_on (λ s. reversed_links s t.a t.b path leads) begins)
+    by_case way (Other not_link is) =
+        subst (λ (l : List GridPoint). Stands t path v w l rest) (sym is)
+        (record { begins = refl; links = λ s. inr (not_link, first_link s v w rest begins) })
 
 -- ---- the whole chain
 pub redrawn_begins : (t : GridSegment) (path : List GridPoint) (v : GridPoint) (chain : List GridPoint) → Leads t.a t.b path
@@ -133,17 +119,12 @@ redrawn_links t path (v ∷ w ∷ chain) s ordered leads s_ordered =
 
 -- ---- chains without the piece
 is_link_or_not : (t : GridSegment) (v w : GridPoint) → IsLink t v w ⊎ (IsLink t v w → ⊥)
-is_link_or_not t v w =
-    by_tests (is_point v t.a && is_point w t.b) (is_point v t.b && is_point w t.a) refl refl
+is_link_or_not t v w = by_case (drawn t [] v w)
   where
-    by_tests : (forth back : Bool) → (is_point v t.a && is_point w t.b) ≡ forth → (is_point v t.b && is_point w t.a) ≡ back
-        → IsLink t v w ⊎ (IsLink t v w → ⊥)
-    by_tests true back is_forth is_back = inl (inl (are_both v w t.a t.b is_forth))
-    by_tests false true is_forth is_back = inl (inr (are_both v w t.b t.a is_back))
-    by_tests false false is_forth is_back = inr (λ h. elim h [
-      | inl forth ↦ are_not_both v w t.a t.b is_forth forth
-      | inr back ↦ are_not_both v w t.b t.a is_back back
-    ])
+    by_case : Drawn t [] v w (stretch t [] v w) → IsLink t v w ⊎ (IsLink t v w → ⊥)
+    by_case (Forth v_is w_is is) = inl (inl (v_is, w_is))
+    by_case (Back not_forth v_is w_is is) = inl (inr (v_is, w_is))
+    by_case (Other not_link is) = inr not_link
 
 pub has_link_or_not : (chain : List GridPoint) (t : GridSegment) → HasLink chain t ⊎ (HasLink chain t → ⊥)
 has_link_or_not [] t = inr (λ h. h)
@@ -156,20 +137,9 @@ has_link_or_not (v ∷ w ∷ chain) t = elim (is_link_or_not t v w) [
   ]
 ]
 
--- a link that isn't the piece stands for itself
-other_stays : (t : GridSegment) (path : List GridPoint) (v w : GridPoint) → (IsLink t v w → ⊥) → stretch t path v w ≡ v ∷ []
-other_stays t path v w other =
-    by_tests (is_point v t.a && is_point w t.b) (is_point v t.b && is_point w t.a) refl refl
-  where
-    by_tests : (forth back : Bool) → (is_point v t.a && is_point w t.b) ≡ forth → (is_point v t.b && is_point w t.a) ≡ back
-        → (if forth then front path else if back then front (reverse path) else v ∷ []) ≡ v ∷ []
-    by_tests true back is_forth is_back = absurd (other (inl (are_both v w t.a t.b is_forth)))
-    by_tests false true is_forth is_back = absurd (other (inr (are_both v w t.b t.a is_back)))
-    by_tests false false is_forth is_back = refl
-
 pub redrawn_without : (t : GridSegment) (path chain : List GridPoint) → (HasLink chain t → ⊥) → redrawn t path chain ≡ chain
 redrawn_without t path [] none = refl
 redrawn_without t path (v ∷ []) none = refl
 redrawn_without t path (v ∷ w ∷ chain) none =
-    ap (λ (way : List GridPoint). way ++ redrawn t path (w ∷ chain)) (other_stays t path v w (λ here. none (inl here)))
-    ∙ ap (λ (rest : List GridPoint). v ∷ rest) (redrawn_without t path (w ∷ chain) (λ there. none (inr there)))
+    ap₂ (λ (way rest : List GridPoint). way ++ rest) (other_stretch t path v w (λ here. none (inl here)))
+    (redrawn_without t path (w ∷ chain) (λ there. none (inr there)))

@@ -1,48 +1,14 @@
 -- This file shows which vertices a redrawn chain has: all that it had, and besides at most those of the path.
-use Rattle.std.proofs.Common.{◌≡◌, ◌⊎◌, ◌&&◌, Bool, true, false, List, [], ◌∷◌, reverse, Contains}
-use Rattle.std.proofs.Common.{subst, inl, inr}
-use Rattle.std.proofs.lemmas.List.{reverse-append}
+use Rattle.std.proofs.Common.{◌⊎◌, List, [], ◌∷◌, Contains, subst, inl, inr}
 use Rattle.std.proofs.lemmas.List.Elements.{Contains-append_right, Contains-append_cases}
-use Rattle.grid_base.specs.Point.{GridPoint, is_point}
+use Rattle.grid_base.specs.Point.{GridPoint}
 use Rattle.grid_base.specs.Segment.{GridSegment}
 use Rattle.hook_chain.specs.Chains.{Leads}
-use Rattle.hook_chain.specs.Redrawing.{front, redrawn}
-use Rattle.realm_drawing.proofs.Elements.{Contains-head, Contains-later, Contains-cons_cases, Contains-nil}
-use Rattle.realm_drawing.proofs.Redrawings.{in_place}
+use Rattle.hook_chain.specs.Redrawing.{redrawn}
+use Rattle.realm_drawing.proofs.Elements.{Contains-head, Contains-later, Contains-cons_cases}
 use Rattle.realm_drawing.proofs.JoinedLinks.{BeginsWith}
 use Rattle.realm_drawing.proofs.RedrawnLinks.{redrawn_begins}
-
--- ---- what stands for one link
--- a path without its last point, and a path back, have no other points
-front_has : (path : List GridPoint) (p : GridPoint) → Contains (front path) p → Contains path p
-front_has [] p there = there
-front_has (v ∷ []) p there = absurd (Contains-nil p there)
-front_has (v ∷ w ∷ path) p there = elim (Contains-cons_cases v (front (w ∷ path)) p there) [
-  | inl here ↦ Contains-head v (w ∷ path) p here
-  | inr later ↦ Contains-later v (w ∷ path) p (front_has (w ∷ path) p later)
-]
-
-reverse_has : (path : List GridPoint) (p : GridPoint) → Contains (reverse path) p → Contains path p
-reverse_has [] p there = there
-reverse_has (v ∷ path) p there =
-    let parts = subst (λ (l : List GridPoint). Contains l p) (reverse-append (v ∷ []) path) there in
-    elim (Contains-append_cases (reverse path) (v ∷ []) p parts) [
-      | inl later ↦ Contains-later v path p (reverse_has path p later)
-      | inr last ↦ elim (Contains-cons_cases v [] p last) [
-        | inl here ↦ Contains-head v path p here
-        | inr none_left ↦ absurd (Contains-nil p none_left)
-      ]
-    ]
-
--- points of the path stand for a link from v, or v alone
-place_has : (forth back : Bool) (path : List GridPoint) (v p : GridPoint) → Contains (in_place forth back path v) p
-    → (v ≡ p) ⊎ Contains path p
-place_has true back path v p there = inr (front_has path p there)
-place_has false true path v p there = inr (reverse_has path p (front_has (reverse path) p there))
-place_has false false path v p there = elim (Contains-cons_cases v [] p there) [
-  | inl here ↦ inl here
-  | inr none_left ↦ absurd (Contains-nil p none_left)
-]
+use Rattle.realm_drawing.proofs.Stretches.{stretch, stretch_has}
 
 -- ---- the whole chain
 redrawn_has : (t : GridSegment) (path chain : List GridPoint) (p : GridPoint) → Contains (redrawn t path chain) p
@@ -50,10 +16,8 @@ redrawn_has : (t : GridSegment) (path chain : List GridPoint) (p : GridPoint) �
 redrawn_has t path [] p there = inl there
 redrawn_has t path (v ∷ []) p there = inl there
 redrawn_has t path (v ∷ w ∷ chain) p there =
-    let forth = is_point v t.a && is_point w t.b in
-    let back = is_point v t.b && is_point w t.a in
-    elim (Contains-append_cases (in_place forth back path v) (redrawn t path (w ∷ chain)) p there) [
-      | inl first ↦ elim (place_has forth back path v p first) [
+    elim (Contains-append_cases (stretch t path v w) (redrawn t path (w ∷ chain)) p there) [
+      | inl first ↦ elim (stretch_has t path v w p first) [
         | inl here ↦ inl (Contains-head v (w ∷ chain) p here)
         | inr on_path ↦ inr on_path
       ]
@@ -80,8 +44,7 @@ stays_in_redrawn t path (v ∷ w ∷ chain) p leads there =
           subst (λ q. Contains whole q) here first
       | inr later ↦
           let rest = redrawn t path (w ∷ chain) in
-          let place = in_place (is_point v t.a && is_point w t.b) (is_point v t.b && is_point w t.a) path v in
-          Contains-append_right place rest p (stays_in_redrawn t path (w ∷ chain) p leads later)
+          Contains-append_right (stretch t path v w) rest p (stays_in_redrawn t path (w ∷ chain) p leads later)
     ]
 
 -- the vertices of the redrawn chain

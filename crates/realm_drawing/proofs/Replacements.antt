@@ -1,46 +1,17 @@
 -- This file shows that a chain stays valid where a path that may stand for a piece is drawn in the place of the piece.
-use Rattle.std.proofs.Common.{◌≡◌, ◌⊎◌, ◌+◌, Bool, true, false, ◌&&◌, if◌then◌else◌, List, [], ◌∷◌, ◌++◌, reverse}
+use Rattle.std.proofs.Common.{◌≡◌, ◌⊎◌, ◌+◌, List, [], ◌∷◌, ◌++◌, reverse}
 use Rattle.std.proofs.Common.{refl, ap, subst, sym, ◌∙◌, arith, inl, inr}
-use Rattle.std.proofs.lemmas.Bool.Decides.{nat_tests}
-use Rattle.grid_base.specs.Point.{GridPoint, IsBefore, is_point}
+use Rattle.grid_base.specs.Point.{GridPoint, IsBefore}
 use Rattle.grid_base.specs.Segment.{GridSegment}
-use Rattle.grid_base.proofs.Ends.{same_point}
 use Rattle.hook_chain.specs.Close.{Close}
 use Rattle.hook_chain.specs.Chains.{AllLinks, Leads}
 use Rattle.hook_chain.specs.Redrawing.{front, redrawn}
 use Rattle.hook_chain.specs.ValidChain.{IsCloseChain, ValidChain}
 use Rattle.hook_chain.proofs.Exchange.{way}
-use Rattle.realm_drawing.proofs.ChainJoins.{GoesOn, join_ways, IsInChain, links_in_chain}
-
--- ---- what is drawn for a link
--- the points that stand for the link from v to w, without the last
-abbrev stretch : GridSegment → List GridPoint → GridPoint → GridPoint → List GridPoint
-stretch t path v w =
-    if is_point v t.a && is_point w t.b then front path
-    else if is_point v t.b && is_point w t.a then front (reverse path)
-    else v ∷ []
-
--- list is the path forth where the link is t, the path back where it is t turned round, and else the link itself
-data Drawn (t : GridSegment) (path : List GridPoint) (v w : GridPoint) (list : List GridPoint) : Type 0 where
-  Forth : v ≡ t.a → w ≡ t.b → list ≡ front path → Drawn t path v w list
-  Back : v ≡ t.b → w ≡ t.a → list ≡ front (reverse path) → Drawn t path v w list
-  Other : list ≡ v ∷ [] → Drawn t path v w list
-
--- two points that the tests find to be two others are those
-both_points : (v w p q : GridPoint) → (is_point v p && is_point w q) ≡ true → (v ≡ p) × (w ≡ q)
-both_points v w p q same =
-    let coordinates : (v.x ≡ p.x) × (v.y ≡ p.y) × (w.x ≡ q.x) × (w.y ≡ q.y) = grind (arith, nat_tests) in
-    (same_point v p coordinates.0 coordinates.1, same_point w q coordinates.2 coordinates.3)
-
--- what is drawn for a link is one of the three
-drawn : (t : GridSegment) (path : List GridPoint) (v w : GridPoint) → Drawn t path v w (stretch t path v w)
-drawn t path v w = by_tests (is_point v t.a && is_point w t.b) (is_point v t.b && is_point w t.a) refl refl
-  where
-    by_tests : (forth back : Bool) → (is_point v t.a && is_point w t.b) ≡ forth → (is_point v t.b && is_point w t.a) ≡ back
-        → Drawn t path v w (if forth then front path else if back then front (reverse path) else v ∷ [])
-    by_tests true back is_forth is_back = let same = both_points v w t.a t.b is_forth in Forth same.0 same.1 refl
-    by_tests false true is_forth is_back = let same = both_points v w t.b t.a is_back in Back same.0 same.1 refl
-    by_tests false false is_forth is_back = Other refl
+use Rattle.realm_drawing.proofs.Boxes.{IsInChain, links_in_chain}
+use Rattle.realm_drawing.proofs.ChainJoins.{GoesOn, join_ways}
+use Rattle.realm_drawing.proofs.Stretches.{stretch, Drawn, drawn}
+use Rattle.realm_drawing.proofs.Stretches.Drawn.{Forth, Back, Other}
 
 -- ---- what may be drawn for a piece
 -- the path leads from v to w as a chain of o may, where the link is one of a chain of o and is close
@@ -67,13 +38,13 @@ link_drawn o t path v w b list rest replaces inside close after (Forth v_is w_is
     (subst (λ (q : GridPoint). Serves o t.a q path) (sym w_is) replaces.forth) in
     subst (λ (l : List GridPoint). GoesOn o v b (l ++ rest)) (sym is)
     (join_ways o v w b path rest (serves inside close) after)
-link_drawn o t path v w b list rest replaces inside close after (Back v_is w_is is) =
+link_drawn o t path v w b list rest replaces inside close after (Back not_forth v_is w_is is) =
     let serves : Serves o v w (reverse path) =
     subst (λ (p : GridPoint). Serves o p w (reverse path)) (sym v_is)
     (subst (λ (q : GridPoint). Serves o t.b q (reverse path)) (sym w_is) replaces.back) in
     subst (λ (l : List GridPoint). GoesOn o v b (l ++ rest)) (sym is)
     (join_ways o v w b (reverse path) rest (serves inside close) after)
-link_drawn o t path v w b list rest replaces inside close after (Other is) =
+link_drawn o t path v w b list rest replaces inside close after (Other not_link is) =
     let link : GoesOn o v w (v ∷ w ∷ []) =
     record { leads = (refl, (refl, refl)); monotone = (inside.monotone, tt); close = close } in
     subst (λ (l : List GridPoint). GoesOn o v b (l ++ rest)) (sym is)
@@ -93,7 +64,7 @@ unit_drawn o t path v w list ordered replaces unit (Forth v_is w_is is) =
     by_cases : IsUnitLink t.a t.b → IsUnit t
     by_cases (inl down) = absurd (omega arith)
     by_cases (inr right) = inr right
-unit_drawn o t path v w list ordered replaces unit (Back v_is w_is is) =
+unit_drawn o t path v w list ordered replaces unit (Back not_forth v_is w_is is) =
     let link = subst (λ (p : GridPoint). IsUnitLink p t.a) v_is (subst (λ (q : GridPoint). IsUnitLink v q) w_is unit) in
     is ∙ ap (λ (l : List GridPoint). front (reverse l)) (replaces.unit (by_cases link))
     ∙ ap (λ (p : GridPoint). p ∷ []) (sym v_is)
@@ -101,7 +72,7 @@ unit_drawn o t path v w list ordered replaces unit (Back v_is w_is is) =
     by_cases : IsUnitLink t.b t.a → IsUnit t
     by_cases (inl down) = inl (sym down.0, down.1)
     by_cases (inr right) = absurd (omega arith)
-unit_drawn o t path v w list ordered replaces unit (Other is) = is
+unit_drawn o t path v w list ordered replaces unit (Other not_link is) = is
 
 -- ---- the chain
 -- link by link: a close link is drawn by the path or as it is, and the two of a corner as they are

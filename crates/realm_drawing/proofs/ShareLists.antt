@@ -5,11 +5,6 @@ use Rattle.realm_drawing.specs.declared.shares.Share.{Share}
 use Rattle.realm_drawing.specs.Shares.{ListsAlso}
 use Rattle.realm_drawing.proofs.Elements.{Contains-head, Contains-cons_cases, Contains-nil}
 
--- the list as it was has no share more
-pub lists_nothing : (xs : List Share) (P : Share → Type 0) → ((y : Share) → P y → ⊥) → ListsAlso xs xs P
-lists_nothing xs P none y =
-    (λ had. inl had, λ either. elim either [ inl had ↦ had | inr p ↦ absurd (none y p) ])
-
 -- the share at the end of the list
 pub lists_one : (xs : List Share) (z : Share) → ListsAlso xs (xs ++ z ∷ []) (λ y. y ≡ z)
 lists_one xs z y = (

@@ -8,7 +8,7 @@ use Rattle.hook_chain.specs.ValidChain.{IsMonotone, ValidChain}
 use Rattle.hook_chain.proofs.CloseParts.{own_close}
 use Rattle.realm_drawing.specs.Straight.{along}
 use Rattle.realm_drawing.specs.Chains.{HasValidChain, StandsFor}
-use Rattle.realm_drawing.proofs.ChainBounds.{chain_is_short}
+use Rattle.realm_drawing.proofs.Progress.{chain_is_short}
 use Rattle.realm_drawing.proofs.ChainEnvelope.{chain_in_envelope, ends_are_near}
 use Rattle.realm_drawing.proofs.Unswept.{nothing_swept}
 

@@ -1,22 +1,23 @@
--- This file shows what a permitted step leads to: one drawing, with the ids and the explicit points that there were, and
--- from a drawing with a violation.
+-- This file shows that a permitted step leads to one drawing, with the ids that there were, and from a drawing with a
+-- violation.
 use Rattle.std.proofs.Common.{◌≡◌, ℕ, ◌+◌, ◌*◌, ◌<◌, List, sym, ap, subst, ◌∙◌, arith}
 use Rattle.std.proofs.lemmas.List.Elements.{All-map}
 use Rattle.grid_base.specs.Point.{GridPoint}
-use Rattle.grid_base.specs.Segment.{GridSegment}
 use Rattle.grid_base.specs.MeetPoint.{IsCell, crossing_of}
 use Rattle.grid_base.specs.Places.{RationalPoint}
-use Rattle.grid_base.specs.Realm.{PointInside, TwoCross}
 use Rattle.grid_base.specs.Drawing.{Drawing, HasViolation}
 use Rattle.grid_base.specs.declared.kinds.Step.{Step}
 use Rattle.grid_base.specs.declared.kinds.Step.TheVariants.{Split, Meet, Corner}
 use Rattle.grid_base.proofs.Ends.{same_point}
 use Rattle.grid_base.proofs.Balances.{factor_cancels}
 use Rattle.grid_rational.proofs.Crossings.{crossing_is_place}
-use Rattle.hook_chain.specs.Redrawing.{redraw, redrawn_original, round_corner, cut_at}
+use Rattle.hook_chain.specs.Redrawing.{redraw, round_corner, cut_at}
 use Rattle.hook_chain.proofs.HookLaw.{one_hook}
 use Rattle.realm_drawing.specs.Steps.{Permitted}
 use Rattle.realm_drawing.specs.Straight.{AllBelow}
+use Rattle.realm_drawing.specs.Redraws.{redrawn_original_by}
+use Rattle.realm_drawing.proofs.Mendings.{permitted_mends, mending_is_violation}
+use Rattle.realm_drawing.proofs.StepPaths.{step_paths}
 
 -- ---- one drawing
 -- a centre is the centre of one cell
@@ -43,35 +44,14 @@ permitted_is_one d e f (Corner t u) (piece_t, piece_u, cross, diagonal_t, rises,
     let one = one_cell (crossing_of t u) z y real cell in_cell in
     is ∙ ap (λ (c : GridPoint). redraw u (round_corner u c) (redraw t (cut_at t c) d)) one ∙ sym same
 
--- ---- what stays
-redraw_stays_below : (t : GridSegment) (path : List GridPoint) (d : Drawing) (id : ℕ) → AllBelow id d
-    → AllBelow id (redraw t path d)
-redraw_stays_below t path d id below = All-map (λ o. o.id < id) (redrawn_original t path) d.originals below
-
 -- a step changes the chains alone: each id that is greater than all is so still
 pub ids_stay : (d e : Drawing) (step : Step) → Permitted d step e → (id : ℕ) → AllBelow id d → AllBelow id e
-ids_stay d e (Split p t) (point, piece, inside, path, hook, is) id below =
-    subst (AllBelow id) (sym is) (redraw_stays_below t path d id below)
-ids_stay d e (Meet t u x) (piece_t, piece_u, order, cross, meet, path, other, hook_t, hook_u, is) id below =
-    subst (AllBelow id) (sym is)
-    (redraw_stays_below u other (redraw t path d) id (redraw_stays_below t path d id below))
-ids_stay d e (Corner t u) (piece_t, piece_u, cross, diagonal_t, rises, diagonal_u, falls, z, cell, is) id below =
-    subst (AllBelow id) (sym is)
-    (redraw_stays_below u (round_corner u z) (redraw t (cut_at t z) d) id (redraw_stays_below t (cut_at t z) d id below))
-
--- and the explicit points are those that there were
-pub explicit_points_stay : (d e : Drawing) (step : Step) → Permitted d step e → e.points ≡ d.points
-explicit_points_stay d e (Split p t) (point, piece, inside, path, hook, is) = ap (λ (f : Drawing). f.points) is
-explicit_points_stay d e (Meet t u x) (piece_t, piece_u, order, cross, meet, path, other, hook_t, hook_u, is) =
-    ap (λ (f : Drawing). f.points) is
-explicit_points_stay d e (Corner t u) (piece_t, piece_u, cross, diagonal_t, rises, diagonal_u, falls, z, cell, is) =
-    ap (λ (f : Drawing). f.points) is
+ids_stay d e step permitted id below =
+    let drawn = step_paths d e step permitted in
+    subst (AllBelow id) (sym drawn.leads) (All-map (λ o. o.id < id) (redrawn_original_by drawn.paths) d.originals below)
 
 -- ---- where a step is permitted
--- its point is inside its piece, or its pieces cross
 pub no_violation_no_step : (d e : Drawing) (step : Step) → Permitted d step e → HasViolation d
-no_violation_no_step d e (Split p t) (point, piece, inside, path, hook, is) = PointInside p t point piece inside
-no_violation_no_step d e (Meet t u x) (piece_t, piece_u, order, cross, meet, path, other, hook_t, hook_u, is) =
-    TwoCross t u piece_t piece_u cross
-no_violation_no_step d e (Corner t u) (piece_t, piece_u, cross, diagonal_t, rises, diagonal_u, falls, z, cell, is) =
-    TwoCross t u piece_t piece_u cross
+no_violation_no_step d e step permitted =
+    let mends = permitted_mends d e step permitted in
+    mending_is_violation d step mends.0 mends.1

@@ -2,7 +2,7 @@
 use Rattle.std.proofs.Common.{◌≡◌, ◌≢◌, ◌+◌, ◌<◌, List, [], ◌∷◌, map, Some, None, refl, ap, sym, subst, inl, inr, arith}
 use Rattle.grid_base.specs.Point.{GridPoint, IsBefore, point_at}
 use Rattle.grid_base.specs.Segment.{GridSegment}
-use Rattle.grid_base.specs.Sides.{Side, On, side}
+use Rattle.grid_base.specs.Sides.{Side, side}
 use Rattle.grid_base.specs.Crossing.{IsOn, Inside, Cross}
 use Rattle.grid_base.specs.MeetPoint.{IsCell, crossing_of}
 use Rattle.grid_base.specs.Drawing.{Drawing}
@@ -10,8 +10,10 @@ use Rattle.grid_base.specs.declared.original.Original.{Original}
 use Rattle.grid_base.specs.declared.kinds.Step.TheVariants.{Split, Meet, Corner}
 use Rattle.grid_base.proofs.Ends.{columns_in_order}
 use Rattle.grid_base.proofs.Crossings.{cross_differ}
+use Rattle.grid_base.proofs.Turns.{on_is}
 use Rattle.segment_envelope.specs.Near.{Near}
 use Rattle.segment_envelope.proofs.MeetPoints.{meet_point_near}
+use Rattle.segment_envelope.proofs.Sizes.{on_line_is_near}
 use Rattle.hook_chain.specs.Hook.{Hook}
 use Rattle.hook_chain.specs.Redrawing.{redraw, redrawn_original, round_corner, cut_at}
 use Rattle.hook_chain.proofs.HookLaw.{hook_leads}
@@ -20,11 +22,10 @@ use Rattle.realm_drawing.specs.declared.redrawing.Redrawings.{Redrawings}
 use Rattle.realm_drawing.specs.Mending.{IsMending, IsRedrawingsOf, redrawn_drawing}
 use Rattle.realm_drawing.specs.Redraws.{IsPathFor, AreApart}
 use Rattle.realm_drawing.proofs.RedrawnChains.{redrawn_valid}
-use Rattle.realm_drawing.proofs.Corners.{cornered_valid, cut_valid}
+use Rattle.realm_drawing.proofs.Corners.{cornered_valid, cut_is_hook}
 use Rattle.realm_drawing.proofs.CrossedCells.{AreOnDiagonals, corner_is_on}
 use Rattle.realm_drawing.proofs.Mendings.{inside_near}
-use Rattle.realm_drawing.proofs.PathSides.{StaysBeside, beside_lacks, hook_beside, cut_beside, round_beside}
-use Rattle.realm_drawing.proofs.PathSides.{cut_leads, round_leads}
+use Rattle.realm_drawing.proofs.PathSides.{StaysBeside, beside_lacks, hook_beside, round_beside, round_leads}
 
 -- ---- the paths
 -- a hook at a near point may stand for its piece
@@ -73,7 +74,7 @@ map_twice f g [] = refl
 map_twice f g (x ∷ xs) = ap (λ l. g (f x) ∷ l) (map_twice f g xs)
 
 -- to draw both paths at once is to draw them one after the other
-both_drawn : (d : Drawing) (first second : Redrawing)
+pub both_drawn : (d : Drawing) (first second : Redrawing)
     → redrawn_drawing (two first second) d ≡ redraw second.piece second.path (redraw first.piece first.path d)
 both_drawn d first second =
     ap (λ (l : List Original). record { points = d.points; originals = l })
@@ -157,20 +158,17 @@ corner_redrawings t u z ordered_t ordered_u mending cell =
     let second : Redrawing = record { piece = u; path = round_corner u z } in
     let corners = on_diagonals t u z ordered_t ordered_u mending cell in
     let not_b = not_greater_end t z ordered_t corners.upper_right in
-    let first_path : IsPathFor first = record {
-      ordered = ordered_t;
-      leads = cut_leads t z;
-      keeps = λ o chain. cut_valid o t z chain ordered_t corners.lower_left not_b;
-    } in
+    let cut = cut_is_hook t z corners.lower_left not_b in
+    let near = on_line_is_near t z ordered_t corners.lower_left.box (on_is t.a t.b z corners.lower_left.line) in
     let second_path : IsPathFor second = record {
       ordered = ordered_u;
       leads = round_leads u z;
       keeps = λ o chain. cornered_valid o u z chain ordered_u mending.3 mending.4 corners.first corners.last;
     } in
-    let are_apart = apart first second On (side u.a u.b z) mending.0 (cut_beside t z corners.lower_left)
+    let are_apart = apart first second (side t.a t.b z) (side u.a u.b z) mending.0 (hook_beside t z (cut_at t z) cut)
     (round_beside u z corners.first corners.last) in
     record {
-      sound = record { first = first_path; second = (second_path, are_apart) };
+      sound = record { first = hook_path first z ordered_t near cut; second = (second_path, are_apart) };
       pieces = λ s. (λ is. is, λ is. is);
       leads = λ d parts.
           (parts.0, parts.1, mending.0, mending.1, mending.2, mending.3, mending.4, z, cell, both_drawn d first second);

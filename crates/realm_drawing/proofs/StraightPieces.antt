@@ -27,14 +27,6 @@ link_is_along o t ordered line link =
       | inr none ↦ absurd none
     ]
 
-pub along_is_link : (o : Original) (t : GridSegment) → IsStraight o → along o ≡ t → HasLink o.chain t
-along_is_link o t line is =
-    let only : HasLink (o.a ∷ o.b ∷ []) t = inl (inl (ap (λ s. s.a) is, ap (λ s. s.b) is)) in
-    subst (λ chain. HasLink chain t) (sym line.two_ends) only
-
-along_is_ordered : (o : Original) (t : GridSegment) → IsStraight o → along o ≡ t → IsBefore t.a t.b
-along_is_ordered o t line is = subst (λ s. IsBefore s.a s.b) is line.ordered
-
 pub vertex_is_end : (o : Original) (p : GridPoint) → IsStraight o → Contains o.chain p → IsEnd p (along o)
 vertex_is_end o p line vertex =
     let one : Contains (o.a ∷ o.b ∷ []) p = subst (λ chain. Contains chain p) line.two_ends vertex in

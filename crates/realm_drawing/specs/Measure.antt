@@ -1,8 +1,10 @@
 -- How many links the chains of a drawing have, and how many they can have at most.
-use Rattle.std.specs.Prelude.{ℕ, ◌+◌, ◌-◌, List, length, sum_by}
+use Rattle.std.specs.Prelude.{◌≡◌, ◌≤◌, ℕ, ◌+◌, ◌-◌, List, length, sum_by}
+use Rattle.std.specs.List.{AllZip}
 use Rattle.grid_base.specs.Point.{GridPoint}
 use Rattle.grid_base.specs.Segment.{GridSegment, width, height}
 use Rattle.grid_base.specs.Drawing.{Drawing}
+use Rattle.grid_base.specs.declared.original.Original.{Original}
 use Rattle.realm_drawing.specs.Straight.{along}
 
 -- how many links the chain has
@@ -20,3 +22,11 @@ links_of d = sum_by (λ o. links_in o.chain) d.originals
 -- and how many they have at most
 abbrev pub most_links_of : Drawing → ℕ
 most_links_of d = sum_by (λ o. most_links (along o)) d.originals
+
+-- the two are one original, whose chain has as many links the second time, or more
+abbrev pub HasAsManyLinks : Original → Original → Type 0
+HasAsManyLinks before after = (before.id ≡ after.id) × (links_in before.chain ≤ links_in after.chain)
+
+-- so it is with each original of d and that at its place in e, and e has no others
+abbrev pub NoChainShorter : Drawing → Drawing → Type 0
+NoChainShorter d e = AllZip HasAsManyLinks d.originals e.originals

@@ -7,7 +7,7 @@ ghost use Rattle.grid_base.specs.declared.kinds.Step.{Step};
 ghost use Rattle.hook_chain.specs.ValidChain.{ValidChain};
 ghost use Rattle.realm_drawing.specs.Steps.{Permitted};
 ghost use Rattle.realm_drawing.specs.Chains.{AllValid, StandsFor};
-ghost use Rattle.realm_drawing.specs.Measure.{links_of, most_links_of};
+ghost use Rattle.realm_drawing.specs.Measure.{links_of, most_links_of, NoChainShorter};
 
 /// A step is permitted only at a violation, and leads to one drawing.
 pub fn step_mends()
@@ -26,9 +26,10 @@ pub fn valid_chain_stands()
     ensures { (o : GridSegment) (chain : List GridPoint) → ValidChain o chain → StandsFor o chain }
 {}
 
-/// Each step adds a link to some chain, and there is an end to that: the measure of settling.
+/// Each step adds a link to some chain and leaves none with fewer, and there is an end to that: the measure of settling.
 pub fn steps_end()
     ensures adds { (d e : Drawing) (step : Step) → AllValid d → Permitted d step e → links_of d < links_of e }
+    ensures shortens_none { (d e : Drawing) (step : Step) → AllValid d → Permitted d step e → NoChainShorter d e }
     ensures same_bound { (d e : Drawing) (step : Step) → AllValid d → Permitted d step e
         → most_links_of e ≡ most_links_of d }
     ensures bound { (d : Drawing) → AllValid d → links_of d ≤ most_links_of d }
