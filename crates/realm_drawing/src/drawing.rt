@@ -8,7 +8,7 @@ ghost use Rattle.grid_base.specs.Drawing.{Drawing as Drawn, IsPoint, IsPiece, Ha
 ghost use Rattle.hook_chain.specs.ValidChain.{ValidChain};
 ghost use Rattle.realm_drawing.specs.Steps.{Permitted};
 ghost use Rattle.realm_drawing.specs.Straight.{placed, AllBelow};
-ghost use Rattle.realm_drawing.specs.Ids.{LacksId, IsChainOf};
+ghost use Rattle.realm_drawing.specs.Ids.{IsAscending, LacksId, IsChainOf};
 ghost use Rattle.realm_drawing.specs.Chains.{IsSomeChain, AllStand};
 ghost use Rattle.realm_drawing.specs.Keyed.{empty_drawing, HasKey, KeepsKeys, AddsPoint, TakesPoint, AreKeyed};
 ghost use Rattle.realm_drawing.specs.Mending.{IsPermitted, IsMending, HasParts};
@@ -247,6 +247,7 @@ impl Drawing {
         ensures none { IsNone result ↔ LacksId self.now.drawing.originals id }
         ensures chain { IfSome result (λ points. IsChainOf self.now.drawing id points.now) }
         ensures stand { AllStand self.now.drawing }
+        ensures rising { IsAscending self.now.drawing.originals }
     {
         let place = place_of(&self.originals, id)?;
         Some(self.originals[place].chain.points())
@@ -261,7 +262,8 @@ impl Drawing {
 
     /// Whether `p` is explicit.
     pub fn is_explicit(&self, p: &Point) -> bool
-        ensures { IsTrue result ↔ Contains self.now.drawing.points p.now }
+        ensures explicit { IsTrue result ↔ Contains self.now.drawing.points p.now }
+        ensures ascending { AllPairs IsBefore self.now.drawing.points }
     {
         self.explicit.has(p)
     }
