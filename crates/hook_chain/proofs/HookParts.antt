@@ -18,8 +18,8 @@ use Rattle.hook_chain.specs.Redrawing.{front}
 use Rattle.hook_chain.specs.Placing.{seen, IsSeen, IsWalkedTo, IsChartOf, turned}
 use Rattle.hook_chain.proofs.Axes.{Axis}
 use Rattle.hook_chain.proofs.TautPaths.{Frame, IsTaut}
-use Rattle.hook_chain.proofs.Paths.{backwards, reverse_is, rest_of, head_and_rest, front_and_last, links_map, links_both, links_join, links_back}
-use Rattle.hook_chain.proofs.Paths.{IsForthAlong}
+use Rattle.hook_chain.proofs.Paths.{backwards, reverse_is, rest_of, head_and_rest, front_pushed, front_and_last, links_map, links_both, links_join}
+use Rattle.hook_chain.proofs.Paths.{links_back, IsForthAlong}
 use Rattle.hook_chain.proofs.Directions.{Follows}
 use Rattle.hook_chain.proofs.BentPaths.{frame_of}
 use Rattle.hook_chain.proofs.Placings.{along_for, along_placed}
@@ -29,12 +29,6 @@ use Rattle.hook_chain.proofs.Reversals.{reverse_taut, reverse_chord, opposite_fr
 use Rattle.hook_chain.proofs.PieceCharts.{along_chart, side_is, both_charted}
 
 -- ---- lists of points
--- the path without its last point, where that is named
-front_pushed : (path : List GridPoint) (p : GridPoint) → front (path ++ p ∷ []) ≡ path
-front_pushed [] p = refl
-front_pushed (q ∷ []) p = refl
-front_pushed (q ∷ r ∷ path) p = ap (λ (l : List GridPoint). q ∷ l) (front_pushed (r ∷ path) p)
-
 -- a list of no length is empty
 no_points : (list : List GridPoint) (n : ℕ) → n ≡ length list → n ≡ 0 → list ≡ []
 no_points [] n is none = refl

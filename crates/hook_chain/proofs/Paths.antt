@@ -85,6 +85,12 @@ head_and_rest x b [] leads = absurd leads
 head_and_rest x b (p ∷ []) leads = ap (λ (q : GridPoint). q ∷ []) (sym leads.0)
 head_and_rest x b (p ∷ q ∷ path) leads = ap (λ (r : GridPoint). r ∷ q ∷ path) (sym leads.0)
 
+-- the path without its last point, where that is named
+pub front_pushed : (path : List GridPoint) (p : GridPoint) → front (path ++ p ∷ []) ≡ path
+front_pushed [] p = refl
+front_pushed (q ∷ []) p = refl
+front_pushed (q ∷ r ∷ path) p = ap (λ (l : List GridPoint). q ∷ l) (front_pushed (r ∷ path) p)
+
 -- a path to x is the path without its last point, and x
 pub front_and_last : (a x : GridPoint) (path : List GridPoint) → Leads a x path → front path ++ x ∷ [] ≡ path
 front_and_last a x [] leads = absurd leads

@@ -4,10 +4,11 @@ use Rattle.std.proofs.Common.{refl, sym, ap, subst, ◌∙◌, arith, inl, inr}
 use Rattle.grid_base.specs.Point.{GridPoint, gap, IsBefore, InBox}
 use Rattle.grid_base.specs.Segment.{GridSegment, width, height, is_flat, exchanged, exchanged_point}
 use Rattle.grid_base.specs.Crossing.{IsOn}
-use Rattle.grid_base.proofs.Turns.{times_le, leftward, rightward, on_by}
+use Rattle.grid_base.proofs.Turns.{leftward, rightward, on_by}
 use Rattle.grid_base.proofs.Signs.{three_ways}
 use Rattle.segment_envelope.specs.Near.{Near}
 use Rattle.segment_envelope.proofs.Sizes.{size_is}
+use Rattle.segment_envelope.proofs.Diagonals.{rises_or_falls, rising_point, falling_point}
 use Rattle.hook_chain.specs.Close.{Close}
 use Rattle.hook_chain.specs.Chains.{AllLinks}
 use Rattle.hook_chain.specs.Hook.{Hook}
@@ -15,7 +16,7 @@ use Rattle.hook_chain.proofs.Paths.{links_map}
 use Rattle.hook_chain.proofs.BentPaths.{IsCloseLink}
 use Rattle.hook_chain.proofs.Exchange.{way}
 use Rattle.hook_chain.proofs.CloseParts.{CloseWhere, part_close, close_to_close, flat_is, steep_is}
-use Rattle.realm_drawing.proofs.SteepPieces.{IsReached, close_across}
+use Rattle.realm_drawing.proofs.SteepPieces.{IsReached, beside_rising, beside_falling, close_across}
 use Rattle.realm_drawing.proofs.HookVertices.{IsNearLink, hook_is_near}
 
 -- ---- a diagonal
@@ -24,46 +25,22 @@ on_diagonal : (t : GridSegment) (p : GridPoint) → IsBefore t.a t.b → height 
 on_diagonal t p ordered diagonal near =
     let box = near.box in
     let size = size_is t p in
-    let step : gap (leftward t.a t.b p) (rightward t.a t.b p) < width t = omega (arith, near.near) in
+    let step : gap (leftward t.a t.b p) (rightward t.a t.b p) < height t = omega (arith, near.near) in
     record {
-      line = on_by t.a t.b p (elim (three_ways t.a.y t.b.y) [
-        | inl up ↦ rising (omega arith) (omega arith) step
-        | inr rest ↦ falling (omega arith) (omega arith) step
+      line = on_by t.a t.b p (elim (rises_or_falls t ordered (sym diagonal)) [
+        | inl rising ↦
+            let across = rising.across in
+            let even = rising.even in
+            let beside = beside_rising t p 0 (omega arith) (omega arith) box step in
+            rising_point t p rising (omega (arith, beside.0, beside.1))
+        | inr falling ↦
+            let across = falling.across in
+            let even = falling.even in
+            let beside = beside_falling t p 0 (omega arith) (omega arith) box step in
+            falling_point t p falling (omega (arith, beside.0, beside.1))
       ]);
       box = box;
     }
-  where
-    rising : t.a.x ≤ t.b.x → t.b.y + t.a.x ≡ t.a.y + t.b.x → gap (leftward t.a t.b p) (rightward t.a t.b p) < width t
-        → leftward t.a t.b p ≡ rightward t.a t.b p
-    rising order high step =
-        let high_p = ap (λ (n : ℕ). p.x * n) high in
-        let high_a = ap (λ (n : ℕ). t.a.x * n) high in
-        let not_over : t.a.y + p.x + 1 ≤ p.y + t.a.x → ⊥ = λ over.
-        let far = times_le t.a.x t.b.x (t.a.y + p.x + 1) (p.y + t.a.x) order over in
-        omega arith in
-        let not_under : p.y + t.a.x + 1 ≤ t.a.y + p.x → ⊥ = λ under.
-        let far = times_le t.a.x t.b.x (p.y + t.a.x + 1) (t.a.y + p.x) order under in
-        omega arith in
-        let level : p.y + t.a.x ≡ t.a.y + p.x = omega (arith, not_over, not_under) in
-        let level_a = ap (λ (n : ℕ). t.a.x * n) level in
-        let level_b = ap (λ (n : ℕ). t.b.x * n) level in
-        omega arith
-
-    falling : t.a.x ≤ t.b.x → t.b.y + t.b.x ≡ t.a.y + t.a.x → gap (leftward t.a t.b p) (rightward t.a t.b p) < width t
-        → leftward t.a t.b p ≡ rightward t.a t.b p
-    falling order high step =
-        let high_p = ap (λ (n : ℕ). p.x * n) high in
-        let high_a = ap (λ (n : ℕ). t.a.x * n) high in
-        let not_over : t.a.y + t.a.x + 1 ≤ p.y + p.x → ⊥ = λ over.
-        let far = times_le t.a.x t.b.x (t.a.y + t.a.x + 1) (p.y + p.x) order over in
-        omega arith in
-        let not_under : p.y + p.x + 1 ≤ t.a.y + t.a.x → ⊥ = λ under.
-        let far = times_le t.a.x t.b.x (p.y + p.x + 1) (t.a.y + t.a.x) order under in
-        omega arith in
-        let level : p.y + p.x ≡ t.a.y + t.a.x = omega (arith, not_over, not_under) in
-        let level_a = ap (λ (n : ℕ). t.a.x * n) level in
-        let level_b = ap (λ (n : ℕ). t.b.x * n) level in
-        omega arith
 
 -- ---- links near a close piece
 -- what is near a steep piece is within a step along the rows

@@ -5,6 +5,7 @@ use Rattle.std.proofs.Common.{refl, ap, sym, arith, inl, inr}
 use Rattle.grid_base.specs.Point.{GridPoint, point_at, IsBefore, is_point}
 use Rattle.grid_base.specs.Segment.{GridSegment, is_diagonal}
 use Rattle.grid_base.specs.Crossing.{IsOn}
+use Rattle.grid_base.proofs.Orders.{is_point-same}
 use Rattle.segment_envelope.proofs.Diagonals.{IsFalling}
 use Rattle.hook_chain.specs.Close.{Close}
 use Rattle.hook_chain.specs.Hook.{Hook}
@@ -15,7 +16,7 @@ use Rattle.hook_chain.proofs.HookLaw.{a_is_on, b_is_on}
 use Rattle.realm_drawing.proofs.ChainJoins.{GoesOn, join_ways}
 use Rattle.realm_drawing.proofs.Replacements.{Serves, Replaces, replaced_valid}
 use Rattle.realm_drawing.proofs.CrossedCells.{upper_left, lower_right, falling_by}
-use Rattle.realm_drawing.proofs.Stretches.{same_by_test, apart_by_test}
+use Rattle.realm_drawing.proofs.Stretches.{apart_by_test}
 
 -- ---- the way round the corner
 -- what a falling diagonal passes in a chain goes down there, as the whole chain does
@@ -42,7 +43,7 @@ to_first : (o u : GridSegment) (z : GridPoint) (at_a : Bool) → is_point u.a (u
     → IsMonotone o.a o.b u.a u.b → Close o u
     → GoesOn o u.a (upper_left z) ((if at_a then [] else u.a ∷ []) ++ upper_left z ∷ [])
 to_first o u z true is passes monotone close =
-    record { leads = (sym (same_by_test u.a (upper_left z) is), refl); monotone = tt; close = tt }
+    record { leads = (sym (is_point-same u.a (upper_left z) is), refl); monotone = tt; close = tt }
 to_first o u z false is passes monotone close =
     let apart = apart_by_test u.a (upper_left z) is in
     let box = passes.first.box in
@@ -58,7 +59,7 @@ from_last : (o u : GridSegment) (z : GridPoint) (at_b : Bool) → is_point u.b (
     → IsMonotone o.a o.b u.a u.b → Close o u
     → GoesOn o (lower_right z) u.b (lower_right z ∷ (if at_b then [] else u.b ∷ []))
 from_last o u z true is passes monotone close =
-    record { leads = (refl, sym (same_by_test u.b (lower_right z) is)); monotone = tt; close = tt }
+    record { leads = (refl, sym (is_point-same u.b (lower_right z) is)); monotone = tt; close = tt }
 from_last o u z false is passes monotone close =
     let apart : lower_right z ≢ u.b = λ same. apart_by_test u.b (lower_right z) is (sym same) in
     let box = passes.last.box in
@@ -143,5 +144,5 @@ pub cut_is_hook : (t : GridSegment) (z : GridPoint) → IsOn t z → z ≢ t.b �
 cut_is_hook t z on not_b = by_test (is_point t.a z) refl
   where
     by_test : (at_a : Bool) → is_point t.a z ≡ at_a → Hook t z (if at_a then t.a ∷ t.b ∷ [] else t.a ∷ z ∷ t.b ∷ [])
-    by_test true is = inl (sym (same_by_test t.a z is), refl)
+    by_test true is = inl (sym (is_point-same t.a z is), refl)
     by_test false is = inr (inr (inl (λ same. apart_by_test t.a z is (sym same), not_b, on, refl)))

@@ -1,21 +1,16 @@
 -- This file shows where a list of points begins and ends, and that one segment at most has these ends.
 use Rattle.std.proofs.Common.{◌≡◌, ℕ, suc, ◌-◌, ◌<◌, List, [], ◌∷◌, length, get_or, refl, sym, subst, ◌∙◌, arith}
-use Rattle.std.proofs.Common.{Bool, true, if◌then◌else◌, Option, None, Some, IsNone, IfSome, MatchOption, ap, ap₂, inl}
-use Rattle.std.proofs.Common.{inr}
+use Rattle.std.proofs.Common.{Bool, true, if◌then◌else◌, Option, None, Some, IsNone, IfSome, MatchOption, ap, ap₂}
 use Rattle.std.proofs.lemmas.Bool.Decides.{nat_tests}
 use Rattle.grid_base.specs.Point.{GridPoint, IsBefore, is_before}
 use Rattle.grid_base.specs.Segment.{GridSegment, segment_of}
+use Rattle.grid_base.proofs.Ends.{not_before_itself}
+use Rattle.grid_base.proofs.Orders.{segment_between}
 use Rattle.hook_chain.specs.Chains.{Leads}
 use Rattle.realm_drawing.specs.Courses.{IsFromEndToEnd}
 use Rattle.realm_drawing.proofs.LinkPlaces.{reads}
 
 -- ---- order
-before_itself : (p q : GridPoint) → IsBefore p q → p ≡ q → ⊥
-before_itself p q before same =
-    let column = ap (λ (r : GridPoint). r.x) same in
-    let row = ap (λ (r : GridPoint). r.y) same in
-    elim before [ inl left ↦ omega arith | inr under ↦ let up = under.1 in omega arith ]
-
 is_before-true : (p q : GridPoint) → IsBefore p q → is_before p q ≡ true
 is_before-true p q before = grind (arith, nat_tests)
 
@@ -52,7 +47,7 @@ pub from_end_to_end : (points : List GridPoint) (first last : GridPoint) (r : Op
     → (IsNone r → first ≡ last) → IfSome r (λ s. s ≡ segment_of first last)
     → MatchOption r ((o : GridSegment) → IsFromEndToEnd points o → ⊥) (IsFromEndToEnd points)
 from_end_to_end points first last None some at_first at_last before none ends =
-    absurd (before_itself first last before (none refl))
+    absurd (not_before_itself first last (none refl) before)
 from_end_to_end points first last (Some s) some at_first at_last before none ends =
     subst (IsFromEndToEnd points) (sym (ends ∙ segment_in_order first last before))
     (record {
@@ -72,9 +67,6 @@ not_from_end_to_end points first last some at_first at_last not_before o ends =
     let end = (ends_by_leads o.a o.b points last ends.leads).1 ∙ sym at_last in
     not_before
     (subst (λ (a : GridPoint). IsBefore a last) begin (subst (λ (b : GridPoint). IsBefore o.a b) end ends.ordered))
-
-abbrev segment_between : GridPoint → GridPoint → GridSegment
-segment_between a b = record { a = a; b = b }
 
 -- there is one at most
 pub one_segment : (points : List GridPoint) (o s : GridSegment) → IsFromEndToEnd points o → IsFromEndToEnd points s → o ≡ s

@@ -5,6 +5,7 @@ use Rattle.std.proofs.lemmas.List.{reverse-append}
 use Rattle.grid_base.specs.Point.{GridPoint}
 use Rattle.hook_chain.specs.Chains.{Leads}
 use Rattle.hook_chain.specs.Redrawing.{front}
+use Rattle.hook_chain.proofs.Paths.{front_pushed}
 
 -- all points but one, from the beginning
 pub front-take : (path : List GridPoint) (n : ℕ) → length path ≡ suc n → front path ≡ take n path
@@ -13,11 +14,6 @@ front-take (p ∷ []) zero all = refl
 front-take (p ∷ []) (suc n) all = absurd (omega arith)
 front-take (p ∷ q ∷ path) zero all = absurd (omega arith)
 front-take (p ∷ q ∷ path) (suc n) all = ap (λ (rest : List GridPoint). p ∷ rest) (front-take (q ∷ path) n (omega arith))
-
-front-push : (path : List GridPoint) (x : GridPoint) → front (path ++ x ∷ []) ≡ path
-front-push [] x = refl
-front-push (p ∷ []) x = refl
-front-push (p ∷ q ∷ path) x = ap (λ (rest : List GridPoint). p ∷ rest) (front-push (q ∷ path) x)
 
 -- a path that leads somewhere has a point
 pub some_point : (a b : GridPoint) (path : List GridPoint) → Leads a b path → 0 < length path
@@ -31,5 +27,5 @@ front-reverse a b [] leads = absurd leads
 front-reverse a b (p ∷ path) leads =
     let all : length path ≤ length (p ∷ path) - 1 = omega arith in
     ap front (reverse-append (p ∷ []) path)
-    ∙ front-push (reverse path) p
+    ∙ front_pushed (reverse path) p
     ∙ ap reverse (sym (take_all (length (p ∷ path) - 1) path all))

@@ -110,8 +110,8 @@ keys_are_kept points after originals changed old new keeps s k j before behind =
 -- a drawing that stays as it is keeps its keys
 pub KeepsKeys-itself : (points : List GridPoint) (originals : List Original) (r : Holdings)
     → keyed_drawings.KeepsKeys (drawn points originals r) (drawn points originals r)
-KeepsKeys-itself points originals r s k j before behind =
-    same_Some j k (sym ((has_key r s j).0 behind) ∙ (has_key r s k).0 before)
+KeepsKeys-itself points originals r =
+    keys_are_kept points points originals originals r r (λ s k j before behind. same_Some j k (sym behind ∙ before))
 
 -- each piece has one key, and each key one piece
 pub kept_keyed : (points : List GridPoint) (originals : List Original) (r : Holdings) → IsKept points originals r

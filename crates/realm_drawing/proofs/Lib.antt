@@ -120,8 +120,6 @@ mod StepChains
 pub mod DrawnPieces
 -- the pieces of a drawing that is kept, and their keys
 mod KeptPieces
--- the vertices of a chain as ends of its links
-pub mod LinkEnds
 -- the vertices of a drawing that is kept
 mod Vertices
 -- what is promised of the chains that stand for originals

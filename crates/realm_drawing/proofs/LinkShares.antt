@@ -82,12 +82,16 @@ lists_gained r piece path i xs ys past = lists_same xs ys
     ))
 
 -- the shares of all links are those of the chain
+pub of_chain : (id : ℕ) (points : List GridPoint) (i : ℕ) (y : Share) → length points ≤ i
+    → ((y.id ≡ id) × IsAmong points i y.piece) ↔ IsOfChain id points y
+of_chain id points i y past = rw take_all (
+  λ (same, (link, ordered)). record { has_id = same; link = link; ordered = ordered },
+  λ share. (share.has_id, (share.link, share.ordered)),
+)
+
 pub lists_of_chain : (id : ℕ) (points : List GridPoint) (i : ℕ) (xs ys : List Share) → length points ≤ i
     → ListsAlso xs ys (λ y. (y.id ≡ id) × IsAmong points i y.piece) → ListsAlso xs ys (IsOfChain id points)
 lists_of_chain id points i xs ys past = lists_same xs ys
     (λ y. (y.id ≡ id) × IsAmong points i y.piece)
     (IsOfChain id points)
-    (λ y. rw take_all (
-      λ (same, (link, ordered)). record { has_id = same; link = link; ordered = ordered },
-      λ share. (share.has_id, (share.link, share.ordered)),
-    ))
+    (λ y. of_chain id points i y past)

@@ -1,6 +1,6 @@
 -- This file shows that a registry loses the shares of a chain link by link, and that its pieces keep their keys then.
 use Rattle.std.proofs.Common.{◌≡◌, ◌⊎◌, ◌↔◌, ℕ, ◌+◌, ◌-◌, ◌<◌, ◌≤◌, List, [], ◌∷◌}
-use Rattle.std.proofs.Common.{length, get_or, take_all, Contains, Some}
+use Rattle.std.proofs.Common.{length, get_or, Contains, Some}
 use Rattle.std.proofs.Common.{sym, ap, ap₂, ◌∙◌, inl, inr}
 use Rattle.std.specs.Option.{IsNone}
 use Rattle.std.proofs.lemmas.Option.{same_Some}
@@ -12,7 +12,7 @@ use Rattle.realm_drawing.specs.Shares.{share_of, KeepsKeys, HasFewer, IsBetween,
 use Rattle.realm_drawing.specs.Leaving.{LosesShares}
 use Rattle.realm_drawing.proofs.Elements.{Contains-head, Contains-cons_cases, Contains-nil}
 use Rattle.realm_drawing.proofs.PathLinks.{no_link_at_first, made_between}
-use Rattle.realm_drawing.proofs.LinkShares.{IsAmong, next_among}
+use Rattle.realm_drawing.proofs.LinkShares.{IsAmong, next_among, of_chain}
 use Rattle.realm_drawing.proofs.KeptKeys.{KeepsKeys-trans, piece_with_owners}
 
 -- ---- one step after another
@@ -65,10 +65,7 @@ pub loses_chain : (id : ℕ) (points : List GridPoint) (i : ℕ) (r s : Holdings
 loses_chain id points i r s past = loses_same r s
     (λ y. (y.id ≡ id) × IsAmong points i y.piece)
     (IsOfChain id points)
-    (λ y. rw take_all (
-      λ (same, (link, ordered)). record { has_id = same; link = link; ordered = ordered },
-      λ share. (share.has_id, (share.link, share.ordered)),
-    ))
+    (λ y. of_chain id points i y past)
 
 -- ---- the segment between two points
 -- one share that is lost is that of it

@@ -2,14 +2,13 @@
 use Rattle.std.proofs.Common.{◌≡◌, ◌⊎◌, ◌↔◌, ℕ, ◌+◌, ◌<◌, ◌≤◌, List, [], ◌∷◌, ◌++◌, length, get_or, take, Contains}
 use Rattle.std.proofs.Common.{sym, ap, ap₂, ◌∙◌, subst, inl, inr, take_all}
 use Rattle.std.proofs.lemmas.List.{take_more}
-use Rattle.std.proofs.lemmas.List.Elements.{Contains-append_left, Contains-append_right, Contains-append_cases}
+use Rattle.std.proofs.lemmas.List.Elements.{Contains-append_left, Contains-push, Contains-push_cases}
 use Rattle.grid_base.specs.Point.{GridPoint}
 use Rattle.grid_base.specs.Segment.{GridSegment}
 use Rattle.grid_base.specs.Drawing.{HasLink}
 use Rattle.component_registry.specs.Registry.{Holdings, owners_of}
 use Rattle.realm_drawing.specs.declared.shares.Share.{Share}
 use Rattle.realm_drawing.specs.Shares.{share_of, Held, ListsAlso, IsLost}
-use Rattle.realm_drawing.proofs.Elements.{Contains-head, Contains-cons_cases, Contains-nil}
 use Rattle.realm_drawing.proofs.ShareLists.{lists_same, lists_both}
 
 -- the id at place i and those before it
@@ -18,16 +17,10 @@ Contains-next : (ids : List ℕ) (i x : ℕ) → i < length ids → x ≡ get_or
 Contains-next ids i x within is z =
     let next = take_more ids i x within ∙ ap (λ n. take i ids ++ n ∷ []) (sym is) in
     rw next (
-      λ there. elim (Contains-append_cases (take i ids) (x ∷ []) z there) [
-        | inl before ↦ inl before
-        | inr last ↦ elim (Contains-cons_cases x [] z last) [
-          | inl here ↦ inr (sym here)
-          | inr later ↦ absurd (Contains-nil z later)
-        ]
-      ],
+      λ there. elim (Contains-push_cases (take i ids) x z there) [ inl before ↦ inl before | inr here ↦ inr (sym here) ],
       λ either. elim either [
         | inl before ↦ Contains-append_left (take i ids) (x ∷ []) z before
-        | inr same ↦ Contains-append_right (take i ids) (x ∷ []) z (Contains-head x [] z (sym same))
+        | inr same ↦ subst (Contains (take i ids ++ x ∷ [])) (sym same) (Contains-push (take i ids) x)
       ],
     )
 

@@ -18,26 +18,13 @@ use Rattle.realm_drawing.specs.Ids.{IsAscending, LacksId, IsPlaceOf}
 use Rattle.realm_drawing.specs.Kept.{HasOwnersOf}
 use Rattle.realm_drawing.specs.Redraws.{redrawn_by, IsReplacement, HasReplacement, AddsReplacements}
 use Rattle.realm_drawing.proofs.Elements.{Any-append_left, Contains-nil}
+use Rattle.realm_drawing.proofs.KeySearches.{one_place_for_a_number}
 
 -- ---- places
 -- a list with a place has some element
 pub an_element : {X : Type 0} (xs : List X) (i : ℕ) → i < length xs → X
 an_element [] i within = absurd (omega arith)
 an_element (x ∷ xs) i within = x
-
--- two places with one id are one
-one_place : (originals : List Original) (id i k : ℕ) → IsAscending originals → i < length originals → k < length originals
-    → HoldsAt (λ o. o.id ≡ id) originals i → HoldsAt (λ o. o.id ≡ id) originals k → i ≡ k
-one_place originals id i k ascending i_within k_within at_i at_k =
-    let d = an_element originals i i_within in
-    let same = at_i d ∙ sym (at_k d) in
-    elim (three_ways i k) [
-      | inl before ↦ absurd (let rises = ascending i k d before k_within in omega arith)
-      | inr rest ↦ elim rest [
-        | inl equal ↦ equal
-        | inr after ↦ absurd (let rises = ascending k i d after i_within in omega arith)
-      ]
-    ]
 
 -- ---- one owner after the other
 -- the list has replacements alone, those it had, and one for each original with one of the first n of these ids
@@ -97,8 +84,9 @@ one_more step originals ids n id old new r ascending before is place right =
         | inl earlier ↦ Any-append_left (Is i) new (r ∷ []) (before.first i k within earlier at)
         | inr rest ↦ elim rest [
           | inl here ↦ Any-push (Is i) new r
-              (sym (one_place originals id i r.place ascending within place.within
-              (λ d. at d ∙ ap (λ m. get_or ids m 0) here ∙ sym is) place.has_id))
+              (sym (one_place_for_a_number (λ (o : Original). o.id) originals ascending i r.place
+              (an_element originals i within) within place.within
+              (at _ ∙ ap (λ m. get_or ids m 0) here ∙ sym is ∙ sym (place.has_id _))))
           | inr later ↦ absurd (omega arith)
         ]
       ];

@@ -1,28 +1,21 @@
 -- This file shows that each vertex of a path between two points is an end of one of its links.
-use Rattle.std.proofs.Common.{◌≡◌, ◌≢◌, ◌⊎◌, List, [], ◌∷◌, Contains, refl, sym, subst, ◌∙◌, inl, inr}
+use Rattle.std.proofs.Common.{◌≡◌, ◌≢◌, ◌⊎◌, List, [], ◌∷◌, Contains, sym, subst, ◌∙◌, inl, inr}
 use Rattle.grid_base.specs.Point.{GridPoint, IsBefore}
 use Rattle.grid_base.specs.Segment.{GridSegment, IsEnd, segment_of}
 use Rattle.grid_base.specs.Drawing.{IsLink, HasLink}
 use Rattle.grid_base.proofs.Ends.{not_before_itself}
 use Rattle.component_registry.proofs.Lookups.{this_point_or_other}
 use Rattle.hook_chain.specs.Chains.{Leads}
-use Rattle.realm_drawing.specs.Shares.{IsBetween}
 use Rattle.realm_drawing.proofs.Elements.{Contains-head, Contains-cons_cases, Contains-nil}
-use Rattle.realm_drawing.proofs.PathLinks.{made_between}
+use Rattle.realm_drawing.proofs.PathLinks.{segment_of-between}
 
 -- s is a link of the path, its lesser end first, and p is an end of it
-pub record IsLinkAt (path : List GridPoint) (p : GridPoint) (s : GridSegment) : Type 0 where
+pub record IsLinkEnd (path : List GridPoint) (p : GridPoint) (s : GridSegment) : Type 0 where
   pub ordered : IsBefore s.a s.b
   pub link : HasLink path s
   pub end : IsEnd p s
 
 -- ---- one link
--- two points that differ are the ends of the segment between them
-between : (v w : GridPoint) → v ≢ w → IsBetween (segment_of v w) v w
-between v w apart =
-    let s = segment_of v w in
-    (made_between s s v w (λ made. cc, λ same. absurd (apart same)) refl).1 refl
-
 starts : (s : GridSegment) (v w : GridPoint) → IsLink s v w → IsEnd v s
 starts s v w (inl forth) = inl forth.0
 starts s v w (inr back) = inr back.0
@@ -32,10 +25,10 @@ finishes s v w (inl forth) = inr forth.1
 finishes s v w (inr back) = inl back.1
 
 first_link_at : (v w p : GridPoint) (path : List GridPoint) → v ≢ w → (v ≡ p) ⊎ (w ≡ p)
-    → IsLinkAt (v ∷ w ∷ path) p (segment_of v w)
+    → IsLinkEnd (v ∷ w ∷ path) p (segment_of v w)
 first_link_at v w p path apart either =
     let s = segment_of v w in
-    let made = between v w apart in
+    let made = segment_of-between v w apart in
     record {
       ordered = made.1;
       link = inl made.0;
@@ -45,14 +38,14 @@ first_link_at v w p path apart either =
       ];
     }
 
-later_link_at : (v w p : GridPoint) (path : List GridPoint) (s : GridSegment) → IsLinkAt (w ∷ path) p s
-    → IsLinkAt (v ∷ w ∷ path) p s
+later_link_at : (v w p : GridPoint) (path : List GridPoint) (s : GridSegment) → IsLinkEnd (w ∷ path) p s
+    → IsLinkEnd (v ∷ w ∷ path) p s
 later_link_at v w p path s at = record { ordered = at.ordered; link = inr at.link; end = at.end }
 
 -- ---- the whole path
 -- both ends of the path are p, or p is an end of a link
 abbrev IsAlone : GridPoint → GridPoint → List GridPoint → GridPoint → Type 0
-IsAlone a b path p = ((a ≡ p) × (b ≡ p)) ⊎ ((s : GridSegment) × IsLinkAt path p s)
+IsAlone a b path p = ((a ≡ p) × (b ≡ p)) ⊎ ((s : GridSegment) × IsLinkEnd path p s)
 
 -- a path stays at p, or a link of it leads to p or away
 alone_or_at_link : (a b : GridPoint) (path : List GridPoint) (p : GridPoint) → Leads a b path → Contains path p
@@ -81,7 +74,7 @@ alone_or_at_link a b (v ∷ w ∷ path) p leads there = elim (Contains-cons_case
 
 -- a path to another point doesn't stay
 pub vertex_is_link_end : (a b : GridPoint) (path : List GridPoint) (p : GridPoint) → IsBefore a b → Leads a b path
-    → Contains path p → (s : GridSegment) × IsLinkAt path p s
+    → Contains path p → (s : GridSegment) × IsLinkEnd path p s
 vertex_is_link_end a b path p ordered leads there = elim (alone_or_at_link a b path p leads there) [
   | inl alone ↦ absurd (not_before_itself a b (alone.0 ∙ sym alone.1) ordered)
   | inr at_link ↦ at_link

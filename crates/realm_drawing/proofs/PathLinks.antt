@@ -65,7 +65,7 @@ link_more path (suc j) v w t some within is_v is_w =
 
 -- ---- the segment between two points
 -- the lesser point is the end a
-segment_of-between : (v w : GridPoint) → v ≢ w → IsBetween (segment_of v w) v w
+pub segment_of-between : (v w : GridPoint) → v ≢ w → IsBetween (segment_of v w) v w
 segment_of-between v w apart = by_order (is_before v w) refl
   where
     by_order : (before : Bool) → is_before v w ≡ before
@@ -76,7 +76,7 @@ segment_of-between v w apart = by_order (is_before v w) refl
         (inr (refl, refl), grind (arith, nat_tests))
 
 -- it is the only one
-one_between : (s t : GridSegment) (v w : GridPoint) → IsBetween s v w → IsBetween t v w → s ≡ t
+pub one_between : (s t : GridSegment) (v w : GridPoint) → IsBetween s v w → IsBetween t v w → s ≡ t
 one_between s t v w (inl (v_a, w_b), s_ordered) (inl (v_c, w_d), t_ordered) =
     ap₂ segment_between (sym v_a ∙ v_c) (sym w_b ∙ w_d)
 one_between s t v w (inr (v_b, w_a), s_ordered) (inr (v_d, w_c), t_ordered) =

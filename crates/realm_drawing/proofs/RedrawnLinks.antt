@@ -6,8 +6,9 @@ use Rattle.grid_base.specs.Segment.{GridSegment}
 use Rattle.grid_base.specs.Drawing.{IsLink, HasLink}
 use Rattle.hook_chain.specs.Chains.{Leads}
 use Rattle.hook_chain.specs.Redrawing.{front, redrawn}
-use Rattle.realm_drawing.proofs.JoinedLinks.{one_segment, BeginsWith, path_begins, first_link}
+use Rattle.realm_drawing.proofs.JoinedLinks.{BeginsWith, path_begins, first_link}
 use Rattle.realm_drawing.proofs.JoinedLinks.{joined_links, leads_back_by_reverse, reversed_links}
+use Rattle.realm_drawing.proofs.PathLinks.{one_between}
 use Rattle.realm_drawing.proofs.Stretches.{stretch, Drawn, drawn, other_stretch}
 use Rattle.realm_drawing.proofs.Stretches.Drawn.{Forth, Back, Other}
 
@@ -90,7 +91,7 @@ redrawn_links t path (v ∷ w ∷ chain) s ordered leads s_ordered =
         ],
         λ h. elim h [
           | inl stays ↦ elim stays.0 [
-            | inl here ↦ absurd (stays.1 (one_segment s t v w s_ordered ordered here piece.0))
+            | inl here ↦ absurd (stays.1 (one_between s t v w (here, s_ordered) (piece.0, ordered)))
             | inr there ↦ piece.1.1 (inr (later.1 (inl (there, stays.1))))
           ]
           | inr on_path ↦ piece.1.1 (inl on_path.1)

@@ -1,23 +1,16 @@
 -- This file shows what lists of shares come to have, one step after another.
-use Rattle.std.proofs.Common.{◌≡◌, ◌⊎◌, ◌↔◌, List, [], ◌∷◌, ◌++◌, sym, subst, inl, inr}
-use Rattle.std.proofs.lemmas.List.Elements.{Contains-append_left, Contains-append_right, Contains-append_cases}
+use Rattle.std.proofs.Common.{◌≡◌, ◌⊎◌, ◌↔◌, List, [], ◌∷◌, ◌++◌, Contains, sym, subst, inl, inr}
+use Rattle.std.proofs.lemmas.List.Elements.{Contains-append_left, Contains-push, Contains-push_cases}
 use Rattle.realm_drawing.specs.declared.shares.Share.{Share}
 use Rattle.realm_drawing.specs.Shares.{ListsAlso}
-use Rattle.realm_drawing.proofs.Elements.{Contains-head, Contains-cons_cases, Contains-nil}
 
 -- the share at the end of the list
 pub lists_one : (xs : List Share) (z : Share) → ListsAlso xs (xs ++ z ∷ []) (λ y. y ≡ z)
 lists_one xs z y = (
-  λ there. elim (Contains-append_cases xs (z ∷ []) y there) [
-    | inl had ↦ inl had
-    | inr last ↦ elim (Contains-cons_cases z [] y last) [
-      | inl here ↦ inr (sym here)
-      | inr later ↦ absurd (Contains-nil y later)
-    ]
-  ],
+  λ there. elim (Contains-push_cases xs z y there) [ inl had ↦ inl had | inr same ↦ inr (sym same) ],
   λ either. elim either [
     | inl had ↦ Contains-append_left xs (z ∷ []) y had
-    | inr same ↦ Contains-append_right xs (z ∷ []) y (Contains-head z [] y (sym same))
+    | inr same ↦ subst (Contains (xs ++ z ∷ [])) (sym same) (Contains-push xs z)
   ],
 )
 

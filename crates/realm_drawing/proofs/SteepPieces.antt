@@ -1,5 +1,5 @@
 -- This file shows that links between points near a steep piece are close to a flat original where the piece is.
-use Rattle.std.proofs.Common.{◌≡◌, ◌≢◌, ℕ, ◌+◌, ◌-◌, ◌*◌, ◌<◌, ◌≤◌, refl, ap, arith, inl, inr}
+use Rattle.std.proofs.Common.{◌≡◌, ◌≢◌, ℕ, ◌+◌, ◌-◌, ◌*◌, ◌<◌, ◌≤◌, refl, ap, zero-le, arith, inl, inr}
 use Rattle.grid_base.specs.Point.{GridPoint, point_at, gap, InBox}
 use Rattle.grid_base.specs.Segment.{GridSegment, width, height}
 use Rattle.grid_base.specs.Places.{IsPlace}
@@ -58,37 +58,40 @@ record HasStrip (o t : GridSegment) : Type 0 where
   runs : RunsAlong o t strip
   holds : (p : GridPoint) → IsReached t p → InStrip strip p
 
--- near a segment that rises by one more than it is wide are only points of two diagonals, those of its ends
-near_rising : (t : GridSegment) (p : GridPoint) → t.a.x ≤ t.b.x → t.b.y + t.a.x ≡ t.a.y + t.b.x + 1 → IsReached t p
-    → InStrip (record { rise = 1; up = t.a.y; fall = 0; down = t.a.x }) p
-near_rising t p order high near =
-    let box = near.box in
-    let step = near.near in
+-- near a segment that rises by e more than it is wide are only points of the diagonals from that of its lesser end to that of
+-- its greater
+pub beside_rising : (t : GridSegment) (p : GridPoint) (e : ℕ) → t.a.x ≤ t.b.x → t.b.y + t.a.x ≡ t.a.y + t.b.x + e
+    → InBox t.a t.b p → gap (leftward t.a t.b p) (rightward t.a t.b p) < height t
+    → (p.x + t.a.y ≤ p.y + t.a.x) × (p.y + t.a.x ≤ p.x + t.a.y + e)
+beside_rising t p e order high box step =
     let high_p = ap (λ (n : ℕ). p.x * n) high in
     let high_a = ap (λ (n : ℕ). t.a.x * n) high in
-    let not_over : t.a.y + p.x + 2 ≤ p.y + t.a.x → ⊥ = λ over.
-    let far = times_le t.a.x t.b.x (t.a.y + p.x + 2) (p.y + t.a.x) order over in
+    let not_over : t.a.y + p.x + e + 1 ≤ p.y + t.a.x → ⊥ = λ over.
+    let far = times_le t.a.x t.b.x (t.a.y + p.x + e + 1) (p.y + t.a.x) order over in
+    let more = times_le 0 e (p.x + 1) t.b.x zero-le (omega arith) in
     omega arith in
     let not_under : p.y + t.a.x + 1 ≤ t.a.y + p.x → ⊥ = λ under.
     let far = times_le t.a.x t.b.x (p.y + t.a.x + 1) (t.a.y + p.x) order under in
+    let more = times_le 0 e (t.a.x + 1) p.x zero-le (omega arith) in
     omega arith in
-    record { not_under = omega (arith, not_under); not_over = omega (arith, not_over) }
+    (omega (arith, not_under), omega (arith, not_over))
 
--- and so it is near one that falls by one more than it is wide
-near_falling : (t : GridSegment) (p : GridPoint) → t.a.x ≤ t.b.x → t.b.y + t.b.x + 1 ≡ t.a.y + t.a.x → IsReached t p
-    → InStrip (record { rise = 0; up = t.a.x + t.a.y; fall = 1; down = 1 }) p
-near_falling t p order high near =
-    let box = near.box in
-    let step = near.near in
+-- and so it is near one that falls by e more than it is wide
+pub beside_falling : (t : GridSegment) (p : GridPoint) (e : ℕ) → t.a.x ≤ t.b.x → t.b.y + t.b.x + e ≡ t.a.y + t.a.x
+    → InBox t.a t.b p → gap (leftward t.a t.b p) (rightward t.a t.b p) < height t
+    → (t.a.x + t.a.y ≤ p.y + p.x + e) × (p.y + p.x ≤ t.a.x + t.a.y)
+beside_falling t p e order high box step =
     let high_p = ap (λ (n : ℕ). p.x * n) high in
     let high_a = ap (λ (n : ℕ). t.a.x * n) high in
     let not_over : t.a.y + t.a.x + 1 ≤ p.y + p.x → ⊥ = λ over.
     let far = times_le t.a.x t.b.x (t.a.y + t.a.x + 1) (p.y + p.x) order over in
+    let more = times_le 0 e (t.a.x + 1) p.x zero-le (omega arith) in
     omega arith in
-    let not_under : p.y + p.x + 2 ≤ t.a.y + t.a.x → ⊥ = λ under.
-    let far = times_le t.a.x t.b.x (p.y + p.x + 2) (t.a.y + t.a.x) order under in
+    let not_under : p.y + p.x + e + 1 ≤ t.a.y + t.a.x → ⊥ = λ under.
+    let far = times_le t.a.x t.b.x (p.y + p.x + e + 1) (t.a.y + t.a.x) order under in
+    let more = times_le 0 e (p.x + 1) t.b.x zero-le (omega arith) in
     omega arith in
-    record { not_under = omega (arith, not_under); not_over = omega (arith, not_over) }
+    (omega (arith, not_under), omega (arith, not_over))
 
 -- A flat original passes over the start of a close piece that rises steeply and under its end, both by less than 1. So the
 -- piece rises by one more than it is wide, and the original stays between the two diagonals.
@@ -110,7 +113,9 @@ strip_rising o t wide flat steep order up first last close =
         over_lower = λ g from to under. let sides = climbing_side o g under_b wide flat to (omega arith) in omega arith;
         under_upper = λ g from to over. let sides = climbing_side o over_a g wide flat from (omega arith) in omega arith;
       };
-      holds = λ p near. near_rising t p order high near;
+      holds = λ p near.
+          let beside = beside_rising t p 1 order high near.box near.near in
+          record { not_under = omega (arith, beside.0); not_over = omega (arith, beside.1) };
     }
 
 -- and the same mirrored, where the piece falls steeply
@@ -132,7 +137,9 @@ strip_falling o t wide flat steep order down first last close =
         over_lower = λ g from to under. let sides = falling_side o under_a g wide flat from (omega arith) in omega arith;
         under_upper = λ g from to over. let sides = falling_side o g over_b wide flat to (omega arith) in omega arith;
       };
-      holds = λ p near. near_falling t p order high near;
+      holds = λ p near.
+          let beside = beside_falling t p 1 order high near.box near.near in
+          record { not_under = omega (arith, beside.0); not_over = omega (arith, beside.1) };
     }
 
 -- and so it does whether the piece rises or falls

@@ -18,12 +18,7 @@ stretch t path v w =
     else v ∷ []
 
 -- ---- the three cases
--- two points that the test finds to be one, and two that it tells apart
-pub same_by_test : (p q : GridPoint) → is_point p q ≡ true → p ≡ q
-same_by_test p q is =
-    let same : (p.x ≡ q.x) × (p.y ≡ q.y) = grind (arith, nat_tests) in
-    ap₂ point_at same.0 same.1
-
+-- two points that the test tells apart
 pub apart_by_test : (p q : GridPoint) → is_point p q ≡ false → p ≢ q
 apart_by_test p q other same = grind (arith, nat_tests)
 

@@ -9,12 +9,11 @@ use Rattle.grid_base.specs.Drawing.{HasLink, IsPoint}
 use Rattle.grid_base.specs.declared.original.Original.{Original}
 use Rattle.component_registry.specs.Registry as registries
 use Rattle.component_registry.specs.Registry.{Holdings}
-use Rattle.realm_drawing.specs.Straight.{along}
 use Rattle.realm_drawing.specs.Chains.{HasValidChain}
 use Rattle.realm_drawing.specs.Kept.{IsKept}
 use Rattle.realm_drawing.proofs.Elements.{Contains-head, Contains-later, Contains-cons_cases, Contains-nil}
-use Rattle.realm_drawing.proofs.LinkEnds.{vertex_of_valid}
 use Rattle.realm_drawing.proofs.KeptPieces.{piece_of_registry}
+use Rattle.realm_drawing.proofs.PathEnds.{vertex_is_link_end}
 
 -- ---- from a link to its ends
 -- the ends of a link are vertices of the chain
@@ -47,9 +46,9 @@ vertices_are_ends points originals r kept p = (
       (k, o, within, is, end_is_vertex o.chain s p link end),
   λ (k, o, within, is, vertex).
       let valid = subst HasValidChain is (kept.all_valid k o within) in
-      let has = vertex_of_valid (along o) o.chain p valid vertex in
-      let piece = (piece_of_registry points originals r kept has.link).1 (has.ordered, (k, o, within, is, has.is_link)) in
-      (has.link, (piece, has.is_end)),
+      let (s, at) = vertex_is_link_end o.a o.b o.chain p valid.ends valid.leads vertex in
+      let piece = (piece_of_registry points originals r kept s).1 (at.ordered, (k, o, within, is, at.link)) in
+      (s, (piece, at.end)),
 )
 
 -- what isn't explicit is a point where it is used

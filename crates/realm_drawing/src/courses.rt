@@ -3,7 +3,7 @@
 //! the next point on, and from the one behind that.
 ghost use Rattle.std.specs.Prelude.{◌≡◌, ◌≢◌, ◌<◌, ◌+◌, ◌↔◌, IsTrue, IsNone, IfSome, MatchOption};
 ghost use Rattle.std.specs.Prelude.{length, drop};
-ghost use Rattle.grid_base.specs.Point.{InBox, IsBefore};
+ghost use Rattle.grid_base.specs.Point.{InBox};
 ghost use Rattle.grid_base.specs.Segment.{GridSegment};
 ghost use Rattle.hook_chain.specs.Chains.{AllLinks};
 ghost use Rattle.hook_chain.specs.Close.{Close};
@@ -47,18 +47,11 @@ fn from_end_to_end(points: &[Point]) -> Option<Segment>
 {
     let first = *points.first()?;
     let last = *points.last()?;
-    if comes_before(&first, &last) {
+    if first.comes_before(&last) {
         Segment::new(first, last)
     } else {
         None
     }
-}
-
-// Whether `p` comes before `q`.
-fn comes_before(p: &Point, q: &Point) -> bool
-    ensures { IsTrue result ↔ IsBefore p.now q.now }
-{
-    p < q
 }
 
 // Whether no coordinate turns back on the way of `o`.
