@@ -1,6 +1,8 @@
 -- This file shows that one of several words is read exactly, where no two of them begin alike to the end of one.
-use Rattle.std.proofs.Common.{◌≡◌, ℕ, suc, ◌+◌, ◌≤◌, ◌<◌, Bool, true, false, ◌&&◌, eqb, cond, List, [], ◌∷◌, ◌++◌, length, map, min, drop}
+use Rattle.std.proofs.Common.{◌≡◌, ℕ, zero, suc, Some, slice_get, ◌+◌, ◌≤◌, ◌<◌, Bool, true, false, ◌&&◌, eqb, cond, List, []}
+use Rattle.std.proofs.Common.{◌∷◌, ◌++◌, length, map, min, drop}
 use Rattle.std.proofs.Common.{get_or, add-one, Result, Ok, Err, refl, sym, ap, subst, ◌∙◌, arith, ◌⊎◌, inl, inr}
+use Rattle.std.proofs.lemmas.Option.{same_Some}
 use Rattle.std.proofs.lemmas.Bool.{cases_lt, eq-eqb}
 use Rattle.std.proofs.lemmas.List.{length-drop, nil_from_length}
 use Rattle.std.proofs.Math.Seq.{drop-cons}
@@ -66,6 +68,12 @@ differ_parts (a ∷ u) (b ∷ v) x y d = elim (cases_equal a b) [
 abbrev pub Member : {T : Type 0} → T → List T → Type 0
 Member t [] = ⊥
 Member t (s ∷ all) = (t ≡ s) ⊎ Member t all
+
+-- what stands at a place is a member
+pub stands_at : {T : Type 0} {t : T} (k : ℕ) (all : List T) → slice_get all k ≡ Some t → Member t all
+stands_at k [] there = absurd cc
+stands_at {t = t} zero (s ∷ all) there = inl (sym (same_Some s t there))
+stands_at (suc k) (s ∷ all) there = inr (stands_at k all there)
 
 -- the word of t differs from each of these
 abbrev pub differs : {T : Type 0} → (T → List ℕ) → T → List T → Bool

@@ -1,6 +1,5 @@
 -- This file shows that names are read exactly.
-use Rattle.std.proofs.Common.{◌≡◌, ℕ, suc, ◌≤◌, ◌<◌, true, false, List, [], ◌∷◌, ◌++◌, length, drop, refl, sym, ap, ◌∙◌, arith, inl, inr}
-use Rattle.std.proofs.lemmas.Bool.Decides.{nat_tests}
+use Rattle.std.proofs.Common.{◌≡◌, ℕ, suc, ◌≤◌, true, false, List, [], ◌∷◌, ◌++◌, length, drop, refl, sym, ap, ◌∙◌, arith, inl, inr}
 use Rattle.std.proofs.lemmas.List.{take-append-drop}
 use Rattle.line_grammar.specs.Agree.{agree}
 use Rattle.line_grammar.specs.Spellable.{is_letter, is_name_byte, IsName}
@@ -76,6 +75,3 @@ a_is_name = (refl, tt, omega arith)
 
 abbrev pub name : Token (List ℕ)
 name = record { kind = name_kind; read = name_at; reads = name_reads; sample = 97 ∷ []; sample_fits = a_is_name }
-
-pub name_byte_is_ascii : (b : ℕ) → is_name_byte b ≡ true → b < 128
-name_byte_is_ascii b e = grind (arith, nat_tests, e)

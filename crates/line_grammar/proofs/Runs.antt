@@ -121,10 +121,3 @@ run_full test most line i le = let k : most - i ≡ 0 = omega arith in rw k (run
 pub run_ended : (test : ℕ → Bool) (most : ℕ) (line : List ℕ) (i : ℕ) → length line ≤ i → run test (most - i) (drop i line) ≡ 0
 run_ended test most line i le = rw (nil_from_length (drop i line) (let len = length-drop i line in omega (arith, len)))
     (run-nil test (most - i))
-
--- ---- the loops over a run that is known to pass
-
-pub passes_at : (test : ℕ → Bool) (ds : List ℕ) (i : ℕ) → Passes test ds → i < length ds → test (get_or ds i 0) ≡ true
-passes_at test [] i pass lt = absurd (omega arith)
-passes_at test (d ∷ ds) zero pass lt = pass.0
-passes_at test (d ∷ ds) (suc i) pass lt = passes_at test ds i pass.1 (omega (arith, lt))

@@ -1,5 +1,5 @@
 -- This file shows that the words of operators, predicates, numbers and lines are read exactly.
-use Rattle.std.proofs.Common.{ℕ, List, refl, inl, inr}
+use Rattle.std.proofs.Common.{ℕ, List, refl}
 use Rattle.rose_values.specs.declared.operators.Op.{Op}
 use Rattle.rose_values.specs.declared.operators.Op.TheVariants as ops
 use Rattle.rose_values.specs.declared.operators.Pred.{Pred}
@@ -16,65 +16,64 @@ use Rattle.line_grammar.specs.Words.{operator, predicate, measure, keyword}
 use Rattle.line_grammar.specs.Choosing.{all_operators, all_predicates, all_measures, all_keywords, operator_at, predicate_at, measure_at}
 use Rattle.line_grammar.specs.Choosing.{keyword_at}
 use Rattle.line_grammar.proofs.Exact.{Reads, Token}
-use Rattle.line_grammar.proofs.Choices.{Member, word_kind, choice}
+use Rattle.line_grammar.proofs.Choices.{Member, stands_at, word_kind, choice}
 
 every_operator : (op : Op) → Member op all_operators
-every_operator ops.Intersection = inl refl
-every_operator ops.Plus = inr (inl refl)
-every_operator ops.Minus = inr (inr (inl refl))
-every_operator ops.CommonBorder = inr (inr (inr (inl refl)))
-every_operator ops.Vertices = inr (inr (inr (inr (inl refl))))
-every_operator ops.Contour = inr (inr (inr (inr (inr (inl refl)))))
-every_operator ops.Interior = inr (inr (inr (inr (inr (inr (inl refl))))))
+every_operator ops.Intersection = stands_at 0 all_operators refl
+every_operator ops.Plus = stands_at 1 all_operators refl
+every_operator ops.Minus = stands_at 2 all_operators refl
+every_operator ops.CommonBorder = stands_at 3 all_operators refl
+every_operator ops.Vertices = stands_at 4 all_operators refl
+every_operator ops.Contour = stands_at 5 all_operators refl
+every_operator ops.Interior = stands_at 6 all_operators refl
 
 every_predicate : (p : Pred) → Member p all_predicates
-every_predicate preds.Equal = inl refl
-every_predicate preds.Inside = inr (inl refl)
-every_predicate preds.EdgeInside = inr (inr (inl refl))
-every_predicate preds.VertexInside = inr (inr (inr (inl refl)))
-every_predicate preds.AreaDisjoint = inr (inr (inr (inr (inl refl))))
-every_predicate preds.EdgeDisjoint = inr (inr (inr (inr (inr (inl refl)))))
-every_predicate preds.Disjoint = inr (inr (inr (inr (inr (inr (inl refl))))))
-every_predicate preds.Intersects = inr (inr (inr (inr (inr (inr (inr (inl refl)))))))
-every_predicate preds.Meets = inr (inr (inr (inr (inr (inr (inr (inr (inl refl))))))))
-every_predicate preds.Adjacent = inr (inr (inr (inr (inr (inr (inr (inr (inr (inl refl)))))))))
-every_predicate preds.Encloses = inr (inr (inr (inr (inr (inr (inr (inr (inr (inr (inl refl))))))))))
-every_predicate preds.OnBorderOf = inr (inr (inr (inr (inr (inr (inr (inr (inr (inr (inr (inl refl)))))))))))
-every_predicate preds.BorderInCommon = inr (inr (inr (inr (inr (inr (inr (inr (inr (inr (inr (inr (inl refl))))))))))))
+every_predicate preds.Equal = stands_at 0 all_predicates refl
+every_predicate preds.Inside = stands_at 1 all_predicates refl
+every_predicate preds.EdgeInside = stands_at 2 all_predicates refl
+every_predicate preds.VertexInside = stands_at 3 all_predicates refl
+every_predicate preds.AreaDisjoint = stands_at 4 all_predicates refl
+every_predicate preds.EdgeDisjoint = stands_at 5 all_predicates refl
+every_predicate preds.Disjoint = stands_at 6 all_predicates refl
+every_predicate preds.Intersects = stands_at 7 all_predicates refl
+every_predicate preds.Meets = stands_at 8 all_predicates refl
+every_predicate preds.Adjacent = stands_at 9 all_predicates refl
+every_predicate preds.Encloses = stands_at 10 all_predicates refl
+every_predicate preds.OnBorderOf = stands_at 11 all_predicates refl
+every_predicate preds.BorderInCommon = stands_at 12 all_predicates refl
 
 every_measure : (num : Num) → Member num all_measures
-every_measure nums.Area2 = inl refl
-every_measure nums.Dist2 = inr (inl refl)
-every_measure nums.Diameter2 = inr (inr (inl refl))
-every_measure nums.NoOfComponents = inr (inr (inr (inl refl)))
+every_measure nums.Area2 = stands_at 0 all_measures refl
+every_measure nums.Dist2 = stands_at 1 all_measures refl
+every_measure nums.Diameter2 = stands_at 2 all_measures refl
+every_measure nums.NoOfComponents = stands_at 3 all_measures refl
 
 every_change : (word : ChangeWord) → Member (lines.Change word) all_keywords
-every_change changes.Point = inl refl
-every_change changes.Unpoint = inr (inl refl)
-every_change changes.Segment = inr (inr (inl refl))
-every_change changes.Points = inr (inr (inr (inl refl)))
-every_change changes.Lines = inr (inr (inr (inr (inl refl))))
-every_change changes.Regions = inr (inr (inr (inr (inr (inl refl)))))
-every_change changes.Let = inr (inr (inr (inr (inr (inr (inl refl))))))
-every_change changes.Drop = inr (inr (inr (inr (inr (inr (inr (inl refl)))))))
-every_change changes.Delete = inr (inr (inr (inr (inr (inr (inr (inr (inl refl))))))))
+every_change changes.Point = stands_at 0 all_keywords refl
+every_change changes.Unpoint = stands_at 1 all_keywords refl
+every_change changes.Segment = stands_at 2 all_keywords refl
+every_change changes.Points = stands_at 3 all_keywords refl
+every_change changes.Lines = stands_at 4 all_keywords refl
+every_change changes.Regions = stands_at 5 all_keywords refl
+every_change changes.Let = stands_at 6 all_keywords refl
+every_change changes.Drop = stands_at 7 all_keywords refl
+every_change changes.Delete = stands_at 8 all_keywords refl
 
 every_query : (word : QueryWord) → Member (lines.Query word) all_keywords
-every_query queries.Realm = inr (inr (inr (inr (inr (inr (inr (inr (inr (inl refl)))))))))
-every_query queries.Show = inr (inr (inr (inr (inr (inr (inr (inr (inr (inr (inl refl))))))))))
-every_query queries.Chain = inr (inr (inr (inr (inr (inr (inr (inr (inr (inr (inr (inl refl)))))))))))
-every_query queries.Eval = inr (inr (inr (inr (inr (inr (inr (inr (inr (inr (inr (inr (inl refl))))))))))))
-every_query queries.Ask = inr (inr (inr (inr (inr (inr (inr (inr (inr (inr (inr (inr (inr (inl refl)))))))))))))
-every_query queries.Num = inr (inr (inr (inr (inr (inr (inr (inr (inr (inr (inr (inr (inr (inr (inl refl))))))))))))))
-every_query queries.Faces = inr (inr (inr (inr (inr (inr (inr (inr (inr (inr (inr (inr (inr (inr (inr (inl refl)))))))))))))))
-every_query queries.Trace = inr (inr (inr (inr (inr (inr (inr (inr (inr (inr (inr (inr (inr (inr (inr (inr (inl refl))))))))))))))))
+every_query queries.Realm = stands_at 9 all_keywords refl
+every_query queries.Show = stands_at 10 all_keywords refl
+every_query queries.Chain = stands_at 11 all_keywords refl
+every_query queries.Eval = stands_at 12 all_keywords refl
+every_query queries.Ask = stands_at 13 all_keywords refl
+every_query queries.Num = stands_at 14 all_keywords refl
+every_query queries.Faces = stands_at 15 all_keywords refl
+every_query queries.Trace = stands_at 16 all_keywords refl
 
 every_keyword : (k : Keyword) → Member k all_keywords
 every_keyword (lines.Change word) = every_change word
 every_keyword (lines.Query word) = every_query word
-every_keyword lines.Batch = inr (inr (inr (inr (inr (inr (inr (inr (inr (inr (inr (inr (inr (inr (inr (inr (inr (inl refl)))))))))))))))))
-every_keyword lines.Checkpoint = inr
-    (inr (inr (inr (inr (inr (inr (inr (inr (inr (inr (inr (inr (inr (inr (inr (inr (inr (inl refl))))))))))))))))))
+every_keyword lines.Batch = stands_at 17 all_keywords refl
+every_keyword lines.Checkpoint = stands_at 18 all_keywords refl
 
 pub operators : (line : List ℕ) → Reads (word_kind operator) line (operator_at line)
 unfolding operator_at

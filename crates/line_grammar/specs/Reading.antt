@@ -5,6 +5,8 @@ use Rattle.std.specs.Prelude.{min, Result, Ok, Err, Bool, ◌==◌, if◌then◌
 use Rattle.line_grammar.specs.declared.command.At.{At}
 use Rattle.line_grammar.specs.declared.fault.ReadError.{ReadError}
 use Rattle.line_grammar.specs.declared.fault.ReadError.TheVariants as errors
+use Rattle.line_grammar.specs.declared.tokens.Alphabet.{Alphabet}
+use Rattle.line_grammar.specs.declared.tokens.Alphabet.TheVariants.{Digit, NameByte}
 use Rattle.line_grammar.specs.Spelling.{space}
 use Rattle.line_grammar.specs.Spellable.{is_letter, is_digit, is_name_byte}
 
@@ -36,6 +38,11 @@ literal_at (w ∷ word) (b ∷ line) = if w == b then literal_at word line else 
 unfoldable pub end_at : List ℕ → Result (Unit {0}) ℕ
 end_at [] = Ok tt
 end_at (b ∷ line) = Err (suc (length line))
+
+-- whether a byte is of the alphabet
+abbrev pub test_of : Alphabet → ℕ → Bool
+test_of Digit = is_digit
+test_of NameByte = is_name_byte
 
 -- how many bytes from the front pass the test, at most `most`
 unfoldable pub run : (ℕ → Bool) → ℕ → List ℕ → ℕ

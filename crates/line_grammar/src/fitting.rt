@@ -1,7 +1,9 @@
 //! Whether a command has a text. Nothing here takes memory.
 ghost use Rattle.std.specs.Prelude.{◌≡◌, ◌↔◌, ◌<◌, IsTrue, length, true};
 ghost use Rattle.std.specs.List.{AllByRecursion};
-ghost use Rattle.line_grammar.specs.Spellable.{IsNumber, IsName, IsPoint, ArePoints, IsSecond, IsSpellableChange, IsSpellableQuery, IsSpellable, is_name_byte};
+ghost use Rattle.line_grammar.specs.Spellable.{IsNumber, IsName, IsPoint, ArePoints, IsSecond};
+ghost use Rattle.line_grammar.specs.Spellable.{IsSpellableChange, IsSpellableQuery, IsSpellable};
+ghost use Rattle.line_grammar.specs.Spellable.{is_name_byte};
 
 use crate::command::{At, Change, Command, Query};
 use crate::name::Name;
@@ -16,14 +18,15 @@ pub fn spellable(c: &Command) -> bool
     ensures { IsTrue result ↔ IsSpellable c.now }
 {
     match c {
-        Command::Change(change) => change_fits(change),
+        Command::Change(change) => spellable_change(change),
         Command::Query(query) => query_fits(query),
         Command::Batch(count) => number_fits(*count),
         Command::Checkpoint => true,
     }
 }
 
-fn change_fits(change: &Change) -> bool
+/// Whether some line stands for the change, which is so exactly where one stands for its command.
+pub fn spellable_change(change: &Change) -> bool
     ensures { IsTrue result ↔ IsSpellableChange change.now }
 {
     match change {

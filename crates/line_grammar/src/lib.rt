@@ -18,12 +18,12 @@ mod writing;
 
 pub use command::{At, Change, Command, Query};
 pub use fault::LineError;
-pub use fitting::spellable;
-pub use laws::one_command_a_text;
+pub use fitting::{spellable, spellable_change};
+pub use laws::{a_change_is_a_line, one_command_a_text};
 pub use name::Name;
 pub use path::{Path, Paths};
 pub use reading::read_line;
-pub use writing::write_line;
+pub use writing::{write_change, write_line};
 
 #[cfg(test)]
 mod tests;

@@ -29,4 +29,11 @@ impl Name {
     {
         self.text.as_str()
     }
+
+    /// Its text, given back. No memory is taken.
+    pub fn into_text(self) -> String
+        ensures { string_bytes result ≡ self }
+    {
+        self.text
+    }
 }

@@ -1,11 +1,11 @@
 //! Lines, and the places where they go wrong, worked out on paper from the grammar in
 //! `docs/formats/LINES.md`.
 use crate::{
-    At, Change, Command, LineError, Name, Path, Paths, Query, one_command_a_text, read_line,
-    spellable, write_line,
+    At, Change, Command, LineError, Name, Path, Paths, Query, a_change_is_a_line,
+    one_command_a_text, read_line, spellable, spellable_change, write_change, write_line,
 };
 use grid_base::Reply;
-use rose_values::{Num, Op, Pred};
+use rose_values::{Num, Op};
 use std::alloc::Global;
 use std::test::Fail;
 
@@ -200,57 +200,63 @@ const GOOD: [&str; 46] = [
     "checkpoint",
 ];
 
-// Where the line is refused.
-fn refused_at(alloc: Global, line: &str) -> Option<usize> {
-    match read_line(alloc, line.as_bytes()) {
-        Err(LineError::Bad { at }) => Some(at),
-        _ => None,
+// Names, and whether a line can have them.
+const TEXTS: [(&str, bool); 9] = [
+    ("p", true),
+    ("z_9", true),
+    ("abcdefghijklmnopqrstuvwxyz_01234", true),
+    ("abcdefghijklmnopqrstuvwxyz_012345", false),
+    ("", false),
+    ("P", false),
+    ("9", false),
+    ("a b", false),
+    ("a-b", false),
+];
+
+// The first line of the table that isn't refused at its place.
+fn other_place<'a>(alloc: Global, table: &[(&'a str, usize)]) -> Option<&'a str> {
+    for (line, place) in table {
+        match read_line(alloc, line.as_bytes()) {
+            Err(LineError::Bad { at }) if at == *place => (),
+            _ => return Some(*line),
+        }
     }
+    None
 }
 
 #[test]
-fn other_first_words_are_refused(rt: HostRuntime) {
-    for (line, place) in WORDS {
-        assert_eq!(rt; refused_at(rt.alloc(), line), Some(place), "{line}");
-    }
-}
-
-#[test]
-fn other_numbers_are_refused(rt: HostRuntime) {
-    for (line, place) in NUMBERS {
-        assert_eq!(rt; refused_at(rt.alloc(), line), Some(place), "{line}");
-    }
-}
-
-#[test]
-fn other_lists_are_refused(rt: HostRuntime) {
-    for (line, place) in LISTS {
-        assert_eq!(rt; refused_at(rt.alloc(), line), Some(place), "{line}");
-    }
-}
-
-#[test]
-fn other_names_are_refused(rt: HostRuntime) {
-    for (line, place) in NAMES {
-        assert_eq!(rt; refused_at(rt.alloc(), line), Some(place), "{line}");
-    }
+fn other_lines_are_refused_where_they_go_wrong(rt: HostRuntime) {
+    assert_eq!(rt; other_place(rt.alloc(), &WORDS), None);
+    assert_eq!(rt; other_place(rt.alloc(), &NUMBERS), None);
+    assert_eq!(rt; other_place(rt.alloc(), &LISTS), None);
+    assert_eq!(rt; other_place(rt.alloc(), &NAMES), None);
 }
 
 // The line of the command that the line is read as.
 fn written_again(alloc: Global, line: &str) -> Option<Reply> {
     match read_line(alloc, line.as_bytes()) {
+        Ok(Command::Change(change)) => write_change(alloc, &change).ok(),
         Ok(command) => write_line(alloc, &command).ok(),
         Err(_) => None,
     }
 }
 
-#[test]
-fn every_form_is_read_and_written(rt: HostRuntime) -> Result<(), Fail> {
-    for line in GOOD {
-        let reply = written_again(rt.alloc(), line).ok_or("refused")?;
-        assert_eq!(rt; reply.bytes(), line.as_bytes(), "{line}");
+// The first line that is written otherwise than it was read.
+fn other_line<'a>(alloc: Global, lines: &[&'a str]) -> Option<&'a str> {
+    for line in lines {
+        match written_again(alloc, line) {
+            Some(reply) if reply.bytes() == line.as_bytes() => (),
+            _ => return Some(*line),
+        }
     }
-    Ok(())
+    None
+}
+
+#[test]
+fn every_form_is_read_and_written(rt: HostRuntime) {
+    one_command_a_text();
+    a_change_is_a_line();
+    assert_eq!(rt; other_line(rt.alloc(), &GOOD), None);
 }
 
 #[test]
@@ -261,7 +267,7 @@ fn the_parts_of_a_line_are_its_command(rt: HostRuntime) -> Result<(), Fail> {
     ) else {
         return Err(Fail::new("another command"));
     };
-    assert_eq!(rt; name.text(), "r2");
+    assert_eq!(rt; name.into_text().as_str(), "r2");
     let mut paths = paths.into_paths();
     let last = paths.pop().ok_or("no list")?;
     let first = paths.pop().ok_or("one list")?;
@@ -279,60 +285,32 @@ fn name(alloc: Global, text: &str) -> Result<Name, Fail> {
     Ok(Name::new(String::from_str(alloc, text)?))
 }
 
-#[test]
-fn some_names_have_no_line(rt: HostRuntime) -> Result<(), Fail> {
-    let names = [
-        ("p", true),
-        ("z_9", true),
-        ("abcdefghijklmnopqrstuvwxyz_01234", true),
-        ("abcdefghijklmnopqrstuvwxyz_012345", false),
-        ("", false),
-        ("P", false),
-        ("9", false),
-        ("a b", false),
-        ("a-b", false),
-    ];
-    for (text, expected) in names {
-        let command = Command::Query(Query::Show(name(rt.alloc(), text)?));
-        assert_eq!(rt; spellable(&command), expected, "{text}");
+// The first name of the table for which that isn't so.
+fn other_name<'a>(alloc: Global, table: &[(&'a str, bool)]) -> Result<Option<&'a str>, Fail> {
+    for (text, expected) in table {
+        if spellable_change(&Change::Drop(name(alloc, text)?)) != *expected {
+            return Ok(Some(*text));
+        }
     }
-    Ok(())
+    Ok(None)
 }
 
 #[test]
-fn an_operator_has_as_many_names_as_it_takes(rt: HostRuntime) -> Result<(), Fail> {
+fn some_commands_have_no_line(rt: HostRuntime) -> Result<(), Fail> {
     let alloc = rt.alloc();
-    let two = [(Op::Plus, true), (Op::Contour, false)];
-    for (op, expected) in two {
-        let both = Query::Eval(op, name(alloc, "p")?, Some(name(alloc, "q")?));
-        assert_eq!(rt; spellable(&Command::Query(both)), expected);
-        let one = Query::Eval(op, name(alloc, "p")?, None);
-        assert_eq!(rt; spellable(&Command::Query(one)), !expected);
-    }
-    let one = Query::Num(Num::Dist2, name(alloc, "p")?, None);
-    assert!(rt; !spellable(&Command::Query(one)));
-    let asked = Query::Ask(Pred::Meets, name(alloc, "p")?, name(alloc, "q")?);
-    assert!(rt; spellable(&Command::Query(asked)));
-    Ok(())
-}
-
-#[test]
-fn an_empty_list_among_lists_has_no_line(rt: HostRuntime) -> Result<(), Fail> {
-    let alloc = rt.alloc();
-    let none = Change::Lines(name(alloc, "l")?, Paths::new(Vec::new(alloc)));
-    assert!(rt; spellable(&Command::Change(none)));
-    let mut paths = Vec::new(alloc);
-    paths.push(Path::new(Vec::new(alloc)))?;
-    let empty = Change::Lines(name(alloc, "l")?, Paths::new(paths));
-    assert!(rt; !spellable(&Command::Change(empty)));
-    Ok(())
-}
-
-#[test]
-fn numbers_of_20_digits_have_no_line(rt: HostRuntime) {
+    assert_eq!(rt; other_name(alloc, &TEXTS)?, None);
     assert!(rt; spellable(&Command::Batch(9_999_999_999_999_999_999)));
     assert!(rt; !spellable(&Command::Batch(10_000_000_000_000_000_000)));
-    one_command_a_text();
+    let two = Query::Eval(Op::Contour, name(alloc, "p")?, Some(name(alloc, "q")?));
+    assert!(rt; !spellable(&Command::Query(two)));
+    let one = Query::Num(Num::Dist2, name(alloc, "p")?, None);
+    assert!(rt; !spellable(&Command::Query(one)));
+    let none = Change::Lines(name(alloc, "l")?, Paths::new(Vec::new(alloc)));
+    assert!(rt; spellable_change(&none));
+    let paths = vec![in alloc; Path::new(Vec::new(alloc))]?;
+    let empty = Change::Lines(name(alloc, "l")?, Paths::new(paths));
+    assert!(rt; !spellable_change(&empty));
+    Ok(())
 }
 
 // A line of a million bytes, with 250,000 places.

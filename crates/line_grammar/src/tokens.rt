@@ -4,7 +4,9 @@ ghost use Rattle.std.specs.Prelude.{◌≡◌, ◌≤◌, ◌<◌, ◌^◌, leng
 ghost use Rattle.std.specs.List.{AllByRecursion};
 ghost use Rattle.line_grammar.specs.declared.fault.ReadError.TheVariants.{NoMemory};
 ghost use Rattle.line_grammar.specs.Spellable.{is_letter, is_digit, is_name_byte};
-ghost use Rattle.line_grammar.specs.Reading.{Gives, literal_at, end_at, run, value_from, number_at, name_at, point_at, led_point_at, led_name_at};
+ghost use Rattle.line_grammar.specs.Reading.{Gives, literal_at, end_at, test_of, run, value_from};
+ghost use Rattle.line_grammar.specs.Reading.{number_at, name_at, point_at, led_point_at};
+ghost use Rattle.line_grammar.specs.Reading.{led_name_at};
 
 use crate::command::At;
 use crate::fault::ReadError;
@@ -59,20 +61,44 @@ fn name_byte(b: u8) -> bool
     letter(b) || digit(b) || b == b'_'
 }
 
+// What the bytes of a token may be.
+#[derive(Clone, Copy)]
+pub enum Alphabet {
+    Digit,
+    NameByte,
+}
+
+fn is_of(alphabet: Alphabet, b: u8) -> bool
+    ensures { result ≡ test_of alphabet b }
+{
+    match alphabet {
+        Alphabet::Digit => digit(b),
+        Alphabet::NameByte => name_byte(b),
+    }
+}
+
+// How many bytes from the front are of the alphabet, `most` at most.
+fn run_of(alphabet: Alphabet, most: usize, line: &[u8]) -> usize
+    ensures run { result ≡ run (test_of alphabet) most line.now }
+    ensures within { result ≤ length line.now }
+{
+    for (i, b) in line.iter().enumerate() {
+        if i >= most {
+            return i;
+        }
+        if !is_of(alphabet, *b) {
+            return i;
+        }
+    }
+    line.len()
+}
+
 // How many digits are at the front, 19 at most.
 fn digits(line: &[u8]) -> usize
     ensures run { result ≡ run is_digit 19 line.now }
     ensures within { result ≤ length line.now }
 {
-    for (i, b) in line.iter().enumerate() {
-        if i >= 19 {
-            return i;
-        }
-        if !digit(*b) {
-            return i;
-        }
-    }
-    line.len()
+    run_of(Alphabet::Digit, 19, line)
 }
 
 /// How many bytes of a name are at the front, 32 at most.
@@ -80,15 +106,7 @@ pub(crate) fn name_bytes(line: &[u8]) -> usize
     ensures run { result ≡ run is_name_byte 32 line.now }
     ensures within { result ≤ length line.now }
 {
-    for (i, b) in line.iter().enumerate() {
-        if i >= 32 {
-            return i;
-        }
-        if !name_byte(*b) {
-            return i;
-        }
-    }
-    line.len()
+    run_of(Alphabet::NameByte, 32, line)
 }
 
 // The number that at most 19 digits stand for.

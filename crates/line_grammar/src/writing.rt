@@ -3,8 +3,9 @@ ghost use Rattle.std.specs.Prelude.{◌≡◌, ◌++◌, IfOk, OnOk, string_byte
 ghost use Rattle.std.specs.Fmt.{decimal};
 ghost use Rattle.std.specs.List.{flat_map};
 ghost use Rattle.line_grammar.specs.Words.{operator, predicate, measure};
-ghost use Rattle.line_grammar.specs.Spelling.{point, led_point, points, next_list, lists, led_name, second, change_text, query_text, text_of};
-ghost use Rattle.line_grammar.specs.Spellable.{IsSpellable};
+ghost use Rattle.line_grammar.specs.Spelling.{point, led_point, points, next_list, lists, led_name};
+ghost use Rattle.line_grammar.specs.Spelling.{second, change_text, query_text, text_of};
+ghost use Rattle.line_grammar.specs.Spellable.{IsSpellable, IsSpellableChange};
 
 use crate::command::{At, Change, Command, Query};
 use crate::name::Name;
@@ -19,19 +20,23 @@ pub fn write_line(alloc: Global, c: &Command) -> Result<Reply, NoMemory>
     ensures { IfOk result (λ reply. reply ≡ text_of c.now) }
 {
     let mut text = String::new(alloc);
-    push_command(&mut text, c)?;
+    match c {
+        Command::Change(change) => return write_change(alloc, change),
+        Command::Query(query) => push_query(&mut text, query)?,
+        Command::Batch(count) => push_number(&mut text, "batch ", *count)?,
+        Command::Checkpoint => text.push_str("checkpoint")?,
+    }
     Ok(Reply::new(text.into_bytes()))
 }
 
-fn push_command(text: &mut String, c: &Command) -> Result<(), AllocError>
-    ensures { OnOk result (string_bytes text.new ≡ string_bytes text.old ++ text_of c.now) }
+/// The one text of the change, which is that of its command.
+pub fn write_change(alloc: Global, change: &Change) -> Result<Reply, NoMemory>
+    requires { IsSpellableChange change.now }
+    ensures { IfOk result (λ reply. reply ≡ change_text change.now) }
 {
-    match c {
-        Command::Change(change) => push_change(text, change),
-        Command::Query(query) => push_query(text, query),
-        Command::Batch(count) => push_number(text, "batch ", *count),
-        Command::Checkpoint => text.push_str("checkpoint"),
-    }
+    let mut text = String::new(alloc);
+    push_change(&mut text, change)?;
+    Ok(Reply::new(text.into_bytes()))
 }
 
 fn push_change(text: &mut String, change: &Change) -> Result<(), AllocError>
