@@ -11,7 +11,7 @@ use Rattle.indexmap.proofs.CallerLemmas.{insert_entry-new}
 use Rattle.value_table.specs.declared.value.Value.{Value}
 use Rattle.value_table.specs.Table.{NamedValues, value_named, IsNamed}
 use Rattle.value_table.specs.Kept.{named, seen_of}
-use Rattle.value_table.specs.Uses.{uses_in}
+use Rattle.value_table.specs.Users.{users_in}
 use Rattle.value_table.proofs.Tables.{lookup-seen}
 use Rattle.value_table.proofs.Counts.{count_push, count_removed}
 
@@ -44,25 +44,25 @@ seen_defined values room after table name s v view same never stays put =
 module _ {K S Y : Type 0} (eq : K → K → Bool) (q : K) (passes : Value → Bool) (v : Value) (es : List (String Y × Value)) where
   -- a value came, and what it names is used once more
   pub counted_more : (old mid new : HashMap K ℕ S) (name : List ℕ) (table : NamedValues)
-      → uses_in eq old q ≡ count_by passes (values_of (seen_of es))
-      → uses_in eq mid q ≡ uses_in eq old q
-      → uses_in eq new q ≡ uses_in eq mid q + cond (passes v) 1 0
+      → users_in eq old q ≡ count_by passes (values_of (seen_of es))
+      → users_in eq mid q ≡ users_in eq old q
+      → users_in eq new q ≡ users_in eq mid q + cond (passes v) 1 0
       → table ≡ seen_of es ++ (name, v) ∷ []
-      → uses_in eq new q ≡ count_by passes (values_of table)
+      → users_in eq new q ≡ count_by passes (values_of table)
   counted_more old mid new name table counted stays more push =
       let pushed = ap (λ t. count_by passes (values_of t)) push ∙ count_push passes (seen_of es) name v in
       omega (arith, counted, stays, more, pushed)
 
   -- a value went, and what it names is used once less
   pub counted_fewer : (old new : HashMap K ℕ S) (test : String Y → Bool)
-      → uses_in eq old q ≡ count_by passes (values_of (seen_of es))
+      → users_in eq old q ≡ count_by passes (values_of (seen_of es))
       → lookup test es ≡ Some v
-      → uses_in eq new q + cond (passes v) 1 0 ≡ uses_in eq old q
-      → uses_in eq new q ≡ count_by passes (values_of (seen_of (remove_entry test es)))
+      → users_in eq new q + cond (passes v) 1 0 ≡ users_in eq old q
+      → users_in eq new q ≡ count_by passes (values_of (seen_of (remove_entry test es)))
   counted_fewer old new test counted there fewer = omega (arith, counted, fewer, count_removed passes test es v there)
 
   -- a value that is there uses what it names
   pub counted_enough : (old : HashMap K ℕ S) (test : String Y → Bool)
-      → uses_in eq old q ≡ count_by passes (values_of (seen_of es))
-      → lookup test es ≡ Some v → cond (passes v) 1 0 ≤ uses_in eq old q
+      → users_in eq old q ≡ count_by passes (values_of (seen_of es))
+      → lookup test es ≡ Some v → cond (passes v) 1 0 ≤ users_in eq old q
   counted_enough old test counted there = omega (arith, counted, count_removed passes test es v there)

@@ -1,6 +1,6 @@
 -- This file shows how counts change with a value, whose parts name each key at most once.
 use Rattle.std.proofs.Common.{◌≡◌, ℕ, ◌+◌, ◌<◌, ◌≤◌, ◌^◌, Bool, true, false, cond, refl, ap, ◌∙◌, arith}
-use Rattle.std.proofs.Common.{List, [], ◌∷◌, ◌++◌, All, AllPairs, suc, length, nat_eq, String, Some, count_by}
+use Rattle.std.proofs.Common.{List, [], ◌∷◌, ◌++◌, All, AllPairs, suc, nat_eq, String, Some, count_by}
 use Rattle.std.specs.List.{list_any}
 use Rattle.std.specs.Cmp.{IsEquivalence}
 use Rattle.std.proofs.lemmas.List.Elements.{All-head, All-tail}
@@ -8,16 +8,16 @@ use Rattle.std.proofs.lemmas.List.{map-append}
 use Rattle.std.proofs.lemmas.List.Sums.{sum_by-cons}
 use Rattle.std.specs.Map.{lookup, values_of, remove_entry}
 use Rattle.std.specs.Cmp.{nat_eq_equiv}
-use Rattle.std.proofs.lemmas.Cmp.{on_equiv, and_equiv}
 use Rattle.std.proofs.lemmas.Bool.Decides.{nat_tests}
-use Rattle.std.proofs.lemmas.List.Sums.{sum_by_push, count_by-le-length}
-use Rattle.std.proofs.lemmas.Map.Entries.{length-values_of, sum_by-remove_entry}
+use Rattle.std.proofs.lemmas.List.Sums.{sum_by_push}
+use Rattle.std.proofs.lemmas.Map.Entries.{sum_by-remove_entry}
 use Rattle.grid_base.specs.Point.{GridPoint, IsBefore, is_point}
+use Rattle.grid_base.proofs.Orders.{is_point-equiv}
 use Rattle.value_table.specs.declared.value.Value.{Value}
 use Rattle.value_table.specs.Value.{ids_among, points_among, names_id, names_point}
 use Rattle.value_table.specs.Table.{NamedValues}
 use Rattle.value_table.specs.Kept.{seen_of}
-use Rattle.value_table.specs.Uses.{times_among}
+use Rattle.value_table.specs.Users.{times_among}
 use Rattle.value_table.proofs.Tables.{values-seen}
 
 module _ {K : Type 0} {eq : K → K → Bool} (laws : IsEquivalence eq) (B : K → K → Type 0)
@@ -67,9 +67,6 @@ nat_apart m n before = grind (arith, nat_tests)
 pub point_apart : (p q : GridPoint) → IsBefore p q → is_point p q ≡ false
 point_apart p q before = grind (arith, nat_tests)
 
-pub is_point-equiv : IsEquivalence is_point
-is_point-equiv = and_equiv (on_equiv (λ p. p.x) nat_eq_equiv) (on_equiv (λ p. p.y) nat_eq_equiv)
-
 -- how often an id stands among the ids of a value
 pub id_times : (v : Value) (ids : List ℕ) → ids ≡ ids_among v.parts → AllPairs (λ m n. m < n) ids
     → (id : ℕ) → times_among nat_eq ids id ≡ cond (names_id id v) 1 0
@@ -82,12 +79,6 @@ pub point_times : (v : Value) (points : List GridPoint) → points ≡ points_am
 point_times v points are ascending p =
     times_once is_point-equiv IsBefore point_apart points ascending p
     ∙ ap (λ xs. cond (list_any (is_point p) xs) 1 0) are
-
--- a count that is at most the number of values
-pub count_small : {Y : Type 0} (passes : Value → Bool) (es : List (String Y × Value))
-    → count_by passes (values_of (seen_of es)) ≤ length es
-count_small passes es =
-    rw values-seen (omega (arith, count_by-le-length passes (values_of es), length-values_of es))
 
 -- one more value
 pub count_push : (passes : Value → Bool) (table : NamedValues) (name : List ℕ) (v : Value)

@@ -9,16 +9,21 @@ use Rattle.std.proofs.lemmas.Option.{slice_get-map}
 use Rattle.std.proofs.lemmas.Slice.Eq.{bytes_eq-Decides}
 use Rattle.std.proofs.lemmas.Map.Made.{AllPairs-from_IsDistinct}
 use Rattle.value_table.specs.declared.value.Value.{Value}
-use Rattle.value_table.specs.Table.{without, HasDistinctNames}
+use Rattle.value_table.specs.Table.{NamedValues, value_named, without, HasDistinctNames}
 use Rattle.value_table.specs.Kept.{seen_of}
 
 module _ {Y : Type 0} where
-  -- a look-up by name finds what a look-up by the name's bytes does
+  -- a look-up by the bytes of a name finds what a look-up among the entries does
   pub lookup-seen : (name : List ℕ) (es : List (String Y × Value))
       → lookup (bytes_eq name) (seen_of es) ≡ lookup (λ k. bytes_eq name (string_bytes k)) es
   lookup-seen name [] = refl
   lookup-seen name (e ∷ es) =
       ap (λ rest. cond (bytes_eq name (string_bytes e.0)) (Some e.1) rest) (lookup-seen name es)
+
+  -- so the value with a name is the one that the map finds
+  pub value_named-seen : (name : List ℕ) (es : List (String Y × Value)) (table : NamedValues) → seen_of es ≡ table
+      → lookup (λ k. bytes_eq name (string_bytes k)) es ≡ value_named name table
+  value_named-seen name es table view = sym (lookup-seen name es) ∙ ap (value_named name) view
 
   -- the values are the same
   pub values-seen : (es : List (String Y × Value)) → values_of (seen_of es) ≡ values_of es
@@ -55,7 +60,7 @@ module _ {Y : Type 0} where
       rw other (ap (λ rest. (string_bytes e.0, e.1) ∷ rest) (apart name x same es later.1))
 
   -- the entries without the first of a name are those without the name
-  pub without-seen : (name : List ℕ) (es : List (String Y × Value)) → IsDistinct string_eq (keys_of es)
+  without-seen : (name : List ℕ) (es : List (String Y × Value)) → IsDistinct string_eq (keys_of es)
       → seen_of (remove_entry (λ k. bytes_eq name (string_bytes k)) es) ≡ without name (seen_of es)
   unfolding IsDistinct
   without-seen name [] distinct = refl
@@ -82,3 +87,9 @@ module _ {Y : Type 0} where
   distinct-seen es distinct =
       subst (AllPairs (λ name other. name ≢ other)) (sym (keys-seen es))
       (AllPairs-from_IsDistinct bytes_eq-Decides _ (bytes_distinct (keys_of es) distinct))
+
+  -- a map that lost the name's entry is seen without the name
+  pub seen_without : (name : List ℕ) (es after : List (String Y × Value)) (table : NamedValues) → IsDistinct string_eq (keys_of es)
+      → seen_of es ≡ table → after ≡ remove_entry (λ k. bytes_eq name (string_bytes k)) es → seen_of after ≡ without name table
+  seen_without name es after table distinct view removed =
+      ap seen_of removed ∙ without-seen name es distinct ∙ ap (without name) view

@@ -6,7 +6,7 @@ use Rattle.std.specs.HashMap.{HashMap, IsUnique}
 use Rattle.grid_base.specs.Point.{GridPoint, is_point}
 use Rattle.value_table.specs.declared.value.Value.{Value}
 use Rattle.value_table.specs.Table.{NamedValues, users_of, users_of_point}
-use Rattle.value_table.specs.Uses.{uses_in}
+use Rattle.value_table.specs.Users.{users_in}
 
 -- an entry, with the bytes of its name
 abbrev pub named : {Y : Type 0} → String Y × Value → List ℕ × Value
@@ -20,5 +20,6 @@ seen_of entries = map named entries
 pub record IsKept {Y R S T : Type 0} (values : HashMap (String Y) Value R) (ids : HashMap ℕ ℕ S)
     (points : HashMap GridPoint ℕ T) : Type 0 where
   pub distinct : IsUnique string_eq values
-  pub ids_counted : (id : ℕ) → uses_in nat_eq ids id ≡ users_of (seen_of values.entries) id
-  pub points_counted : (p : GridPoint) → uses_in is_point points p ≡ users_of_point (seen_of values.entries) p
+  pub ids_counted : (id : ℕ) → users_in nat_eq ids id ≡ users_of (seen_of values.entries) id
+  pub points_counted : (p : GridPoint)
+      → users_in is_point points p ≡ users_of_point (seen_of values.entries) p

@@ -6,7 +6,6 @@ mod table;
 #[cfg(test)]
 mod tests;
 mod users;
-mod uses;
 mod value;
 
 pub use table::{Table, TableError};

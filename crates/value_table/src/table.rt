@@ -7,8 +7,8 @@ ghost use Rattle.std.specs.Map.{keys_of};
 ghost use Rattle.value_table.specs.Table.{value_named, IsNamed, without, HasDistinctNames};
 ghost use Rattle.value_table.specs.Table.{users_of, users_of_point};
 
+use crate::users;
 use crate::value::Value;
-use crate::{users, uses};
 use grid_base::{NoMemory, Point};
 use indexmap::IndexMap;
 use std::alloc::Global;
@@ -142,13 +142,13 @@ impl Table {
     pub fn users_of(&self, id: u32) -> u64
         ensures { result ≡ users_of self.now id }
     {
-        uses::uses_of(&self.ids, &id)
+        users::count_of(&self.ids, &id)
     }
 
     /// How many values name the point among their parts.
     pub fn users_of_point(&self, p: &Point) -> u64
         ensures { result ≡ users_of_point self.now p.now }
     {
-        uses::uses_of(&self.points, p)
+        users::count_of(&self.points, p)
     }
 }

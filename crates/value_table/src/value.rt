@@ -39,6 +39,14 @@ impl IdList {
     {
         self.list.as_slice()
     }
+
+    /// Its ids, ascending, given back. No memory is taken.
+    pub fn into_ids(self) -> Vec<u32>
+        ensures ids { result.items ≡ self }
+        ensures ascending { AllPairs (λ m n. m < n) result.items }
+    {
+        self.list
+    }
 }
 
 /// What a value is made of: explicit points, or originals by their ids.

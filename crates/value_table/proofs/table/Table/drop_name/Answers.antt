@@ -3,10 +3,10 @@ use Rattle.std.specs.Str.{bytes_eq}
 use Rattle.std.specs.String.{string_bytes}
 use Rattle.grid_base.specs.Point.{is_point}
 use Rattle.value_table.specs.Value.{names_id, names_point}
-use Rattle.value_table.specs.Table.{value_named, without, users_of, users_of_point}
+use Rattle.value_table.specs.Table.{users_of, users_of_point}
 use Rattle.value_table.specs.Kept.{seen_of}
-use Rattle.value_table.specs.Uses.{uses_in}
-use Rattle.value_table.proofs.Tables.{lookup-seen, without-seen}
+use Rattle.value_table.specs.Users.{users_in}
+use Rattle.value_table.proofs.Tables.{value_named-seen, seen_without}
 use Rattle.value_table.proofs.Changes.{counted_enough, counted_fewer}
 use Rattle.value_table.proofs.table.Table.drop_name.Goals as goal
 
@@ -34,38 +34,32 @@ invariant_of-self c =
       ids_counted = λ id.
           let fewer = counted_fewer nat_eq id (names_id id) c.in-Some.v es inside.ids c.forget.new.ids
           (λ k. bytes_eq c.args.name.now (string_bytes k)) (c.self.invariant.ids_counted id) there (c.forget.ensures.ids id) in
-          subst (λ fs. uses_in nat_eq c.forget.new.ids id ≡ users_of (seen_of fs) id) (sym c.in-Some.ensures.entries) fewer;
+          subst (λ fs. users_in nat_eq c.forget.new.ids id ≡ users_of (seen_of fs) id) (sym c.in-Some.ensures.entries) fewer;
       points_counted = λ p.
           let fewer = counted_fewer is_point p (names_point p) c.in-Some.v es inside.points c.forget.new.points
           (λ k. bytes_eq c.args.name.now (string_bytes k)) (c.self.invariant.points_counted p) there (c.forget.ensures.points p) in
-          subst (λ fs. uses_in is_point c.forget.new.points p ≡ users_of_point (seen_of fs) p) (sym c.in-Some.ensures.entries) fewer;
+          subst (λ fs. users_in is_point c.forget.new.points p ≡ users_of_point (seen_of fs) p) (sym c.in-Some.ensures.entries) fewer;
     }
 
 -- the name was there where its value came out
 pub returns-in-Some-clause-found : goal.returns-in-Some-clause-found
 returns-in-Some-clause-found c =
-    let name = c.args.name.now in
-    let seen = ap (value_named name) (sym c.self.view_is) ∙ lookup-seen name c.self.inside.values.entries in
-    (λ _. ap is_some (seen ∙ sym c.in-Some.ensures.value), λ _. refl)
+    let seen = value_named-seen c.args.name.now c.self.inside.values.entries c.args.self.now c.self.view_is in
+    (λ _. ap is_some (sym seen ∙ sym c.in-Some.ensures.value), λ _. refl)
 
 pub returns-in-None-clause-found : goal.returns-in-None-clause-found
 returns-in-None-clause-found c =
-    let name = c.args.name.now in
-    let seen = ap (value_named name) (sym c.self.view_is) ∙ lookup-seen name c.self.inside.values.entries in
-    let none = ap is_some (seen ∙ sym c.in-None.ensures.value) in
+    let seen = value_named-seen c.args.name.now c.self.inside.values.entries c.args.self.now c.self.view_is in
+    let none = ap is_some (sym seen ∙ sym c.in-None.ensures.value) in
     (λ never. cc, λ there. sym none ∙ there)
 
 -- the map keeps the order of the others
 pub returns-in-Some-clause-others : goal.returns-in-Some-clause-others
 returns-in-Some-clause-others c =
-    let name = c.args.name.now in
-    ap seen_of c.in-Some.ensures.entries
-    ∙ without-seen name c.self.inside.values.entries c.self.invariant.distinct
-    ∙ ap (without name) c.self.view_is
+    seen_without c.args.name.now c.self.inside.values.entries _ c.args.self.now c.self.invariant.distinct c.self.view_is
+    c.in-Some.ensures.entries
 
 pub returns-in-None-clause-others : goal.returns-in-None-clause-others
 returns-in-None-clause-others c =
-    let name = c.args.name.now in
-    ap seen_of c.in-None.ensures.entries
-    ∙ without-seen name c.self.inside.values.entries c.self.invariant.distinct
-    ∙ ap (without name) c.self.view_is
+    seen_without c.args.name.now c.self.inside.values.entries _ c.args.self.now c.self.invariant.distinct c.self.view_is
+    c.in-None.ensures.entries

@@ -6,4 +6,4 @@ use Rattle.value_table.proofs.table.Table.users_of_point.Goals as goal
 pub returns : goal.returns
 returns c =
     let p = c.args.p.now in
-    c.uses_of.ensures ∙ c.self.invariant.points_counted p ∙ ap (λ table. users_of_point table p) c.self.view_is
+    c.count_of.ensures ∙ c.self.invariant.points_counted p ∙ ap (λ table. users_of_point table p) c.self.view_is

@@ -1,4 +1,4 @@
--- Counts of uses: a map from keys to how often each is used. No public clause cites this file.
+-- Counts of users: a map from keys to how many values name each. No public clause cites this file.
 use Rattle.std.specs.Prelude.{ℕ, ◌≤◌, length, Bool, List, count_by}
 use Rattle.std.specs.Map.{count_at}
 use Rattle.std.specs.HashMap.{HashMap, spare}
@@ -12,9 +12,9 @@ abbrev pub times_among : {K : Type 0} → (K → K → Bool) → List K → K �
 times_among eq keys q = count_by (eq q) keys
 
 module _ {K S : Type 0} (eq : K → K → Bool) where
-  -- how often q is used, and 0 where the map hasn't it
-  abbrev pub uses_in : HashMap K ℕ S → K → ℕ
-  uses_in counts q = count_at (hash.get eq counts) q
+  -- how many users q has, and 0 where the map hasn't it
+  abbrev pub users_in : HashMap K ℕ S → K → ℕ
+  users_in counts q = count_at (hash.get eq counts) q
 
 -- there is room for a count of each id and of each point that v names
 pub record HasRoom {S T : Type 0} (ids : HashMap ℕ ℕ S) (points : HashMap GridPoint ℕ T) (v : Value)

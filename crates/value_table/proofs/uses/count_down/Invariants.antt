@@ -1,9 +1,0 @@
-use Rattle.std.proofs.Common.{◌≡◌, ◌+◌, take}
-use Rattle.value_table.specs.Uses.{uses_in, times_among}
-use Rattle.value_table.proofs.uses.count_down.Given as goal
-
--- the keys so far are no longer counted
-abbrev pub invariant-loop-key : goal.invariant-loop-key
-invariant-loop-key g l = (q : _)
-    → uses_in g.K.PartialEq.eq l.counts q + times_among g.K.PartialEq.eq (take l.key-index l.keys) q
-    ≡ uses_in g.K.PartialEq.eq l.fn.counts q
