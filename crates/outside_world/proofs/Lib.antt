@@ -8,3 +8,7 @@ pub mod FieldEvents
 pub mod NotedFields
 -- the numbers of the calls that fail
 pub mod FailingNumbers
+-- how runs of calls go on
+pub mod Moments
+-- and what holds over any calls
+pub mod GoingOn

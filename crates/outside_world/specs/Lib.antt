@@ -6,6 +6,8 @@ pub mod View
 pub mod Calls
 -- what came to be over many calls
 pub mod Since
+-- what holds over any calls
+pub mod GoesOn
 -- what a list of calls tells
 pub mod Events
 -- the laws of that

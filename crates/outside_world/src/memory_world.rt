@@ -2,7 +2,7 @@
 ghost use Rattle.std.specs.Prelude.{◌≡◌, ◌≤◌, ◌<◌, ◌+◌, length, take, min, refl, IfOk, OnOk, OnErr};
 ghost use Rattle.std.specs.FinSet as set;
 ghost use Rattle.outside_world.specs.Calls.{Took, Gave};
-ghost use Rattle.outside_world.specs.Counts.{Rose, KeepsCounts};
+ghost use Rattle.outside_world.specs.Counts.{Rose};
 ghost use Rattle.outside_world.specs.Events.{Taken, Given, Looked};
 ghost use Rattle.outside_world.specs.Memory.{file_of, memory_view, fresh, Takes, Gives};
 ghost use Rattle.outside_world.specs.Memory.{with_call, with_source_fault, with_sink_fault};
@@ -108,8 +108,8 @@ impl Outside for MemoryWorld {
     fn take(&mut self, buf: &mut [u8]) -> Result<usize, Failed>
         ensures within { IfOk result (λ n. n ≤ length buf.old) }
         ensures takes { Takes self.old self.new buf.new result }
-        ensures later { KeepsCounts self.old.source_faults self.new.source_faults
-            self.old.sink_faults self.new.sink_faults }
+        ensures later { self.old.source_faults ≤ self.new.source_faults }
+        ensures others { self.new.sink_faults ≡ self.old.sink_faults }
         ensures source_fault { OnErr result (Rose self.old.source_faults self.new.source_faults) }
         ensures told { Took (memory_view self.old) (memory_view self.new) buf.new result }
     {
@@ -133,8 +133,8 @@ impl Outside for MemoryWorld {
         ensures within { IfOk result (λ n. n ≤ length bytes.now) }
         ensures progress { IfOk result (λ n. 0 < length bytes.now → 0 < n) }
         ensures gives { Gives self.old self.new bytes.now result }
-        ensures later { KeepsCounts self.old.source_faults self.new.source_faults
-            self.old.sink_faults self.new.sink_faults }
+        ensures later { self.old.sink_faults ≤ self.new.sink_faults }
+        ensures others { self.new.source_faults ≡ self.old.source_faults }
         ensures sink_fault { OnErr result (Rose self.old.sink_faults self.new.sink_faults) }
         ensures told { Gave (memory_view self.old) (memory_view self.new) bytes.now result }
     {

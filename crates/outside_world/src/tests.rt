@@ -13,6 +13,10 @@ enum Step {
 
 #[test]
 fn calls_move_bytes_and_fail_by_their_numbers(rt: HostRuntime) -> Result<(), Fail> {
+    let alloc = rt.alloc();
+    let input = b"abcdef".to_vec(alloc)?;
+    let failing = vec![in alloc; 7, 2, 7]?;
+    let mut world = MemoryWorld::new(alloc, input, Vec::new(alloc), Vec::new(alloc), failing)?;
     let steps = [
         Step::Take(4, Some(b"abcd")),
         Step::Take(4, None),
@@ -24,10 +28,6 @@ fn calls_move_bytes_and_fail_by_their_numbers(rt: HostRuntime) -> Result<(), Fai
         Step::Give(b"", Some(0)),
         Step::Give(b"zw", Some(2)),
     ];
-    let alloc = rt.alloc();
-    let input = b"abcdef".to_vec(alloc)?;
-    let failing = vec![in alloc; 7, 2, 7]?;
-    let mut world = MemoryWorld::new(alloc, input, Vec::new(alloc), Vec::new(alloc), failing)?;
     let mut buf = [0; 4];
     for (place, step) in steps.iter().enumerate() {
         match *step {

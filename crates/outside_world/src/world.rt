@@ -1,6 +1,6 @@
 //! What the store asks of the world outside: the next bytes of its input, and room for its output.
 ghost use Rattle.std.specs.Prelude.{◌≡◌, ◌≤◌, ◌<◌, ℕ, length, IfOk, OnErr};
-ghost use Rattle.outside_world.specs.Counts.{Rose, KeepsCounts};
+ghost use Rattle.outside_world.specs.Counts.{Rose};
 ghost use Rattle.outside_world.specs.View.{View, Asked, Moment, MayLeave};
 ghost use Rattle.outside_world.specs.Calls.{Took, Gave};
 ghost use Rattle.outside_world.specs.declared.world.FileName.{FileName};
@@ -35,8 +35,8 @@ pub trait Outside {
     /// is over.
     fn take(&mut self, buf: &mut [u8]) -> Result<usize, Failed>
         ensures within { IfOk result (λ n. n ≤ length buf.old) }
-        ensures later { KeepsCounts (source_faults self.old) (source_faults self.new)
-            (sink_faults self.old) (sink_faults self.new) }
+        ensures later { source_faults self.old ≤ source_faults self.new }
+        ensures others { sink_faults self.new ≡ sink_faults self.old }
         ensures source_fault { OnErr result (Rose (source_faults self.old) (source_faults self.new)) }
         ensures still { tells self.new → tells self.old }
         ensures told { tells self.new → Took (view self.old) (view self.new) buf.new result };
@@ -46,8 +46,8 @@ pub trait Outside {
     fn give(&mut self, bytes: &[u8]) -> Result<usize, Failed>
         ensures within { IfOk result (λ n. n ≤ length bytes.now) }
         ensures progress { IfOk result (λ n. 0 < length bytes.now → 0 < n) }
-        ensures later { KeepsCounts (source_faults self.old) (source_faults self.new)
-            (sink_faults self.old) (sink_faults self.new) }
+        ensures later { sink_faults self.old ≤ sink_faults self.new }
+        ensures others { source_faults self.new ≡ source_faults self.old }
         ensures sink_fault { OnErr result (Rose (sink_faults self.old) (sink_faults self.new)) }
         ensures still { tells self.new → tells self.old }
         ensures told { tells self.new → Gave (view self.old) (view self.new) bytes.now result };

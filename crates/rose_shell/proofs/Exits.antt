@@ -1,5 +1,5 @@
 -- This file shows what the loop has done where it ends.
-use Rattle.std.proofs.Common.{◌≡◌, ◌≢◌, ℕ, ◌<◌, ◌≤◌, List, [], ◌++◌, length, take}
+use Rattle.std.proofs.Common.{◌≡◌, ◌≢◌, ◌⊎◌, inl, inr, ⊎_elim, ℕ, ◌<◌, ◌≤◌, List, [], ◌++◌, length, take}
 use Rattle.std.proofs.Common.{refl, sym, ◌∙◌, ap, subst, arith, append_assoc, length-append}
 use Rattle.std.proofs.lemmas.List.{append-nil, length-take}
 use Rattle.std.specs.Prelude.{Ok, Err}
@@ -39,6 +39,12 @@ halt_is_no_limit : (h : Halt) → status_at h ≢ InputLimit
 halt_is_no_limit halts.Sink is = cc
 halt_is_no_limit halts.NoMemory is = cc
 
+-- a take of no byte into a buffer with room finds the input at its end
+input_ended : {mid between : View} {buf : List ℕ} {n : ℕ} → Took mid between buf (Ok n) → n ≡ 0 → 0 < length buf
+    → between.left ≡ []
+input_ended {between = between} {buf} call none wide =
+    ap (λ (k : ℕ). take k buf ++ between.left) (sym none) ∙ sym call.moved.left ∙ call.ended none wide
+
 module _ {S : Type 0} {answers : Answers S} {stands : Stands S} where
   -- the source fails when all whole lines were answered
   source_failed : {old new : View} {start end : S} {bytes : List ℕ} {budget : ℕ} → Ahead answers stands old new start end bytes []
@@ -52,6 +58,7 @@ module _ {S : Type 0} {answers : Answers S} {stands : Stands S} where
     taken = ahead.taken ∙ ap (λ (l : List ℕ). old.taken ++ l) (append-nil bytes);
     is_run = ahead.made.is_run;
     of_lines = ap (λ (l : List (List ℕ)). l ++ last_line (part_from [] bytes)) ahead.of_lines;
+    whole = inr ([], append-nil (lines_of ahead.turns) ∙ ahead.of_lines);
     given = append-nil new.given ∙ ahead.made.given;
     ends = λ _. ahead.made.ends;
     asked = ahead.asked;
@@ -82,6 +89,7 @@ module _ {S : Type 0} {answers : Answers S} {stands : Stands S} where
         of_lines = ap (λ (l : List (List ℕ)). l ++ (rest ++ part)) ahead.of_lines
             ∙ sym (append_assoc (whole_lines bytes) rest part)
             ∙ ap (λ (l : List (List ℕ)). l ++ part) (sym (lines_from-append [] bytes more));
+        whole = inr (rest, ap (λ (l : List (List ℕ)). l ++ rest) ahead.of_lines ∙ sym (lines_from-append [] bytes more));
         given = append-nil new.given ∙ ahead.made.given;
         ends = λ _. ahead.made.ends;
         asked = ahead.asked;
@@ -112,6 +120,7 @@ module _ {S : Type 0} {answers : Answers S} {stands : Stands S} where
         is_run = run_then ahead.made us went.is_run;
         of_lines = append-nil (lines_of (ahead.turns ++ us)) ∙ lines_then ahead went.takes us
             ∙ ap (λ (l : List (List ℕ)). whole_lines bytes ++ l) went.of_lines;
+        whole = inl (went.takes.left ∙ none);
         given = append-nil new.given ∙ went.given ∙ replies_then ahead.made us;
         ends = λ _. went.ends ∙ ends_then ahead.made us;
         asked = asked_then ahead went.takes us;
@@ -125,13 +134,18 @@ module _ {S : Type 0} {answers : Answers S} {stands : Stands S} where
         within = λ _. within;
       }
 
-  -- the run halts at a line among those that end in the bytes ahead, or at the last one
+  -- the run halts at a line among those that end in the bytes ahead, or at the last one where the input has ended
   halted : {old mid new : View} {start between end : S} {bytes more : List ℕ} {lines : List (List ℕ)} {budget : ℕ}
       (halt : Halt) (rest : List (List ℕ)) → Ahead answers stands old mid start between bytes more
       → Stopped answers stands mid new between end lines halt → whole_lines bytes ++ (lines ++ rest) ≡ all_lines (bytes ++ more)
+      → (mid.left ≡ []) ⊎ (whole_lines bytes ++ lines ≡ whole_lines (bytes ++ more))
       → length (bytes ++ more) ≤ budget → Served answers stands old new start end budget (status_at halt)
-  halted {new = new} {bytes = bytes} {more} {lines} halt rest ahead stopped all within =
+  halted {new = new} {bytes = bytes} {more} {lines} halt rest ahead stopped all whole within =
       let us = stopped.turns in
+      let first : lines_of (ahead.turns ++ us) ++ stopped.unread ≡ whole_lines bytes ++ lines =
+      ap (λ (l : List (List ℕ)). l ++ stopped.unread) (lines_then ahead stopped.takes us)
+      ∙ append_assoc (whole_lines bytes) (lines_of us) stopped.unread
+      ∙ ap (λ (l : List (List ℕ)). whole_lines bytes ++ l) stopped.of_lines in
       record {
         bytes = bytes ++ more;
         turns = ahead.turns ++ us;
@@ -141,11 +155,10 @@ module _ {S : Type 0} {answers : Answers S} {stands : Stands S} where
         taken = stopped.takes.taken ∙ ahead.taken;
         is_run = run_then ahead.made us stopped.is_run;
         of_lines = sym (append_assoc (lines_of (ahead.turns ++ us)) stopped.unread rest)
-            ∙ ap (λ (l : List (List ℕ)). l ++ rest)
-            (ap (λ (l : List (List ℕ)). l ++ stopped.unread) (lines_then ahead stopped.takes us)
-            ∙ append_assoc (whole_lines bytes) (lines_of us) stopped.unread
-            ∙ ap (λ (l : List (List ℕ)). whole_lines bytes ++ l) stopped.of_lines)
-            ∙ append_assoc (whole_lines bytes) lines rest ∙ all;
+            ∙ ap (λ (l : List (List ℕ)). l ++ rest) first ∙ append_assoc (whole_lines bytes) lines rest ∙ all;
+        whole = ⊎_elim
+            (λ none. inl (stopped.takes.left ∙ none))
+            (λ (same : whole_lines bytes ++ lines ≡ whole_lines (bytes ++ more)). inr (stopped.unread, first ∙ same)) whole;
         given = stopped.given ∙ replies_then ahead.made us;
         ends = λ other. (stopped.sink (sink_halts halt other)).0 ∙ ends_then ahead.made us;
         asked = asked_then ahead stopped.takes us;
@@ -187,6 +200,7 @@ module _ {S : Type 0} {answers : Answers S} {stands : Stands S} where
       ∙ ap (λ (l : List (List ℕ)). l ++ rest) (sym (lines_from-append [] bytes more)) in
       subst (λ (s : Status). Served answers stands old new start end budget s) (sym is)
       (halted halt rest (took_some keeping.ahead call) (stopped (part_from [] bytes) keeping.part) all
+      (inr (sym (lines_from-append [] bytes more)))
       (omega (arith, keeping.spent, length-append bytes more, length-take n buf, in_buf, in_room)))
 
   -- it gives nothing, since the input has ended, and what had come of a line is answered
@@ -194,18 +208,17 @@ module _ {S : Type 0} {answers : Answers S} {stands : Stands S} where
       → Keeping answers stands old mid start before kept room budget → Took mid between buf (Ok n) → n ≡ 0 → 0 < length buf
       → ((line : List ℕ) → IsKept kept line → Went answers stands between new before end (last_line line))
       → Served answers stands old new start end budget Done
-  served_all {between = between} {buf = buf} {n} keeping call none wide went =
-      let nothing : [] ≡ take n buf = ap (λ (k : ℕ). take k buf) (sym none) in
-      let end : between.left ≡ [] = ap (λ (l : List ℕ). l ++ between.left) nothing ∙ sym call.moved.left ∙ call.ended none wide in
-      ended (took_empty keeping.ahead call none) end (omega (arith, keeping.spent)) (went (part_from [] keeping.bytes) keeping.part)
+  served_all keeping call none wide went =
+      ended (took_empty keeping.ahead call none) (input_ended call none wide) (omega (arith, keeping.spent))
+      (went (part_from [] keeping.bytes) keeping.part)
 
   -- or halts the run
   pub served_last : {old mid between new : View} {start before end : S} {kept buf : List ℕ} {n room budget : ℕ} {halt : Halt}
       {status : Status} → status ≡ status_at halt → Keeping answers stands old mid start before kept room budget
-      → Took mid between buf (Ok n) → n ≡ 0
+      → Took mid between buf (Ok n) → n ≡ 0 → 0 < length buf
       → ((line : List ℕ) → IsKept kept line → Stopped answers stands between new before end (last_line line) halt)
       → Served answers stands old new start end budget status
-  served_last {old} {new = new} {start} {end = end} {budget = budget} {halt} is keeping call none stopped =
+  served_last {old} {new = new} {start} {end = end} {budget = budget} {halt} is keeping call none wide stopped =
       let bytes = keeping.bytes in
       let last = last_line (part_from [] bytes) in
       let no_more : bytes ≡ bytes ++ [] = sym (append-nil bytes) in
@@ -213,4 +226,5 @@ module _ {S : Type 0} {answers : Answers S} {stands : Stands S} where
       ap (λ (l : List (List ℕ)). whole_lines bytes ++ l) (append-nil last) ∙ ap (λ (l : List ℕ). all_lines l) no_more in
       subst (λ (s : Status). Served answers stands old new start end budget s) (sym is)
       (halted halt [] (took_empty keeping.ahead call none) (stopped (part_from [] bytes) keeping.part) all
+      (inl (input_ended call none wide))
       (subst (λ (l : List ℕ). length l ≤ budget) no_more (omega (arith, keeping.spent))))

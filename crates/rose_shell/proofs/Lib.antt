@@ -6,8 +6,6 @@ mod Promises
 mod ChangeAnswers
 -- each state of a session is a realm
 mod Realms
--- runs of calls go on
-mod Moments
 -- bytes are given call by call
 mod Gifts
 -- bytes are cut into lines, some bytes more at a time

@@ -10,13 +10,13 @@ use Rattle.line_grammar.specs.declared.command.Change.TheVariants.{Point, Segmen
 use Rattle.line_grammar.specs.declared.command.Query.TheVariants.{Realm, Chain, Trace}
 use Rattle.outside_world.specs.View.{View}
 use Rattle.realm_insert.specs.State.{State, SpendableState}
-use Rattle.rose_shell.specs.declared.TheConstants.{LONGEST_LINE}
 use Rattle.rose_shell.specs.declared.refusals.Refusal.{Refusal}
 use Rattle.rose_shell.specs.declared.status.Status.{Status}
 use Rattle.rose_shell.specs.Answers.{Answer, Unless}
 use Rattle.rose_shell.specs.Answers.{AnswersCommand, AnswersLine, StoreAnswers, grid_point, Draws, Marks}
 use Rattle.rose_shell.specs.Session.{Turn, Treats, IsRun, Served}
 use Rattle.rose_shell.specs.Sessions.{StandsAlways, HasServed}
+use Rattle.rose_shell.specs.Lines.{longest_line}
 use Rattle.rose_shell.proofs.Traces.{settled_by}
 
 -- the drawing of the state is a realm
@@ -75,7 +75,7 @@ either false P Q R first second chosen = second chosen
 treated_keeps : (old : SpendableState) (line reply : List ℕ) (new : SpendableState) → Treats StoreAnswers old line reply new
     → IsRealm old.state → IsRealm new.state
 treated_keeps old line reply new treated realm =
-    either (nat_lt LONGEST_LINE (length line)) _ _ (IsRealm new.state)
+    either (nat_lt longest_line (length line)) _ _ (IsRealm new.state)
     (λ refused. subst (λ (s : SpendableState). IsRealm s.state) (sym refused.1) realm)
     (λ answered. line_keeps old.state line reply new.state answered.answers realm)
     treated

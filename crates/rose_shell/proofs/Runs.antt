@@ -11,7 +11,7 @@ use Rattle.rose_shell.specs.declared.feeding.Halt.TheVariants as halts
 use Rattle.rose_shell.specs.Giving.{IsGiving, GaveSome}
 use Rattle.rose_shell.specs.Desk.{Answers, Stands, AllStand, IsAnswering, Answered}
 use Rattle.rose_shell.specs.Session.{Turn, Treats, IsRun, end_of, replies, lines_of, IsMoment, Went, Stopped}
-use Rattle.rose_shell.proofs.Moments.{only_nothing, only_wider, only_then, none_taken, none_taken_then}
+use Rattle.outside_world.proofs.Moments.{only_nothing, only_wider, only_then, none_taken, none_taken_then}
 use Rattle.rose_shell.proofs.Turns.{end_of-append, replies-append, lines_of-append, given_in_part_behind, run-append}
 use Rattle.rose_shell.proofs.Turns.{moment_before, moment_behind}
 

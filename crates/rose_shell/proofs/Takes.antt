@@ -10,7 +10,7 @@ use Rattle.outside_world.specs.Since.{OnlyAdds, TakesNone}
 use Rattle.rose_shell.specs.Lines.{lines_from, part_from, whole_lines, IsKept}
 use Rattle.rose_shell.specs.Desk.{Answers, Stands, AllStand}
 use Rattle.rose_shell.specs.Session.{Turn, replies, lines_of, Went, IsAnswered}
-use Rattle.rose_shell.proofs.Moments.{only_nothing, only_wider, only_then, only_of_adds}
+use Rattle.outside_world.proofs.Moments.{only_nothing, only_wider, only_then, only_of_adds}
 use Rattle.rose_shell.proofs.Turns.{lines_of-append, moment_now}
 use Rattle.rose_shell.proofs.Cuts.{lines_from-append, part_from-append}
 use Rattle.rose_shell.proofs.Runs.{Made, run_then, ends_then, replies_then, crash_then, still_stand}

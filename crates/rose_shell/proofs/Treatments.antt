@@ -4,14 +4,15 @@ use Rattle.std.proofs.lemmas.Bool.Decides.{nat_tests}
 use Rattle.std.specs.Prelude.{Ok, Err, nat_lt, MatchBool}
 use Rattle.outside_world.specs.declared.world.Failed.{Failed}
 use Rattle.outside_world.specs.View.{View}
-use Rattle.rose_shell.specs.declared.TheConstants.{LONGEST_LINE, LONG_LINE_REFUSAL}
+use Rattle.rose_shell.specs.declared.refusals.Refusal.TheVariants.{NotBuilt}
+use Rattle.rose_shell.specs.Replies.{no_reply}
 use Rattle.rose_shell.specs.declared.feeding.Halt.{Halt}
 use Rattle.rose_shell.specs.declared.feeding.Halt.TheVariants as halts
-use Rattle.rose_shell.specs.Lines.{last_line, IsKept}
+use Rattle.rose_shell.specs.Lines.{longest_line, last_line, IsKept}
 use Rattle.rose_shell.specs.Giving.{GaveSome, GaveAll}
 use Rattle.rose_shell.specs.Desk.{Answers, Stands, AllStand, Answered}
 use Rattle.rose_shell.specs.Session.{Treats, Went, Stopped}
-use Rattle.rose_shell.proofs.Moments.{only_nothing, none_taken}
+use Rattle.outside_world.proofs.Moments.{only_nothing, none_taken}
 use Rattle.rose_shell.proofs.Keeps.{kept_is_line, kept_is_long, last_line-empty, last_line-some}
 use Rattle.rose_shell.proofs.Runs.{went_none, went_one, stopped_one}
 
@@ -30,17 +31,17 @@ gave_reply : {mid new : View} {bytes reply unsent : List ℕ} → bytes ≡ repl
 gave_reply {mid} {new} {unsent = unsent} is gave = subst (λ (l : List ℕ). GaveSome mid new l unsent) is gave
 
 module _ {S : Type 0} (answers : Answers S) where
-  treats_short : {start end : S} {line reply : List ℕ} → length line ≤ LONGEST_LINE → answers start line reply end
+  treats_short : {start end : S} {line reply : List ℕ} → length line ≤ longest_line → answers start line reply end
       → Treats answers start line reply end
   treats_short {start} {end} {line} {reply} short answer =
-      subst (λ (b : Bool). MatchBool b ((reply ≡ LONG_LINE_REFUSAL) × (end ≡ start)) (answers start line reply end))
-      (sym (is_short LONGEST_LINE (length line) short)) answer
+      subst (λ (b : Bool). MatchBool b ((reply ≡ (no_reply NotBuilt)) × (end ≡ start)) (answers start line reply end))
+      (sym (is_short longest_line (length line) short)) answer
 
-  treats_long : (start : S) (line : List ℕ) → LONGEST_LINE < length line → Treats answers start line LONG_LINE_REFUSAL start
+  treats_long : (start : S) (line : List ℕ) → longest_line < length line → Treats answers start line (no_reply NotBuilt) start
   treats_long start line long =
-      subst (λ (b : Bool). MatchBool b ((LONG_LINE_REFUSAL ≡ LONG_LINE_REFUSAL) × (start ≡ start))
-      (answers start line LONG_LINE_REFUSAL start))
-      (sym (is_long LONGEST_LINE (length line) long)) (refl, refl)
+      subst (λ (b : Bool). MatchBool b (((no_reply NotBuilt) ≡ (no_reply NotBuilt)) × (start ≡ start))
+      (answers start line (no_reply NotBuilt) start))
+      (sym (is_long longest_line (length line) long)) (refl, refl)
 
 -- a refusal calls no desk, and leaves the files as they were
 module _ {S : Type 0} {stands : Stands S} where
@@ -51,37 +52,37 @@ module _ {S : Type 0} {stands : Stands S} where
 module _ {S : Type 0} {answers : Answers S} {stands : Stands S} where
   -- a line that isn't too long is answered by the desk
   pub went_short : {old mid new : View} {start end : S} {line reply bytes : List ℕ} {x : Unit {0}}
-      → length line ≤ LONGEST_LINE → answers start line reply end → Answered stands old mid start end (Ok reply)
+      → length line ≤ longest_line → answers start line reply end → Answered stands old mid start end (Ok reply)
       → bytes ≡ reply → GaveAll mid new bytes (Ok x) → Went answers stands old new start end (line ∷ [])
   went_short short answer answered is gave =
       went_one (treats_short answers short answer) answered (gave_reply is (given_whole gave))
 
   pub stopped_short : {old mid new : View} {start end : S} {line reply bytes : List ℕ} {e : Failed}
-      → length line ≤ LONGEST_LINE → answers start line reply end → Answered stands old mid start end (Ok reply)
+      → length line ≤ longest_line → answers start line reply end → Answered stands old mid start end (Ok reply)
       → bytes ≡ reply → GaveAll mid new bytes (Err e) → Stopped answers stands old new start end (line ∷ []) halts.Sink
   stopped_short short answer answered is gave =
       stopped_one (treats_short answers short answer) answered (gave_reply is gave.some)
 
   -- what was kept of it is the line
-  pub went_kept : {old new : View} {start end : S} {kept line : List ℕ} → length kept ≤ LONGEST_LINE → IsKept kept line
+  pub went_kept : {old new : View} {start end : S} {kept line : List ℕ} → length kept ≤ longest_line → IsKept kept line
       → Went answers stands old new start end (kept ∷ []) → Went answers stands old new start end (line ∷ [])
   went_kept {old} {new} {start} {end} short is went =
       subst (λ (l : List ℕ). Went answers stands old new start end (l ∷ [])) (kept_is_line short is) went
 
-  pub stopped_kept : {old new : View} {start end : S} {kept line : List ℕ} {halt : Halt} → length kept ≤ LONGEST_LINE → IsKept kept line
+  pub stopped_kept : {old new : View} {start end : S} {kept line : List ℕ} {halt : Halt} → length kept ≤ longest_line → IsKept kept line
       → Stopped answers stands old new start end (kept ∷ []) halt → Stopped answers stands old new start end (line ∷ []) halt
   stopped_kept {old} {new} {start} {end} {halt = halt} short is stopped =
       subst (λ (l : List ℕ). Stopped answers stands old new start end (l ∷ []) halt) (kept_is_line short is) stopped
 
   -- a line that is too long is refused
-  pub went_long : {old new : View} {s : S} {kept : List ℕ} {x : Unit {0}} (line : List ℕ) → LONGEST_LINE < length kept
-      → IsKept kept line → AllStand stands old s → GaveAll old new LONG_LINE_REFUSAL (Ok x)
+  pub went_long : {old new : View} {s : S} {kept : List ℕ} {x : Unit {0}} (line : List ℕ) → longest_line < length kept
+      → IsKept kept line → AllStand stands old s → GaveAll old new (no_reply NotBuilt) (Ok x)
       → Went answers stands old new s s (line ∷ [])
   went_long {s = s} line long is stand gave =
       went_one (treats_long answers s line (kept_is_long line long is)) (untouched stand) (given_whole gave)
 
-  pub stopped_long : {old new : View} {s : S} {kept : List ℕ} {e : Failed} (line : List ℕ) → LONGEST_LINE < length kept
-      → IsKept kept line → AllStand stands old s → GaveAll old new LONG_LINE_REFUSAL (Err e)
+  pub stopped_long : {old new : View} {s : S} {kept : List ℕ} {e : Failed} (line : List ℕ) → longest_line < length kept
+      → IsKept kept line → AllStand stands old s → GaveAll old new (no_reply NotBuilt) (Err e)
       → Stopped answers stands old new s s (line ∷ []) halts.Sink
   stopped_long {s = s} line long is stand gave =
       stopped_one (treats_long answers s line (kept_is_long line long is)) (untouched stand) gave.some
@@ -90,17 +91,17 @@ module _ {S : Type 0} {answers : Answers S} {stands : Stands S} where
   pub went_empty : {v : View} {s : S} {kept : List ℕ} (line : List ℕ) → length kept ≡ 0 → IsKept kept line
       → AllStand stands v s → Went answers stands v v s s (last_line line)
   went_empty {v} {s} line none is stand =
-      subst (λ (ls : List (List ℕ)). Went answers stands v v s s ls) (sym (last_line-empty LONGEST_LINE line none is))
+      subst (λ (ls : List (List ℕ)). Went answers stands v v s s ls) (sym (last_line-empty longest_line line none is))
       (went_none stand)
 
   pub went_last : {old new : View} {start end : S} {kept : List ℕ} (line : List ℕ) → 0 < length kept → IsKept kept line
       → Went answers stands old new start end (line ∷ []) → Went answers stands old new start end (last_line line)
   went_last {old} {new} {start} {end} line some is went =
       subst (λ (ls : List (List ℕ)). Went answers stands old new start end ls)
-      (sym (last_line-some LONGEST_LINE line some is)) went
+      (sym (last_line-some longest_line line some is)) went
 
   pub stopped_last : {old new : View} {start end : S} {kept : List ℕ} {halt : Halt} (line : List ℕ) → 0 < length kept → IsKept kept line
       → Stopped answers stands old new start end (line ∷ []) halt → Stopped answers stands old new start end (last_line line) halt
   stopped_last {old} {new} {start} {end} {halt = halt} line some is stopped =
       subst (λ (ls : List (List ℕ)). Stopped answers stands old new start end ls halt)
-      (sym (last_line-some LONGEST_LINE line some is)) stopped
+      (sym (last_line-some longest_line line some is)) stopped

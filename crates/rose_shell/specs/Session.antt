@@ -3,14 +3,15 @@ use Rattle.std.specs.Prelude.{◌≡◌, ◌≢◌, ◌⊎◌, ◌<◌, ◌≤�
 use Rattle.std.specs.Prelude.{MatchBool}
 use Rattle.outside_world.specs.View.{View, Asked, Moment}
 use Rattle.outside_world.specs.Since.{OnlyAdds, TakesNone, LeavesOnly}
-use Rattle.rose_shell.specs.declared.TheConstants.{LONGEST_LINE, LONG_LINE_REFUSAL}
 use Rattle.rose_shell.specs.declared.feeding.Halt.{Halt}
 use Rattle.rose_shell.specs.declared.feeding.Halt.TheVariants as halts
+use Rattle.rose_shell.specs.declared.refusals.Refusal.TheVariants.{NotBuilt}
 use Rattle.rose_shell.specs.declared.status.Status.{Status}
 use Rattle.rose_shell.specs.declared.status.Status.TheVariants.{Done, SourceFault, SinkFault}
 use Rattle.rose_shell.specs.declared.status.Status.TheVariants.{NoMemory, InputLimit}
 use Rattle.rose_shell.specs.Desk.{Answers, Stands, AllStand}
-use Rattle.rose_shell.specs.Lines.{whole_lines, all_lines}
+use Rattle.rose_shell.specs.Lines.{longest_line, whole_lines, all_lines}
+use Rattle.rose_shell.specs.Replies.{no_reply}
 
 -- a line, its reply and the state after it
 pub record Turn (S : Type 0) : Type 0 where
@@ -21,7 +22,7 @@ pub record Turn (S : Type 0) : Type 0 where
 -- a line that is too long is refused unread, any other is answered
 abbrev pub Treats : {S : Type 0} → Answers S → S → List ℕ → List ℕ → S → Type 0
 Treats answers start line reply end =
-    MatchBool (nat_lt LONGEST_LINE (length line)) ((reply ≡ LONG_LINE_REFUSAL) × (end ≡ start))
+    MatchBool (nat_lt longest_line (length line)) ((reply ≡ no_reply NotBuilt) × (end ≡ start))
     (answers start line reply end)
 
 -- the lines are treated one after another, each from the state that the one before has left
@@ -118,6 +119,8 @@ pub record Served {S : Type 0} (answers : Answers S) (stands : Stands S) (old ne
   -- the first lines of theirs were answered, and these replies given but for the unsent end
   pub is_run : IsRun answers start turns
   pub of_lines : lines_of turns ++ unread ≡ all_lines bytes
+  -- an unfinished last line only at the end of the input
+  pub whole : (new.left ≡ []) ⊎ ((others : List (List ℕ)) × (lines_of turns ++ others ≡ whole_lines bytes))
   pub given : new.given ++ unsent ≡ old.given ++ replies turns
   pub ends : status ≢ NoMemory → end ≡ end_of start turns
   -- at each take, at each crash since the start, and at a crash now

@@ -1,8 +1,8 @@
 //! What answers a line.
 ghost use Rattle.std.specs.Prelude.{◌≡◌, ◌≤◌, ℕ, List, length, IfOk, OnOk};
-ghost use Rattle.outside_world.specs.Counts.{KeepsCounts};
+ghost use Rattle.outside_world.specs.GoesOn.{GoesOn};
 ghost use Rattle.outside_world.specs.declared.world.FileName.{FileName};
-ghost use Rattle.rose_shell.specs.declared.TheConstants.{LONGEST_LINE};
+ghost use Rattle.rose_shell.specs.Lines.{longest_line};
 ghost use Rattle.rose_shell.specs.Desk.{Answered, AllStand};
 
 use grid_base::{NoMemory, Reply};
@@ -23,13 +23,11 @@ pub trait Desk<W: Outside> {
     /// Answers a line, which comes without its line feed. The reply isn't given yet.
     fn answer(&mut self, alloc: Global, world: &mut W, line: &[u8]) -> Result<Reply, NoMemory>
         requires ready { ready self.old }
-        requires short { length line.now ≤ LONGEST_LINE }
+        requires short { length line.now ≤ longest_line }
         requires stand { W.tells world.old → AllStand stands (W.view world.old) self.old }
         ensures answer { IfOk result (λ reply. answers self.old line.now reply self.new) }
         ensures ready { OnOk result (ready self.new) }
-        ensures later { KeepsCounts (W.source_faults world.old) (W.source_faults world.new)
-            (W.sink_faults world.old) (W.sink_faults world.new) }
-        ensures still { W.tells world.new → W.tells world.old }
+        ensures goes_on { GoesOn ⟦<W as Outside>⟧ world.old world.new }
         ensures told { W.tells world.new
             → Answered stands (W.view world.old) (W.view world.new) self.old self.new result };
 }

@@ -3,8 +3,11 @@
 //! long, and where it isn't, this is the line.
 ghost use Rattle.std.specs.Prelude.{◌≡◌, ◌≢◌, ◌≤◌, ◌<◌, ℕ, List, [], ◌∷◌, ◌++◌, All, length, take};
 ghost use Rattle.std.specs.Prelude.{slice_index, MatchOption, IfErr, OnOk, OnErr, IsErrOf};
-ghost use Rattle.outside_world.specs.Counts.{Rose, KeepsCounts};
-ghost use Rattle.rose_shell.specs.Lines.{lines_from, part_from, last_line, IsKept};
+ghost use Rattle.outside_world.specs.Counts.{Rose};
+ghost use Rattle.outside_world.specs.GoesOn.{GoesOn};
+ghost use Rattle.rose_shell.specs.Lines.{longest_line, lines_from, part_from, last_line, IsKept};
+ghost use Rattle.rose_shell.specs.declared.refusals.Refusal.TheVariants.{NotBuilt};
+ghost use Rattle.rose_shell.specs.Replies.{no_reply};
 ghost use Rattle.rose_shell.specs.Giving.{GaveAll};
 ghost use Rattle.rose_shell.specs.Desk.{AllStand};
 ghost use Rattle.rose_shell.specs.Session.{Went, Stopped};
@@ -44,9 +47,7 @@ pub(crate) fn answer_last<W: Outside, D: Desk<W>>(
         → Rose (W.sink_faults world.old) (W.sink_faults world.new) }
     ensures ready { OnOk result (D.ready desk.new) }
     ensures sink_ready { IsErrOf result Halt.Sink → D.ready desk.new }
-    ensures later { KeepsCounts (W.source_faults world.old) (W.source_faults world.new)
-        (W.sink_faults world.old) (W.sink_faults world.new) }
-    ensures still { W.tells world.new → W.tells world.old }
+    ensures goes_on { GoesOn ⟦<W as Outside>⟧ world.old world.new }
 {
     if kept.is_empty() {
         return Ok(());
@@ -78,9 +79,7 @@ pub(crate) fn feed<W: Outside, D: Desk<W>>(
     ensures ready { OnOk result (D.ready desk.new) }
     ensures sink_ready { IsErrOf result Halt.Sink → D.ready desk.new }
     ensures stand { OnOk result (W.tells world.new → AllStand D.stands (W.view world.new) desk.new) }
-    ensures later { KeepsCounts (W.source_faults world.old) (W.source_faults world.new)
-        (W.sink_faults world.old) (W.sink_faults world.new) }
-    ensures still { W.tells world.new → W.tells world.old }
+    ensures goes_on { GoesOn ⟦<W as Outside>⟧ world.old world.new }
 {
     let mut rest = chunk;
     while let Some(end) = line_end(rest) {
@@ -115,9 +114,7 @@ fn end_line<W: Outside, D: Desk<W>>(
 ) -> Result<(), Halt>
     requires ready { D.ready desk.old }
     requires stand { W.tells world.old → AllStand D.stands (W.view world.old) desk.old }
-    ensures later { KeepsCounts (W.source_faults world.old) (W.source_faults world.new)
-        (W.sink_faults world.old) (W.sink_faults world.new) }
-    ensures still { W.tells world.new → W.tells world.old }
+    ensures goes_on { GoesOn ⟦<W as Outside>⟧ world.old world.new }
     ensures kept { OnOk result (kept.new.items ≡ []) }
     ensures went { OnOk result ((part : List ℕ) → IsKept kept.old.items part → W.tells world.new
         → Went D.answers D.stands (W.view world.old) (W.view world.new) desk.old desk.new
@@ -163,9 +160,7 @@ fn answer_line<W: Outside, D: Desk<W>>(
 ) -> Result<(), Halt>
     requires ready { D.ready desk.old }
     requires stand { W.tells world.old → AllStand D.stands (W.view world.old) desk.old }
-    ensures later { KeepsCounts (W.source_faults world.old) (W.source_faults world.new)
-        (W.sink_faults world.old) (W.sink_faults world.new) }
-    ensures still { W.tells world.new → W.tells world.old }
+    ensures goes_on { GoesOn ⟦<W as Outside>⟧ world.old world.new }
     ensures went { OnOk result ((line : List ℕ) → IsKept kept.now line → W.tells world.new
         → Went D.answers D.stands (W.view world.old) (W.view world.new) desk.old desk.new
         (line ∷ [])) }
@@ -194,7 +189,7 @@ fn answer_short<W: Outside, D: Desk<W>>(
     world: &mut W,
     line: &[u8],
 ) -> Result<(), Halt>
-    requires short { length line.now ≤ LONGEST_LINE }
+    requires short { length line.now ≤ longest_line }
     requires ready { D.ready desk.old }
     requires stand { W.tells world.old → AllStand D.stands (W.view world.old) desk.old }
     ensures went { OnOk result (W.tells world.new
@@ -207,9 +202,7 @@ fn answer_short<W: Outside, D: Desk<W>>(
         → Rose (W.sink_faults world.old) (W.sink_faults world.new) }
     ensures ready { OnOk result (D.ready desk.new) }
     ensures sink_ready { IsErrOf result Halt.Sink → D.ready desk.new }
-    ensures later { KeepsCounts (W.source_faults world.old) (W.source_faults world.new)
-        (W.sink_faults world.old) (W.sink_faults world.new) }
-    ensures still { W.tells world.new → W.tells world.old }
+    ensures goes_on { GoesOn ⟦<W as Outside>⟧ world.old world.new }
 {
     match desk.answer(alloc, world, line) {
         Err(NoMemory) => Err(Halt::NoMemory),
@@ -224,10 +217,8 @@ fn answer_short<W: Outside, D: Desk<W>>(
 fn refuse_long<W: Outside>(world: &mut W) -> Result<(), Failed>
     ensures sink_fault { OnErr result (Rose (W.sink_faults world.old) (W.sink_faults world.new)) }
     ensures told { W.tells world.new
-        → GaveAll (W.view world.old) (W.view world.new) LONG_LINE_REFUSAL result }
-    ensures later { KeepsCounts (W.source_faults world.old) (W.source_faults world.new)
-        (W.sink_faults world.old) (W.sink_faults world.new) }
-    ensures still { W.tells world.new → W.tells world.old }
+        → GaveAll (W.view world.old) (W.view world.new) (no_reply NotBuilt) result }
+    ensures goes_on { GoesOn ⟦<W as Outside>⟧ world.old world.new }
 {
     give_all(world, &LONG_LINE_REFUSAL)
 }

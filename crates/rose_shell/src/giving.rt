@@ -1,16 +1,15 @@
 //! Gives bytes whole.
 ghost use Rattle.std.specs.Prelude.{OnErr};
-ghost use Rattle.outside_world.specs.Counts.{Rose, KeepsCounts};
+ghost use Rattle.outside_world.specs.Counts.{Rose};
+ghost use Rattle.outside_world.specs.GoesOn.{GoesOn};
 ghost use Rattle.rose_shell.specs.Giving.{GaveAll};
 
 use outside_world::{Failed, Outside};
 
 /// Gives all the bytes, in as many calls as it takes, or as many as the sink took before it failed.
 pub(crate) fn give_all<W: Outside>(world: &mut W, bytes: &[u8]) -> Result<(), Failed>
-    ensures later { KeepsCounts (W.source_faults world.old) (W.source_faults world.new)
-        (W.sink_faults world.old) (W.sink_faults world.new) }
+    ensures goes_on { GoesOn ⟦<W as Outside>⟧ world.old world.new }
     ensures sink_fault { OnErr result (Rose (W.sink_faults world.old) (W.sink_faults world.new)) }
-    ensures still { W.tells world.new → W.tells world.old }
     ensures told { W.tells world.new
         → GaveAll (W.view world.old) (W.view world.new) bytes.now result }
 {

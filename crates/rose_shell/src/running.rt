@@ -1,6 +1,7 @@
 //! The calls of the program: the words choose what is done, and the loop answers line by line.
 ghost use Rattle.std.specs.Prelude.{◌≡◌, ◌≢◌, ◌≤◌, ◌^◌, ◌⊎◌, ◌↔◌, IsTrue, false, length, map, string_bytes, codes};
-ghost use Rattle.outside_world.specs.Counts.{Rose, KeepsCounts};
+ghost use Rattle.outside_world.specs.Counts.{Rose};
+ghost use Rattle.outside_world.specs.GoesOn.{GoesOn};
 ghost use Rattle.rose_shell.specs.Sessions.{IsRunWord, HasServed, HasRun};
 
 use crate::serving::serve_desk;
@@ -34,9 +35,7 @@ pub fn run<R: Threads + Sync, W: Outside>(
         → ¬ (Rose (W.sink_faults world.old) (W.sink_faults world.new))
         → length (W.view world.old).left ≤ 2 ^ 40
         → (result ≡ Status.Done) ⊎ (result ≡ Status.NoMemory) }
-    ensures later { KeepsCounts (W.source_faults world.old) (W.source_faults world.new)
-        (W.sink_faults world.old) (W.sink_faults world.new) }
-    ensures still { W.tells world.new → W.tells world.old }
+    ensures goes_on { GoesOn ⟦<W as Outside>⟧ world.old world.new }
 {
     if !is_run_word(words) {
         return Status::Usage;
@@ -82,9 +81,7 @@ pub fn serve<R: Threads + Sync, W: Outside>(
         → length (W.view world.old).left ≤ budget
         → (result ≡ Status.Done) ⊎ (result ≡ Status.NoMemory) }
     ensures ready { result ≢ Status.NoMemory → store.new.spent ≡ false }
-    ensures later { KeepsCounts (W.source_faults world.old) (W.source_faults world.new)
-        (W.sink_faults world.old) (W.sink_faults world.new) }
-    ensures still { W.tells world.new → W.tells world.old }
+    ensures goes_on { GoesOn ⟦<W as Outside>⟧ world.old world.new }
 {
     // The session begins with a realm.
     let _drawing = store.drawing();

@@ -1,6 +1,7 @@
 //! The serving loop: it reads lines to the end of the input, and answers each before it reads on.
 ghost use Rattle.std.specs.Prelude.{◌≡◌, ◌≢◌, ◌⊎◌, ◌≤◌, ◌<◌, length, max, IfOk, OnErr};
-ghost use Rattle.outside_world.specs.Counts.{Rose, KeepsCounts};
+ghost use Rattle.outside_world.specs.Counts.{Rose};
+ghost use Rattle.outside_world.specs.GoesOn.{GoesOn};
 ghost use Rattle.outside_world.specs.Calls.{Took};
 ghost use Rattle.rose_shell.specs.Desk.{AllStand};
 ghost use Rattle.rose_shell.specs.Session.{Served, status_at};
@@ -38,9 +39,7 @@ pub(crate) fn serve_desk<W: Outside, D: Desk<W>>(
     ensures ready { result ≢ Status.NoMemory → D.ready desk.new }
     ensures stand { result ≢ Status.NoMemory → W.tells world.new
         → AllStand D.stands (W.view world.new) desk.new }
-    ensures later { KeepsCounts (W.source_faults world.old) (W.source_faults world.new)
-        (W.sink_faults world.old) (W.sink_faults world.new) }
-    ensures still { W.tells world.new → W.tells world.old }
+    ensures goes_on { GoesOn ⟦<W as Outside>⟧ world.old world.new }
 {
     let mut chunk = [0u8; 65_536];
     serve_by_chunks(alloc, desk, world, budget, &mut chunk)
@@ -57,9 +56,7 @@ fn serve_by_chunks<W: Outside, D: Desk<W>>(
     requires room { 0 < length chunk.old }
     requires ready { D.ready desk.old }
     requires stand { W.tells world.old → AllStand D.stands (W.view world.old) desk.old }
-    ensures later { KeepsCounts (W.source_faults world.old) (W.source_faults world.new)
-        (W.sink_faults world.old) (W.sink_faults world.new) }
-    ensures still { W.tells world.new → W.tells world.old }
+    ensures goes_on { GoesOn ⟦<W as Outside>⟧ world.old world.new }
     ensures told { W.tells world.new
         → Served D.answers D.stands (W.view world.old) (W.view world.new) desk.old desk.new budget result }
     ensures never_usage { result ≢ Status.Usage }
@@ -101,9 +98,7 @@ fn next_bytes<W: Outside>(world: &mut W, chunk: &mut [u8], room: u64) -> Result<
     ensures room { IfOk result (λ n. n ≤ max room 1) }
     ensures source_fault { OnErr result
         (Rose (W.source_faults world.old) (W.source_faults world.new)) }
-    ensures later { KeepsCounts (W.source_faults world.old) (W.source_faults world.new)
-        (W.sink_faults world.old) (W.sink_faults world.new) }
-    ensures still { W.tells world.new → W.tells world.old }
+    ensures goes_on { GoesOn ⟦<W as Outside>⟧ world.old world.new }
     ensures told { W.tells world.new
         → Took (W.view world.old) (W.view world.new) chunk.new result }
 {

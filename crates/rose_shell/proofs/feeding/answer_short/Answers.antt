@@ -11,11 +11,11 @@ pub returns-in-Ok-give_all-clause-went : goal.returns-in-Ok-give_all-clause-went
 returns-in-Ok-give_all-clause-went g c = λ t.
     let gave = c.in-Ok-give_all.ensures in
     let answered = c.in-Ok.ensures in
-    went_short c.requires.short answered.answer (answered.told (gave.still t)) c.bytes.ensures (gave.told t)
+    went_short c.requires.short answered.answer (answered.told (gave.goes_on.tells t)) c.bytes.ensures (gave.told t)
 
 -- or in part
 pub returns-clause-stopped : goal.returns-clause-stopped
 returns-clause-stopped g c = λ t.
     let gave = c.in-Err-give_all.ensures in
     let answered = c.in-Ok.ensures in
-    stopped_short c.requires.short answered.answer (answered.told (gave.still t)) c.bytes.ensures (gave.told t)
+    stopped_short c.requires.short answered.answer (answered.told (gave.goes_on.tells t)) c.bytes.ensures (gave.told t)

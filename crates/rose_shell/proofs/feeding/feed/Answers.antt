@@ -1,7 +1,7 @@
 use Rattle.std.proofs.Common.{[], ◌∷◌, ◌++◌, ◌+◌, take, drop, refl, arith}
 use Rattle.std.proofs.lemmas.List.{take_rest}
-use Rattle.rose_shell.specs.declared.TheConstants.{LONGEST_LINE}
-use Rattle.rose_shell.specs.Lines.{part_from}
+use Rattle.outside_world.proofs.GoingOn.{goes_on_none, goes_on_then}
+use Rattle.rose_shell.specs.Lines.{longest_line, part_from}
 use Rattle.rose_shell.proofs.Cuts.{part_from-line}
 use Rattle.rose_shell.proofs.Keeps.{kept_none}
 use Rattle.rose_shell.proofs.Runs.{went_none}
@@ -13,8 +13,7 @@ pub loop-end-init : goal.loop-end-init
 loop-end-init g c = record {
   done = [];
   split = refl;
-  later = (omega arith, omega arith);
-  still = λ t. t;
+  goes_on = goes_on_none;
   ready = c.requires.ready;
   stand = c.requires.stand;
   kept = λ part is. is;
@@ -33,13 +32,12 @@ loop-end-preserved g c =
     record {
       done = done;
       split = cut_at_feed inv.done rest n inv.split at.0 at.1 (take_rest rest (n + 1));
-      later = (omega (arith, inv.later.0, ens.later.0), omega (arith, inv.later.1, ens.later.1));
-      still = λ t. inv.still (ens.still t);
+      goes_on = goes_on_then inv.goes_on ens.goes_on;
       ready = ens.ready;
       stand = ens.stand;
-      kept = λ part is. kept_none (LONGEST_LINE + 1) (part_from-line part inv.done (take n rest)) ens.kept;
+      kept = λ part is. kept_none (longest_line + 1) (part_from-line part inv.done (take n rest)) ens.kept;
       went = λ part is t.
-          went_line part inv.done (take n rest) at.2 (inv.went part is (ens.still t))
+          went_line part inv.done (take n rest) at.2 (inv.went part is (ens.goes_on.tells t))
           (ens.went (part_from part inv.done) (inv.kept part is) t);
     }
 
@@ -52,7 +50,7 @@ returns-in-Err-clause-stopped g c = λ part is t.
     let rest = c.loop-end.rest.now in
     let n = c.in-Some.end in
     stopped_line part inv.done (take n rest) (drop (n + 1) rest) at.2 (cut_at_feed inv.done rest n inv.split at.0 at.1 refl)
-    (inv.went part is (ens.still t)) (ens.stopped (part_from part inv.done) (inv.kept part is) t)
+    (inv.went part is (ens.goes_on.tells t)) (ens.stopped (part_from part inv.done) (inv.kept part is) t)
 
 -- what is left of the chunk ends no line, and is kept
 pub returns-in-Ok-keep-clause-kept : goal.returns-in-Ok-keep-clause-kept

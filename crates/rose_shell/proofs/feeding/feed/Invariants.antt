@@ -1,5 +1,5 @@
 use Rattle.std.proofs.Common.{◌≡◌, ℕ, List, ◌++◌, length}
-use Rattle.outside_world.specs.Counts.{KeepsCounts}
+use Rattle.outside_world.specs.GoesOn.{GoesOn}
 use Rattle.rose_shell.specs.Lines.{lines_from, part_from, IsKept}
 use Rattle.rose_shell.specs.Desk.{AllStand}
 use Rattle.rose_shell.specs.Session.{Went}
@@ -9,9 +9,7 @@ abbrev pub invariant-loop-end : goal.invariant-loop-end
 invariant-loop-end g l = record {
   done : List ℕ;
   split : l.chunk ≡ done ++ l.rest;
-  later : KeepsCounts (g.W.Outside.source_faults l.fn.world) (g.W.Outside.source_faults l.world)
-      (g.W.Outside.sink_faults l.fn.world) (g.W.Outside.sink_faults l.world);
-  still : g.W.Outside.tells l.world → g.W.Outside.tells l.fn.world;
+  goes_on : GoesOn g.W.Outside l.fn.world l.world;
   ready : g.D.Desk.ready l.desk;
   stand : g.W.Outside.tells l.world → AllStand g.D.Desk.stands (g.W.Outside.view l.world) l.desk;
   kept : (part : List ℕ) → IsKept l.fn.kept.items part → IsKept l.kept.items (part_from part done);

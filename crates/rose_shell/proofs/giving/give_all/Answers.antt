@@ -9,7 +9,10 @@ loop-rest-preserved g c =
     let inv = c.loop-rest.invariant in
     let ens = c.in_ok-given.ensures in
     record {
-      later = (omega (arith, inv.later.0, ens.later.0), omega (arith, inv.later.1, ens.later.1));
-      still = λ t. inv.still (ens.still t);
+      goes_on = record {
+        source_faults = omega (arith, inv.goes_on.source_faults, ens.others);
+        sink_faults = omega (arith, inv.goes_on.sink_faults, ens.later);
+        tells = λ t. inv.goes_on.tells (ens.still t);
+      };
       told = λ t. gave_more (take_rest c.loop-rest.rest.now c.in_ok-given.given) (inv.told (ens.still t)) (ens.told t);
     }

@@ -1,13 +1,11 @@
 use Rattle.std.proofs.Common.{length}
-use Rattle.outside_world.specs.Counts.{KeepsCounts}
+use Rattle.outside_world.specs.GoesOn.{GoesOn}
 use Rattle.rose_shell.specs.Giving.{GaveSome}
 use Rattle.rose_shell.proofs.giving.give_all.Given as goal
 
 abbrev pub invariant-loop-rest : goal.invariant-loop-rest
 invariant-loop-rest g l = record {
-  later : KeepsCounts (g.W.Outside.source_faults l.fn.world) (g.W.Outside.source_faults l.world)
-      (g.W.Outside.sink_faults l.fn.world) (g.W.Outside.sink_faults l.world);
-  still : g.W.Outside.tells l.world → g.W.Outside.tells l.fn.world;
+  goes_on : GoesOn g.W.Outside l.fn.world l.world;
   told : g.W.Outside.tells l.world → GaveSome (g.W.Outside.view l.fn.world) (g.W.Outside.view l.world) l.bytes l.rest;
 }
 

@@ -1,4 +1,5 @@
 use Rattle.std.proofs.Common.{arith, ◌∙◌}
+use Rattle.outside_world.proofs.GoingOn.{goes_on_none, goes_on_then}
 use Rattle.rose_shell.proofs.Takes.{keeping_none, keeping_more}
 use Rattle.rose_shell.proofs.Exits.{served_source, served_limit, served_halt, served_all, served_last}
 use Rattle.rose_shell.proofs.serving.serve_by_chunks.Goals as goal
@@ -6,8 +7,7 @@ use Rattle.rose_shell.proofs.serving.serve_by_chunks.Goals as goal
 -- nothing was taken, and all of the budget is left
 pub loop-n-init : goal.loop-n-init
 loop-n-init g c = record {
-  later = (omega arith, omega arith);
-  still = λ t. t;
+  goes_on = goes_on_none;
   ready = c.requires.ready;
   keeping = λ t. keeping_none c.args.budget c.new-kept.ensures.items (c.requires.stand t);
 }
@@ -19,30 +19,29 @@ loop-n-preserved g c =
     let took = c.in-Ok.ensures in
     let ens = c.in-Ok-feed.ensures in
     record {
-      later = (omega (arith, inv.later.0, took.later.0, ens.later.0), omega (arith, inv.later.1, took.later.1, ens.later.1));
-      still = λ t. inv.still (took.still (ens.still t));
+      goes_on = goes_on_then inv.goes_on (goes_on_then took.goes_on ens.goes_on);
       ready = ens.ready;
       keeping = λ t.
-          keeping_more (inv.keeping (took.still (ens.still t))) (took.told (ens.still t)) took.within (omega (arith, took.room))
+          keeping_more (inv.keeping (took.goes_on.tells (ens.goes_on.tells t))) (took.told (ens.goes_on.tells t)) took.within (omega (arith, took.room))
           (λ part is. ens.went part is t) (λ part is. ens.kept part is);
     }
 
 -- the source has failed when all whole lines were answered
 pub returns-in-Err-clause-told : goal.returns-in-Err-clause-told
-returns-in-Err-clause-told g c = λ t. served_source (c.loop-n.invariant.keeping (c.in-Err.ensures.still t)) (c.in-Err.ensures.told t)
+returns-in-Err-clause-told g c = λ t. served_source (c.loop-n.invariant.keeping (c.in-Err.ensures.goes_on.tells t)) (c.in-Err.ensures.told t)
 
 -- the budget was spent, and this take has given more
 pub returns-then-room-eq0-clause-told : goal.returns-then-room-eq0-clause-told
 returns-then-room-eq0-clause-told g c = λ t.
     let took = c.in-Ok.ensures in
-    served_limit (c.loop-n.invariant.keeping (took.still t)) (took.told t) c.if-room-eq0.true (omega arith) took.within
+    served_limit (c.loop-n.invariant.keeping (took.goes_on.tells t)) (took.told t) c.if-room-eq0.true (omega arith) took.within
 
 -- the input has ended, and what had come of a line is answered
 pub returns-in-Ok-answer_last-clause-told : goal.returns-in-Ok-answer_last-clause-told
 returns-in-Ok-answer_last-clause-told g c = λ t.
     let took = c.in-Ok.ensures in
     let ens = c.in-Ok-answer_last.ensures in
-    served_all (c.loop-n.invariant.keeping (took.still (ens.still t))) (took.told (ens.still t)) c.if-n-eq0.true (omega arith)
+    served_all (c.loop-n.invariant.keeping (took.goes_on.tells (ens.goes_on.tells t))) (took.told (ens.goes_on.tells t)) c.if-n-eq0.true (omega arith)
     (λ line is. ens.went line (c.deref.ensures.value ∙ is) t)
 
 -- or halts the run
@@ -50,7 +49,8 @@ pub returns-in-Err-answer_last-clause-told : goal.returns-in-Err-answer_last-cla
 returns-in-Err-answer_last-clause-told g c = λ t.
     let took = c.in-Ok.ensures in
     let ens = c.in-Err-answer_last.ensures in
-    served_last c.status_of.ensures.status (c.loop-n.invariant.keeping (took.still (ens.still t))) (took.told (ens.still t)) c.if-n-eq0.true
+    served_last c.status_of.ensures.status (c.loop-n.invariant.keeping (took.goes_on.tells (ens.goes_on.tells t)))
+    (took.told (ens.goes_on.tells t)) c.if-n-eq0.true (omega arith)
     (λ line is. ens.stopped line (c.deref.ensures.value ∙ is) t)
 
 -- a line among those of this take halts the run
@@ -58,5 +58,5 @@ pub returns-in-Err-feed-clause-told : goal.returns-in-Err-feed-clause-told
 returns-in-Err-feed-clause-told g c = λ t.
     let took = c.in-Ok.ensures in
     let ens = c.in-Err-feed.ensures in
-    served_halt c.status_of-in-Err-feed.ensures.status (c.loop-n.invariant.keeping (took.still (ens.still t))) (took.told (ens.still t))
+    served_halt c.status_of-in-Err-feed.ensures.status (c.loop-n.invariant.keeping (took.goes_on.tells (ens.goes_on.tells t))) (took.told (ens.goes_on.tells t))
     took.within (omega (arith, took.room)) (λ part is. ens.stopped part is t)
