@@ -7,29 +7,29 @@ ghost use Rattle.rose.specs.Untold.{untold};
 use outside_world::{Failed, Outside};
 use std::io::Read;
 
-/// Standard input and standard output, with a count of the faults of each.
+/// A source of bytes and a sink of bytes, with a count of the faults of each. The program's are standard input and
+/// standard output.
 #[derive(Drop)]
-pub struct FileWorld<R: Input + Print + Drop> {
-    rt: R,
-    input: <R as Input>::Reader,
+pub struct FileWorld<I: Read + Drop, P: Print + Drop> {
+    input: I,
+    output: P,
     source_faults: u64,
     sink_faults: u64,
 }
 
-impl<R: Input + Print + Drop> FileWorld<R> {
-    /// The world of this runtime. Nothing is read before the first take.
-    pub fn new(rt: R) -> FileWorld<R> {
-        let input = rt.reader();
+impl<I: Read + Drop, P: Print + Drop> FileWorld<I, P> {
+    /// The world of this source and this sink. Nothing is read before the first take.
+    pub fn new(input: I, output: P) -> FileWorld<I, P> {
         FileWorld {
-            rt,
             input,
+            output,
             source_faults: 0,
             sink_faults: 0,
         }
     }
 }
 
-impl<R: Input + Print + Drop> Outside for FileWorld<R> {
+impl<I: Read + Drop, P: Print + Drop> Outside for FileWorld<I, P> {
     ghost tells = { λ _. ⊥ };
 
     ghost view = { λ _. untold };
@@ -57,7 +57,7 @@ impl<R: Input + Print + Drop> Outside for FileWorld<R> {
     }
 
     fn give(&mut self, bytes: &[u8]) -> Result<usize, Failed> {
-        match self.rt.write_some(bytes) {
+        match self.output.write_some(bytes) {
             Ok(count) if count > 0 || bytes.is_empty() => Ok(count),
             _ => {
                 self.sink_faults = risen(self.sink_faults);
