@@ -3,7 +3,7 @@ ghost use Rattle.std.specs.Prelude.{◌≡◌, ◌≢◌, ◌↔◌, IsOk, IfOk,
 ghost use Rattle.std.specs.Process.{exit_status};
 ghost use Rattle.outside_world.specs.Counts.{Rose};
 ghost use Rattle.outside_world.specs.GoesOn.{GoesOn};
-ghost use Rattle.rose_shell.specs.Sessions.{IsRunWord, HasRun};
+ghost use Rattle.rose_shell.specs.Running.{IsRunWord, HasRun};
 ghost use Rattle.rose_shell.specs.Status.{number_of};
 
 use crate::words::WordsError;

@@ -6,8 +6,8 @@ use Rattle.outside_world.specs.View.{View}
 use Rattle.rose_shell.specs.declared.feeding.Halt.{Halt}
 use Rattle.rose_shell.specs.declared.feeding.Halt.TheVariants as halts
 use Rattle.rose_shell.specs.Lines.{lines_from, part_from}
-use Rattle.rose_shell.specs.Desk.{Answers, Stands}
-use Rattle.rose_shell.specs.Session.{Went, Stopped}
+use Rattle.rose_shell.specs.Desk.{Rule, Stands}
+use Rattle.rose_shell.specs.Loop.{Went, Stopped}
 use Rattle.rose_shell.proofs.Cuts.{HasNoFeed, lines_from-append, part_from-append, lines_from-no_feed, part_from-no_feed}
 use Rattle.rose_shell.proofs.Cuts.{lines_from-line, split_at_feed}
 use Rattle.rose_shell.proofs.Runs.{went_then, stopped_behind, stopped_more, stopped_then}
@@ -34,7 +34,7 @@ part_at_end part done rest split none =
     ap (λ (l : List ℕ). part_from part l) split ∙ part_from-append part done rest
     ∙ part_from-no_feed (part_from part done) rest none
 
-module _ {S : Type 0} {answers : Answers S} {stands : Stands S} where
+module _ {S : Type 0} {answers : Rule S} {stands : Stands S} where
   -- one line more is answered
   pub went_line : {old mid new : View} {start between end : S} (part done line : List ℕ) → HasNoFeed line
       → Went answers stands old mid start between (lines_from part done)

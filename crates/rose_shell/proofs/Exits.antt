@@ -11,8 +11,9 @@ use Rattle.rose_shell.specs.declared.feeding.Halt.TheVariants as halts
 use Rattle.rose_shell.specs.declared.status.Status.{Status}
 use Rattle.rose_shell.specs.declared.status.Status.TheVariants.{Done, SourceFault, NoMemory, InputLimit}
 use Rattle.rose_shell.specs.Lines.{lines_from, part_from, whole_lines, last_line, all_lines, IsKept}
-use Rattle.rose_shell.specs.Desk.{Answers, Stands, AllStand}
-use Rattle.rose_shell.specs.Session.{lines_of, Went, Stopped, status_at, Served}
+use Rattle.rose_shell.specs.Desk.{Rule, Stands, AllStand}
+use Rattle.rose_shell.specs.Session.{lines_of, Served}
+use Rattle.rose_shell.specs.Loop.{Went, Stopped, status_at}
 use Rattle.rose_shell.proofs.Turns.{given_in_part_behind}
 use Rattle.rose_shell.proofs.Cuts.{lines_from-append}
 use Rattle.rose_shell.proofs.Runs.{run_then, ends_then, replies_then, crash_then}
@@ -45,7 +46,7 @@ input_ended : {mid between : View} {buf : List ℕ} {n : ℕ} → Took mid betwe
 input_ended {between = between} {buf} call none wide =
     ap (λ (k : ℕ). take k buf ++ between.left) (sym none) ∙ sym call.moved.left ∙ call.ended none wide
 
-module _ {S : Type 0} {answers : Answers S} {stands : Stands S} where
+module _ {S : Type 0} {answers : Rule S} {stands : Stands S} where
   -- the source fails when all whole lines were answered
   source_failed : {old new : View} {start end : S} {bytes : List ℕ} {budget : ℕ} → Ahead answers stands old new start end bytes []
       → length bytes ≤ budget → Served answers stands old new start end budget SourceFault

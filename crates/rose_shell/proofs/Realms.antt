@@ -2,20 +2,21 @@
 use Rattle.std.proofs.Common.{nat_lt, ℕ, List, [], ◌∷◌, length, Bool, true, false, MatchBool, All, sym, subst, inl, inr}
 use Rattle.std.proofs.lemmas.List.Elements.{All-nil, All-cons}
 use Rattle.grid_base.specs.Segment.{GridSegment, segment_of}
-use Rattle.grid_base.specs.Drawing.{IsDrawnRealm}
+use Rattle.grid_base.specs.Drawing.{HasViolation, IsDrawnRealm}
+use Rattle.grid_base.specs.declared.kinds.Step.{Step}
 use Rattle.grid_base.specs.Point.{GridPoint}
 use Rattle.grid_base.proofs.RealmLaw.{drawn_realm_by}
 use Rattle.line_grammar.specs.declared.command.Command.TheVariants as commands
 use Rattle.line_grammar.specs.declared.command.Change.TheVariants.{Point, Segment}
 use Rattle.line_grammar.specs.declared.command.Query.TheVariants.{Realm, Chain, Trace}
 use Rattle.outside_world.specs.View.{View}
-use Rattle.realm_insert.specs.State.{State, SpendableState}
+use Rattle.realm_insert.specs.State.{State, SpendableState, DrawsSegment, MakesExplicit}
 use Rattle.rose_shell.specs.declared.refusals.Refusal.{Refusal}
 use Rattle.rose_shell.specs.declared.status.Status.{Status}
-use Rattle.rose_shell.specs.Answers.{Answer, Unless}
-use Rattle.rose_shell.specs.Answers.{AnswersCommand, AnswersLine, StoreAnswers, grid_point, Draws, Marks}
+use Rattle.rose_shell.specs.Answers.{Outcome, Unless}
+use Rattle.rose_shell.specs.Answers.{AnswersCommand, AnswersLine, StoreAnswers, grid_point, Makes}
 use Rattle.rose_shell.specs.Session.{Turn, Treats, IsRun, Served}
-use Rattle.rose_shell.specs.Sessions.{StandsAlways, HasServed}
+use Rattle.rose_shell.specs.Running.{StandsAlways, HasServed}
 use Rattle.rose_shell.specs.Lines.{longest_line}
 use Rattle.rose_shell.proofs.Traces.{settled_by}
 
@@ -24,11 +25,11 @@ abbrev IsRealm : State → Type 0
 IsRealm state = IsDrawnRealm state.drawing
 
 -- the answer leads from realms to realms
-record Keeps (answer : Answer) : Type 0 where
+record Keeps (answer : Outcome) : Type 0 where
   pub keeps : (old : State) (reply : List ℕ) (new : State) → answer old reply new → IsRealm old → IsRealm new
 
 -- a refusal keeps the state, so it keeps what is so of it
-unless_keeps : {cause : State → Type 0} {refusal : Refusal} {answer : Answer} → Keeps answer
+unless_keeps : {cause : State → Type 0} {refusal : Refusal} {answer : Outcome} → Keeps answer
     → Keeps (Unless cause refusal answer)
 unless_keeps {cause} {refusal} {answer} inner = record { keeps = at }
   where
@@ -37,18 +38,18 @@ unless_keeps {cause} {refusal} {answer} inner = record { keeps = at }
     at old reply new (inl refused) realm = subst IsRealm (sym refused.1.state_stays) realm
     at old reply new (inr answered) realm = inner.keeps old reply new answered.1 realm
 
--- a change ends with a drawing that is settled
-draws_keeps : (s : GridSegment) → Keeps (Draws s)
-draws_keeps s = record {
-  keeps = λ old reply new drawn realm.
-      drawn_realm_by new.drawing (settled_by _ drawn.steps new.drawing drawn.draws.settles);
-}
+-- a change that ends with a drawing without a violation
+makes_keeps : {change : State → List Step → State → Type 0} {added : ℕ}
+    → ((old : State) (steps : List Step) (new : State) → change old steps new → HasViolation new.drawing → ⊥)
+    → Keeps (Makes change added)
+makes_keeps settled =
+    record { keeps = λ old reply new made realm. drawn_realm_by new.drawing (settled old made.steps new made.makes) }
 
-marks_keeps : (p : GridPoint) → Keeps (Marks p)
-marks_keeps p = record {
-  keeps = λ old reply new marked realm.
-      drawn_realm_by new.drawing (settled_by _ marked.steps new.drawing marked.makes.2.settles);
-}
+draws_keeps : (s : GridSegment) → Keeps (Makes (λ old steps new. DrawsSegment old s steps new) 1)
+draws_keeps s = makes_keeps (λ old steps new draws. settled_by _ steps new.drawing draws.settles)
+
+marks_keeps : (p : GridPoint) → Keeps (Makes (λ old steps new. MakesExplicit old p steps new) 0)
+marks_keeps p = makes_keeps (λ old steps new marks. settled_by _ steps new.drawing marks.2.settles)
 
 command_keeps : (c : commands.the_data) → Keeps (AnswersCommand c)
 command_keeps (commands.Change (Segment p q)) =
@@ -77,7 +78,7 @@ treated_keeps : (old : SpendableState) (line reply : List ℕ) (new : SpendableS
 treated_keeps old line reply new treated realm =
     either (nat_lt longest_line (length line)) _ _ (IsRealm new.state)
     (λ refused. subst (λ (s : SpendableState). IsRealm s.state) (sym refused.1) realm)
-    (λ answered. line_keeps old.state line reply new.state answered.answers realm)
+    (λ answered. line_keeps old.state line reply new.state answered.outcome realm)
     treated
 
 -- each state of a run is a realm

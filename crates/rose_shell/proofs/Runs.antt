@@ -9,14 +9,15 @@ use Rattle.outside_world.specs.Since.{LeavesOnly}
 use Rattle.rose_shell.specs.declared.feeding.Halt.{Halt}
 use Rattle.rose_shell.specs.declared.feeding.Halt.TheVariants as halts
 use Rattle.rose_shell.specs.Giving.{IsGiving, GaveSome}
-use Rattle.rose_shell.specs.Desk.{Answers, Stands, AllStand, IsAnswering, Answered}
-use Rattle.rose_shell.specs.Session.{Turn, Treats, IsRun, end_of, replies, lines_of, IsMoment, Went, Stopped}
+use Rattle.rose_shell.specs.Desk.{Rule, Stands, AllStand, IsAnswering, Answered}
+use Rattle.rose_shell.specs.Session.{Turn, Treats, IsRun, end_of, replies, lines_of, IsMoment}
+use Rattle.rose_shell.specs.Loop.{Went, Stopped}
 use Rattle.outside_world.proofs.Moments.{only_nothing, only_wider, only_then, none_taken, none_taken_then}
 use Rattle.rose_shell.proofs.Turns.{end_of-append, replies-append, lines_of-append, given_in_part_behind, run-append}
 use Rattle.rose_shell.proofs.Turns.{moment_before, moment_behind}
 
 -- these turns were made, and their replies given whole
-pub record Made {S : Type 0} (answers : Answers S) (stands : Stands S) (old new : View) (start end : S)
+pub record Made {S : Type 0} (answers : Rule S) (stands : Stands S) (old new : View) (start end : S)
     (turns : List (Turn S)) : Type 0 where
   pub is_run : IsRun answers start turns
   pub ends : end ≡ end_of start turns
@@ -25,7 +26,7 @@ pub record Made {S : Type 0} (answers : Answers S) (stands : Stands S) (old new 
   pub crash : LeavesOnly old new (IsMoment stands start turns old.given)
 
 -- more turns behind these
-module _ {S : Type 0} {answers : Answers S} {stands : Stands S} {old mid : View} {start between : S} {ts : List (Turn S)}
+module _ {S : Type 0} {answers : Rule S} {stands : Stands S} {old mid : View} {start between : S} {ts : List (Turn S)}
     (made : Made answers stands old mid start between ts) (us : List (Turn S)) where
   pub run_then : IsRun answers between us → IsRun answers start (ts ++ us)
   run_then run = run-append answers start ts us made.is_run (subst (λ (s : S). IsRun answers s us) made.ends run)
@@ -73,7 +74,7 @@ module _ {S : Type 0} (stands : Stands S) where
       only_then (only_wider answered.crash (while_answered old start end line reply)) answered.takes.later
       (only_wider gave.crash (λ m giving. while_given old mid start end line reply m answered.given answered.stand giving))
 
-module _ {S : Type 0} {answers : Answers S} {stands : Stands S} where
+module _ {S : Type 0} {answers : Rule S} {stands : Stands S} where
   -- a line is answered, and its reply given whole
   pub went_one : {old mid new : View} {start end : S} {line reply : List ℕ} → Treats answers start line reply end
       → Answered stands old mid start end (Ok reply) → GaveSome mid new reply [] → Went answers stands old new start end (line ∷ [])

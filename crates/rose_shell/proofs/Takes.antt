@@ -8,15 +8,16 @@ use Rattle.outside_world.specs.View.{View, Asked}
 use Rattle.outside_world.specs.Calls.{Asks, Ticks, SameFiles, Took}
 use Rattle.outside_world.specs.Since.{OnlyAdds, TakesNone}
 use Rattle.rose_shell.specs.Lines.{lines_from, part_from, whole_lines, IsKept}
-use Rattle.rose_shell.specs.Desk.{Answers, Stands, AllStand}
-use Rattle.rose_shell.specs.Session.{Turn, replies, lines_of, Went, IsAnswered}
+use Rattle.rose_shell.specs.Desk.{Rule, Stands, AllStand}
+use Rattle.rose_shell.specs.Session.{Turn, replies, lines_of, IsAnswered}
+use Rattle.rose_shell.specs.Loop.{Went}
 use Rattle.outside_world.proofs.Moments.{only_nothing, only_wider, only_then, only_of_adds}
 use Rattle.rose_shell.proofs.Turns.{lines_of-append, moment_now}
 use Rattle.rose_shell.proofs.Cuts.{lines_from-append, part_from-append}
 use Rattle.rose_shell.proofs.Runs.{Made, run_then, ends_then, replies_then, crash_then, still_stand}
 
 -- the whole lines among these bytes were answered, and more bytes were taken
-pub record Ahead {S : Type 0} (answers : Answers S) (stands : Stands S) (old new : View) (start end : S)
+pub record Ahead {S : Type 0} (answers : Rule S) (stands : Stands S) (old new : View) (start end : S)
     (bytes more : List ℕ) : Type 0 where
   pub turns : List (Turn S)
   pub made : Made answers stands old new start end turns
@@ -27,7 +28,7 @@ pub record Ahead {S : Type 0} (answers : Answers S) (stands : Stands S) (old new
   pub asked : OnlyAdds old.moment old.asked_since new.asked_since (IsAnswered old turns)
 
 -- between two takes no bytes are ahead, what has come of a line is kept, and this room is left of the budget
-pub record Keeping {S : Type 0} (answers : Answers S) (stands : Stands S) (old new : View) (start end : S)
+pub record Keeping {S : Type 0} (answers : Rule S) (stands : Stands S) (old new : View) (start end : S)
     (kept : List ℕ) (room budget : ℕ) : Type 0 where
   pub bytes : List ℕ
   pub ahead : Ahead answers stands old new start end bytes []
@@ -46,7 +47,7 @@ answered_more {S} ts us a is = record {
   given = is.given;
 }
 
-module _ {S : Type 0} {answers : Answers S} {stands : Stands S} where
+module _ {S : Type 0} {answers : Rule S} {stands : Stands S} where
   -- before the first take
   pub keeping_none : {v : View} {s : S} {kept : List ℕ} (budget : ℕ) → kept ≡ [] → AllStand stands v s
       → Keeping answers stands v v s s kept budget budget

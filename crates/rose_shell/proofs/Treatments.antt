@@ -10,8 +10,9 @@ use Rattle.rose_shell.specs.declared.feeding.Halt.{Halt}
 use Rattle.rose_shell.specs.declared.feeding.Halt.TheVariants as halts
 use Rattle.rose_shell.specs.Lines.{longest_line, last_line, IsKept}
 use Rattle.rose_shell.specs.Giving.{GaveSome, GaveAll}
-use Rattle.rose_shell.specs.Desk.{Answers, Stands, AllStand, Answered}
-use Rattle.rose_shell.specs.Session.{Treats, Went, Stopped}
+use Rattle.rose_shell.specs.Desk.{Rule, Stands, AllStand, Answered}
+use Rattle.rose_shell.specs.Session.{Treats}
+use Rattle.rose_shell.specs.Loop.{Went, Stopped}
 use Rattle.outside_world.proofs.Moments.{only_nothing, none_taken}
 use Rattle.rose_shell.proofs.Keeps.{kept_is_line, kept_is_long, last_line-empty, last_line-some}
 use Rattle.rose_shell.proofs.Runs.{went_none, went_one, stopped_one}
@@ -30,7 +31,7 @@ gave_reply : {mid new : View} {bytes reply unsent : List ℕ} → bytes ≡ repl
     → GaveSome mid new bytes unsent → GaveSome mid new reply unsent
 gave_reply {mid} {new} {unsent = unsent} is gave = subst (λ (l : List ℕ). GaveSome mid new l unsent) is gave
 
-module _ {S : Type 0} (answers : Answers S) where
+module _ {S : Type 0} (answers : Rule S) where
   treats_short : {start end : S} {line reply : List ℕ} → length line ≤ longest_line → answers start line reply end
       → Treats answers start line reply end
   treats_short {start} {end} {line} {reply} short answer =
@@ -49,7 +50,7 @@ module _ {S : Type 0} {stands : Stands S} where
   untouched stand =
       record { takes = none_taken; given = refl; stand = stand; crash = only_nothing; still_stand = tt; still_crash = tt }
 
-module _ {S : Type 0} {answers : Answers S} {stands : Stands S} where
+module _ {S : Type 0} {answers : Rule S} {stands : Stands S} where
   -- a line that isn't too long is answered by the desk
   pub went_short : {old mid new : View} {start end : S} {line reply bytes : List ℕ} {x : Unit {0}}
       → length line ≤ longest_line → answers start line reply end → Answered stands old mid start end (Ok reply)

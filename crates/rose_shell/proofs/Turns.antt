@@ -2,7 +2,7 @@
 use Rattle.std.proofs.Common.{◌≡◌, inl, inr, ℕ, List, [], ◌∷◌, ◌++◌, refl, sym, ◌∙◌, ap, subst, append_assoc}
 use Rattle.std.proofs.lemmas.List.{append-nil}
 use Rattle.outside_world.specs.View.{Moment}
-use Rattle.rose_shell.specs.Desk.{Answers, Stands}
+use Rattle.rose_shell.specs.Desk.{Rule, Stands}
 use Rattle.rose_shell.specs.Session.{Turn, IsRun, end_of, replies, lines_of, IsMoment, IsGivenInPart}
 
 module _ {S : Type 0} where
@@ -29,7 +29,7 @@ module _ {S : Type 0} where
     split = part.split;
   }
 
-module _ {S : Type 0} (answers : Answers S) where
+module _ {S : Type 0} (answers : Rule S) where
   pub run-append : (start : S) (ts us : List (Turn S)) → IsRun answers start ts → IsRun answers (end_of start ts) us
       → IsRun answers start (ts ++ us)
   run-append start [] us first second = second

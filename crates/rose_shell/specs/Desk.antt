@@ -5,9 +5,9 @@ use Rattle.outside_world.specs.declared.world.FileName.{FileName}
 use Rattle.outside_world.specs.View.{View, Moment}
 use Rattle.outside_world.specs.Since.{TakesNone, LeavesOnly}
 
--- from the first state, this line may get this reply and lead to the second state
-abbrev pub Answers : Type 0 → Type 1
-Answers S = S → List ℕ → List ℕ → S → Type 0
+-- the rule of a desk: from the first state, this line may get this reply and lead to the second state
+abbrev pub Rule : Type 0 → Type 1
+Rule S = S → List ℕ → List ℕ → S → Type 0
 
 -- these files stand for this state
 abbrev pub Stands : Type 0 → Type 1

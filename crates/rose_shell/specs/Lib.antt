@@ -6,11 +6,15 @@ pub mod Lines
 pub mod Replies
 -- what each line is answered
 pub mod Answers
+-- what a reply tells of a change
+pub mod Changes
 -- bytes that are given, whole or in part
 pub mod Giving
 -- one answer of a desk
 pub mod Desk
--- a run over many lines, and a whole run of the loop
+-- a run over many lines
 pub mod Session
--- the sessions of a store
-pub mod Sessions
+-- and a part of one
+pub mod Loop
+-- what `run` and `serve` promise
+pub mod Running

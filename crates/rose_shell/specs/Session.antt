@@ -2,14 +2,12 @@
 use Rattle.std.specs.Prelude.{◌≡◌, ◌≢◌, ◌⊎◌, ◌<◌, ◌≤◌, ℕ, List, [], ◌∷◌, ◌++◌, length, nat_lt}
 use Rattle.std.specs.Prelude.{MatchBool}
 use Rattle.outside_world.specs.View.{View, Asked, Moment}
-use Rattle.outside_world.specs.Since.{OnlyAdds, TakesNone, LeavesOnly}
-use Rattle.rose_shell.specs.declared.feeding.Halt.{Halt}
-use Rattle.rose_shell.specs.declared.feeding.Halt.TheVariants as halts
+use Rattle.outside_world.specs.Since.{OnlyAdds, LeavesOnly}
 use Rattle.rose_shell.specs.declared.refusals.Refusal.TheVariants.{NotBuilt}
 use Rattle.rose_shell.specs.declared.status.Status.{Status}
 use Rattle.rose_shell.specs.declared.status.Status.TheVariants.{Done, SourceFault, SinkFault}
 use Rattle.rose_shell.specs.declared.status.Status.TheVariants.{NoMemory, InputLimit}
-use Rattle.rose_shell.specs.Desk.{Answers, Stands, AllStand}
+use Rattle.rose_shell.specs.Desk.{Rule, Stands, AllStand}
 use Rattle.rose_shell.specs.Lines.{longest_line, whole_lines, all_lines}
 use Rattle.rose_shell.specs.Replies.{no_reply}
 
@@ -20,13 +18,13 @@ pub record Turn (S : Type 0) : Type 0 where
   pub after : S
 
 -- a line that is too long is refused unread, any other is answered
-abbrev pub Treats : {S : Type 0} → Answers S → S → List ℕ → List ℕ → S → Type 0
+abbrev pub Treats : {S : Type 0} → Rule S → S → List ℕ → List ℕ → S → Type 0
 Treats answers start line reply end =
     MatchBool (nat_lt longest_line (length line)) ((reply ≡ no_reply NotBuilt) × (end ≡ start))
     (answers start line reply end)
 
 -- the lines are treated one after another, each from the state that the one before has left
-abbrev pub IsRun : {S : Type 0} → Answers S → S → List (Turn S) → Type 0
+abbrev pub IsRun : {S : Type 0} → Rule S → S → List (Turn S) → Type 0
 IsRun answers start [] = Unit {0}
 IsRun answers start (turn ∷ turns) =
     Treats answers start turn.line turn.reply turn.after × IsRun answers turn.after turns
@@ -64,38 +62,6 @@ pub record IsGivenInPart {S : Type 0} (turns : List (Turn S)) (unsent : List ℕ
   pub in_order : turns ≡ before ++ last ∷ []
   pub split : last.reply ≡ sent ++ unsent
 
--- these lines were answered, and their replies given whole
-pub record Went {S : Type 0} (answers : Answers S) (stands : Stands S) (old new : View) (start end : S)
-    (lines : List (List ℕ)) : Type 0 where
-  pub turns : List (Turn S)
-  pub is_run : IsRun answers start turns
-  pub of_lines : lines_of turns ≡ lines
-  pub ends : end ≡ end_of start turns
-  pub given : new.given ≡ old.given ++ replies turns
-  pub takes : TakesNone old new
-  pub stand : AllStand stands new end
-  pub crash : LeavesOnly old new (IsMoment stands start turns old.given)
-
--- some of these lines were, until the sink failed within a reply, or memory ran out before the next one
-pub record Stopped {S : Type 0} (answers : Answers S) (stands : Stands S) (old new : View) (start end : S)
-    (lines : List (List ℕ)) (halt : Halt) : Type 0 where
-  pub turns : List (Turn S)
-  pub unread : List (List ℕ)
-  pub unsent : List ℕ
-  pub is_run : IsRun answers start turns
-  pub of_lines : lines_of turns ++ unread ≡ lines
-  pub given : new.given ++ unsent ≡ old.given ++ replies turns
-  pub takes : TakesNone old new
-  pub stand : AllStand stands new (end_of start turns)
-  pub crash : LeavesOnly old new (IsMoment stands start turns old.given)
-  pub sink : halt ≡ halts.Sink → (end ≡ end_of start turns) × IsGivenInPart turns unsent
-  pub memory : halt ≡ halts.NoMemory → unsent ≡ []
-
--- the status that a run ends with there
-abbrev pub status_at : Halt → Status
-status_at halts.Sink = SinkFault
-status_at halts.NoMemory = NoMemory
-
 -- a take began when the whole lines among the bytes taken had been answered, and nothing else
 pub record IsAnswered {S : Type 0} (old : View) (turns : List (Turn S)) (a : Asked) : Type 0 where
   pub bytes : List ℕ
@@ -107,7 +73,7 @@ pub record IsAnswered {S : Type 0} (old : View) (turns : List (Turn S)) (a : Ask
   pub given : a.given ≡ old.given ++ replies done
 
 -- a whole run of the loop, with its status
-pub record Served {S : Type 0} (answers : Answers S) (stands : Stands S) (old new : View) (start end : S)
+pub record Served {S : Type 0} (answers : Rule S) (stands : Stands S) (old new : View) (start end : S)
     (budget : ℕ) (status : Status) : Type 0 where
   pub bytes : List ℕ
   pub turns : List (Turn S)

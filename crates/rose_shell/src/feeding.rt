@@ -1,18 +1,15 @@
 //! Answers the lines that end in the bytes that were read.
 //! Of a line no more than one byte beyond the longest is kept. This much tells whether the line is too
 //! long, and where it isn't, this is the line.
-ghost use Rattle.std.specs.Prelude.{◌≡◌, ◌≢◌, ◌≤◌, ◌<◌, ℕ, List, [], ◌∷◌, ◌++◌, All, length, take};
-ghost use Rattle.std.specs.Prelude.{slice_index, MatchOption, IfErr, OnOk, OnErr, IsErrOf};
+ghost use Rattle.std.specs.Prelude.{◌≡◌, ◌≢◌, ◌<◌, ℕ, List, [], ◌∷◌, ◌++◌, All, length, take};
+ghost use Rattle.std.specs.Prelude.{slice_index, Err, MatchOption, IfErr, OnOk, IsErrOf};
 ghost use Rattle.outside_world.specs.Counts.{Rose};
 ghost use Rattle.outside_world.specs.GoesOn.{GoesOn};
-ghost use Rattle.rose_shell.specs.Lines.{longest_line, lines_from, part_from, last_line, IsKept};
-ghost use Rattle.rose_shell.specs.declared.refusals.Refusal.TheVariants.{NotBuilt};
-ghost use Rattle.rose_shell.specs.Replies.{no_reply};
-ghost use Rattle.rose_shell.specs.Giving.{GaveAll};
+ghost use Rattle.rose_shell.specs.Lines.{lines_from, part_from, last_line, IsKept};
 ghost use Rattle.rose_shell.specs.Desk.{AllStand};
-ghost use Rattle.rose_shell.specs.Session.{Went, Stopped};
+ghost use Rattle.rose_shell.specs.Loop.{Went, Stopped};
 
-use crate::answering::Desk;
+use crate::desk::Desk;
 use crate::giving::give_all;
 use crate::{LONG_LINE_REFUSAL, LONGEST_LINE};
 use grid_base::NoMemory;
@@ -45,14 +42,13 @@ pub(crate) fn answer_last<W: Outside, D: Desk<W>>(
         (last_line line) halt) }
     ensures sink_fault { IsErrOf result Halt.Sink
         → Rose (W.sink_faults world.old) (W.sink_faults world.new) }
-    ensures ready { OnOk result (D.ready desk.new) }
-    ensures sink_ready { IsErrOf result Halt.Sink → D.ready desk.new }
+    ensures ready { result ≢ Err Halt.NoMemory → D.ready desk.new }
     ensures goes_on { GoesOn ⟦<W as Outside>⟧ world.old world.new }
 {
     if kept.is_empty() {
         return Ok(());
     }
-    answer_line(alloc, desk, world, kept)
+    answer_kept(alloc, desk, world, kept)
 }
 
 /// Reads a chunk of the input, and answers each line that ends in it.
@@ -76,8 +72,7 @@ pub(crate) fn feed<W: Outside, D: Desk<W>>(
         (lines_from part chunk.now) halt) }
     ensures sink_fault { IsErrOf result Halt.Sink
         → Rose (W.sink_faults world.old) (W.sink_faults world.new) }
-    ensures ready { OnOk result (D.ready desk.new) }
-    ensures sink_ready { IsErrOf result Halt.Sink → D.ready desk.new }
+    ensures ready { result ≢ Err Halt.NoMemory → D.ready desk.new }
     ensures stand { OnOk result (W.tells world.new → AllStand D.stands (W.view world.new) desk.new) }
     ensures goes_on { GoesOn ⟦<W as Outside>⟧ world.old world.new }
 {
@@ -114,7 +109,6 @@ fn end_line<W: Outside, D: Desk<W>>(
 ) -> Result<(), Halt>
     requires ready { D.ready desk.old }
     requires stand { W.tells world.old → AllStand D.stands (W.view world.old) desk.old }
-    ensures goes_on { GoesOn ⟦<W as Outside>⟧ world.old world.new }
     ensures kept { OnOk result (kept.new.items ≡ []) }
     ensures went { OnOk result ((part : List ℕ) → IsKept kept.old.items part → W.tells world.new
         → Went D.answers D.stands (W.view world.old) (W.view world.new) desk.old desk.new
@@ -125,15 +119,15 @@ fn end_line<W: Outside, D: Desk<W>>(
         ((part ++ bytes.now) ∷ []) halt) }
     ensures sink_fault { IsErrOf result Halt.Sink
         → Rose (W.sink_faults world.old) (W.sink_faults world.new) }
-    ensures ready { OnOk result (D.ready desk.new) }
-    ensures sink_ready { IsErrOf result Halt.Sink → D.ready desk.new }
+    ensures ready { result ≢ Err Halt.NoMemory → D.ready desk.new }
     ensures stand { OnOk result (W.tells world.new → AllStand D.stands (W.view world.new) desk.new) }
+    ensures goes_on { GoesOn ⟦<W as Outside>⟧ world.old world.new }
 {
     match keep(kept, bytes) {
         Ok(()) => {}
         Err(NoMemory) => return Err(Halt::NoMemory),
     }
-    match answer_line(alloc, desk, world, kept) {
+    match answer_kept(alloc, desk, world, kept) {
         Ok(()) => {}
         Err(halt) => return Err(halt),
     }
@@ -151,8 +145,8 @@ fn keep(kept: &mut Vec<u8>, bytes: &[u8]) -> Result<(), NoMemory>
     Ok(())
 }
 
-/// Answers a line of which this was kept.
-fn answer_line<W: Outside, D: Desk<W>>(
+/// Answers the line of which this was kept: refuses it unread where it is too long.
+fn answer_kept<W: Outside, D: Desk<W>>(
     alloc: Global,
     desk: &mut D,
     world: &mut W,
@@ -160,7 +154,6 @@ fn answer_line<W: Outside, D: Desk<W>>(
 ) -> Result<(), Halt>
     requires ready { D.ready desk.old }
     requires stand { W.tells world.old → AllStand D.stands (W.view world.old) desk.old }
-    ensures goes_on { GoesOn ⟦<W as Outside>⟧ world.old world.new }
     ensures went { OnOk result ((line : List ℕ) → IsKept kept.now line → W.tells world.new
         → Went D.answers D.stands (W.view world.old) (W.view world.new) desk.old desk.new
         (line ∷ [])) }
@@ -169,56 +162,21 @@ fn answer_line<W: Outside, D: Desk<W>>(
         (line ∷ []) halt) }
     ensures sink_fault { IsErrOf result Halt.Sink
         → Rose (W.sink_faults world.old) (W.sink_faults world.new) }
-    ensures ready { OnOk result (D.ready desk.new) }
-    ensures sink_ready { IsErrOf result Halt.Sink → D.ready desk.new }
+    ensures ready { result ≢ Err Halt.NoMemory → D.ready desk.new }
     ensures stand { OnOk result (W.tells world.new → AllStand D.stands (W.view world.new) desk.new) }
+    ensures goes_on { GoesOn ⟦<W as Outside>⟧ world.old world.new }
 {
     if kept.len() > LONGEST_LINE {
-        return match refuse_long(world) {
+        return match give_all(world, &LONG_LINE_REFUSAL) {
             Ok(()) => Ok(()),
             Err(Failed) => Err(Halt::Sink),
         };
     }
-    answer_short(alloc, desk, world, kept)
-}
-
-/// Answers a line that isn't too long.
-fn answer_short<W: Outside, D: Desk<W>>(
-    alloc: Global,
-    desk: &mut D,
-    world: &mut W,
-    line: &[u8],
-) -> Result<(), Halt>
-    requires short { length line.now ≤ longest_line }
-    requires ready { D.ready desk.old }
-    requires stand { W.tells world.old → AllStand D.stands (W.view world.old) desk.old }
-    ensures went { OnOk result (W.tells world.new
-        → Went D.answers D.stands (W.view world.old) (W.view world.new) desk.old desk.new
-        (line.now ∷ [])) }
-    ensures stopped { IfErr result (λ halt. W.tells world.new
-        → Stopped D.answers D.stands (W.view world.old) (W.view world.new) desk.old desk.new
-        (line.now ∷ []) halt) }
-    ensures sink_fault { IsErrOf result Halt.Sink
-        → Rose (W.sink_faults world.old) (W.sink_faults world.new) }
-    ensures ready { OnOk result (D.ready desk.new) }
-    ensures sink_ready { IsErrOf result Halt.Sink → D.ready desk.new }
-    ensures goes_on { GoesOn ⟦<W as Outside>⟧ world.old world.new }
-{
-    match desk.answer(alloc, world, line) {
+    match desk.answer(alloc, world, kept) {
         Err(NoMemory) => Err(Halt::NoMemory),
         Ok(reply) => match give_all(world, reply.bytes()) {
             Ok(()) => Ok(()),
             Err(Failed) => Err(Halt::Sink),
         },
     }
-}
-
-/// Refuses a line that is too long.
-fn refuse_long<W: Outside>(world: &mut W) -> Result<(), Failed>
-    ensures sink_fault { OnErr result (Rose (W.sink_faults world.old) (W.sink_faults world.new)) }
-    ensures told { W.tells world.new
-        → GaveAll (W.view world.old) (W.view world.new) (no_reply NotBuilt) result }
-    ensures goes_on { GoesOn ⟦<W as Outside>⟧ world.old world.new }
-{
-    give_all(world, &LONG_LINE_REFUSAL)
 }

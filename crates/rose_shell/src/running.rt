@@ -2,9 +2,9 @@
 ghost use Rattle.std.specs.Prelude.{◌≡◌, ◌≢◌, ◌≤◌, ◌^◌, ◌⊎◌, ◌↔◌, IsTrue, false, length, map, string_bytes, codes};
 ghost use Rattle.outside_world.specs.Counts.{Rose};
 ghost use Rattle.outside_world.specs.GoesOn.{GoesOn};
-ghost use Rattle.rose_shell.specs.Sessions.{IsRunWord, HasServed, HasRun};
+ghost use Rattle.rose_shell.specs.Running.{IsRunWord, HasServed, HasRun};
 
-use crate::serving::serve_desk;
+use crate::serving::serve_by_chunks;
 use crate::status::Status;
 use crate::store::Store;
 use outside_world::Outside;
@@ -75,6 +75,7 @@ pub fn serve<R: Threads + Sync, W: Outside>(
     ensures sink_fault { result ≡ Status.SinkFault → Rose (W.sink_faults world.old) (W.sink_faults world.new) }
     ensures told { W.tells world.new
         → HasServed (W.view world.old) (W.view world.new) store.old store.new budget result }
+    // Where no call fails and the input ends within the budget, nothing but memory can be wanting.
     ensures complete { W.tells world.new
         → ¬ (Rose (W.source_faults world.old) (W.source_faults world.new))
         → ¬ (Rose (W.sink_faults world.old) (W.sink_faults world.new))
@@ -86,5 +87,6 @@ pub fn serve<R: Threads + Sync, W: Outside>(
     // The session begins with a realm.
     let _drawing = store.drawing();
     let alloc = store.allocator();
-    serve_desk(alloc, store, world, budget)
+    let mut chunk = [0u8; 65_536];
+    serve_by_chunks(alloc, store, world, budget, &mut chunk)
 }

@@ -1,52 +1,22 @@
 //! The serving loop: it reads lines to the end of the input, and answers each before it reads on.
-ghost use Rattle.std.specs.Prelude.{◌≡◌, ◌≢◌, ◌⊎◌, ◌≤◌, ◌<◌, length, max, IfOk, OnErr};
+ghost use Rattle.std.specs.Prelude.{◌≡◌, ◌≢◌, ◌≤◌, ◌<◌, length, max, IfOk, OnErr};
 ghost use Rattle.outside_world.specs.Counts.{Rose};
 ghost use Rattle.outside_world.specs.GoesOn.{GoesOn};
 ghost use Rattle.outside_world.specs.Calls.{Took};
 ghost use Rattle.rose_shell.specs.Desk.{AllStand};
-ghost use Rattle.rose_shell.specs.Session.{Served, status_at};
+ghost use Rattle.rose_shell.specs.Session.{Served};
+ghost use Rattle.rose_shell.specs.Loop.{status_at};
 
-use crate::answering::Desk;
+use crate::desk::Desk;
 use crate::feeding::{Halt, answer_last, feed};
 use crate::status::Status;
 use outside_world::{Failed, Outside};
 use std::alloc::Global;
 
-/// Reads lines to the end of the input, and answers each. What stands after the last line feed is a line
-/// too, where it isn't empty. The run ends at the first fault, at want of memory, and at the first take
-/// that gives more after `budget` bytes were taken.
-pub(crate) fn serve_desk<W: Outside, D: Desk<W>>(
-    alloc: Global,
-    desk: &mut D,
-    world: &mut W,
-    budget: u64,
-) -> Status
-    requires ready { D.ready desk.old }
-    requires stand { W.tells world.old → AllStand D.stands (W.view world.old) desk.old }
-    ensures told { W.tells world.new
-        → Served D.answers D.stands (W.view world.old) (W.view world.new) desk.old desk.new budget result }
-    ensures never_usage { result ≢ Status.Usage }
-    ensures source_fault { result ≡ Status.SourceFault
-        → Rose (W.source_faults world.old) (W.source_faults world.new) }
-    ensures sink_fault { result ≡ Status.SinkFault
-        → Rose (W.sink_faults world.old) (W.sink_faults world.new) }
-    // Where no call fails and the input ends within the budget, nothing but memory can be wanting.
-    ensures complete { W.tells world.new
-        → ¬ (Rose (W.source_faults world.old) (W.source_faults world.new))
-        → ¬ (Rose (W.sink_faults world.old) (W.sink_faults world.new))
-        → length (W.view world.old).left ≤ budget
-        → (result ≡ Status.Done) ⊎ (result ≡ Status.NoMemory) }
-    ensures ready { result ≢ Status.NoMemory → D.ready desk.new }
-    ensures stand { result ≢ Status.NoMemory → W.tells world.new
-        → AllStand D.stands (W.view world.new) desk.new }
-    ensures goes_on { GoesOn ⟦<W as Outside>⟧ world.old world.new }
-{
-    let mut chunk = [0u8; 65_536];
-    serve_by_chunks(alloc, desk, world, budget, &mut chunk)
-}
-
-/// The same, with this room for the bytes of one take.
-fn serve_by_chunks<W: Outside, D: Desk<W>>(
+/// Reads lines to the end of the input, and answers each, with this room for the bytes of one take. What stands after
+/// the last line feed is a line too, where it isn't empty. The run ends at the first fault, at want of memory, and at
+/// the first take that gives more after `budget` bytes were taken.
+pub(crate) fn serve_by_chunks<W: Outside, D: Desk<W>>(
     alloc: Global,
     desk: &mut D,
     world: &mut W,
@@ -56,7 +26,6 @@ fn serve_by_chunks<W: Outside, D: Desk<W>>(
     requires room { 0 < length chunk.old }
     requires ready { D.ready desk.old }
     requires stand { W.tells world.old → AllStand D.stands (W.view world.old) desk.old }
-    ensures goes_on { GoesOn ⟦<W as Outside>⟧ world.old world.new }
     ensures told { W.tells world.new
         → Served D.answers D.stands (W.view world.old) (W.view world.new) desk.old desk.new budget result }
     ensures never_usage { result ≢ Status.Usage }
@@ -65,6 +34,7 @@ fn serve_by_chunks<W: Outside, D: Desk<W>>(
     ensures sink_fault { result ≡ Status.SinkFault
         → Rose (W.sink_faults world.old) (W.sink_faults world.new) }
     ensures ready { result ≢ Status.NoMemory → D.ready desk.new }
+    ensures goes_on { GoesOn ⟦<W as Outside>⟧ world.old world.new }
 {
     let mut kept = Vec::new(alloc);
     let mut room = budget;

@@ -2,7 +2,7 @@ use Rattle.std.proofs.Common.{◌≡◌, ℕ, List, ◌++◌, length}
 use Rattle.outside_world.specs.GoesOn.{GoesOn}
 use Rattle.rose_shell.specs.Lines.{lines_from, part_from, IsKept}
 use Rattle.rose_shell.specs.Desk.{AllStand}
-use Rattle.rose_shell.specs.Session.{Went}
+use Rattle.rose_shell.specs.Loop.{Went}
 use Rattle.rose_shell.proofs.feeding.feed.Given as goal
 
 abbrev pub invariant-loop-end : goal.invariant-loop-end

@@ -20,7 +20,7 @@ loop-n-preserved g c =
     let ens = c.in-Ok-feed.ensures in
     record {
       goes_on = goes_on_then inv.goes_on (goes_on_then took.goes_on ens.goes_on);
-      ready = ens.ready;
+      ready = ens.ready (λ is. cc);
       keeping = λ t.
           keeping_more (inv.keeping (took.goes_on.tells (ens.goes_on.tells t))) (took.told (ens.goes_on.tells t)) took.within (omega (arith, took.room))
           (λ part is. ens.went part is t) (λ part is. ens.kept part is);

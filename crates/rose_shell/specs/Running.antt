@@ -1,4 +1,4 @@
--- Sessions of a store: each line is answered by the table of lines, and each state on the way is a realm.
+-- What `run` and `serve` promise: each line is answered by the table of lines, and each state on the way is a realm.
 use Rattle.std.specs.Prelude.{◌≡◌, ◌^◌, ℕ, List, [], ◌∷◌, All, codes}
 use Rattle.outside_world.specs.View.{View}
 use Rattle.outside_world.specs.declared.world.FileName.{FileName}
