@@ -1,4 +1,22 @@
 -- a tree seen as a finite map
 pub mod TreeMaps
+-- the home square of a box
+pub mod Homes
 -- keys picked from entries
 pub mod Picked
+-- sums over the entries of a tree
+pub mod Sums
+-- what a search through a tree finds
+pub mod Searches
+-- lists of numbers that don't fall
+pub mod Orders
+-- sums over the entries of a map
+pub mod MapSums
+-- what the tests of boxes and squares say
+pub mod Boxes
+-- what an index answers of its map
+pub mod Found
+-- one count of the entries as asked
+pub mod Counts
+-- the worked case of the tests
+pub mod WorkedCase

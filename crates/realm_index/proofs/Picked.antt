@@ -1,145 +1,153 @@
--- This file shows that keys picked from entries in turn are those of the entries that are asked for, ascending.
-use Rattle.std.proofs.Common.{◌≡◌, ◌⊎◌, ◌↔◌, ℕ, ◌+◌, ◌<◌, ◌≤◌, refl, sym, ap, ◌∙◌, subst, ⊎_elim, arith}
-use Rattle.std.proofs.Common.{List, [], ◌∷◌, ◌++◌, length, take, get_or, Contains, Option, Some, None, IsSomeAnd}
-use Rattle.std.specs.List.{slice_get}
-use Rattle.std.specs.List.Sorted.{IsStrictlyIncreasing, IsStrictlySortedBy}
-use Rattle.std.specs.Map.{keys_of}
-use Rattle.std.specs.BTreeMap.{BTreeMap}
-use Rattle.std.specs.BTreeMap as tree
+-- This file shows that the keys picked from the entries of a tree by a test are those of its map, ascending.
+use Rattle.std.proofs.Common.{◌≡◌, ◌⊎◌, ◌↔◌, ℕ, zero, suc, ◌+◌, Bool, true, false, cond, IsTrue, refl, ap, subst, ⊎_elim, inl, inr, arith}
+use Rattle.std.proofs.Common.{List, [], ◌∷◌, length, Ordering, Less, Equal, Greater, Contains, Option, Some, None, IsSomeAnd, sym, ◌∙◌}
+use Rattle.std.specs.List.{sum_by, AllByRecursion}
+use Rattle.std.specs.List.Sorted.{IsStrictlySortedBy}
+use Rattle.std.specs.Map.{keys_of, lookup}
 use Rattle.std.specs.FinMap as map
-use Rattle.std.specs.Ordering.{nat_cmp}
-use Rattle.std.proofs.lemmas.List.{take_more, get_or-take, get_or-map, length-take, length-map}
-use Rattle.std.proofs.lemmas.List.{get_or_append_left, get_or_push, length_push}
-use Rattle.std.proofs.lemmas.List.Elements.{Contains-append_left, Contains-push, Contains-push_cases, Contains-get_or}
-use Rattle.std.proofs.lemmas.Cmp.{nat_cmp_total}
-use Rattle.std.proofs.lemmas.Map.Lookups.{exact_unsigned}
-use Rattle.std.proofs.lemmas.Map.Views.{btree_map_get_iff}
-use Rattle.std.proofs.lemmas.Map.Keys.{below_from_sorted}
-use Rattle.std.proofs.lemmas.Option.{slice_get_within, get_or_from_slice_get}
+use Rattle.std.specs.Ordering.{nat_cmp, is_eq, eq_by_cmp}
+use Rattle.std.proofs.lemmas.List.Sums.{sum_by-cons}
+use Rattle.std.proofs.lemmas.Cmp.{nat_cmp_total, eq_by_cmp_equiv}
+use Rattle.std.proofs.lemmas.Map.Views.{Contains-from_lookup, lookup-from_Contains}
+use Rattle.std.proofs.lemmas.Map.Keys.{sorted_head, sorted_tail, IsStrictlyIncreasing-from_sorted, IsDistinct-from_sorted}
 use Rattle.grid_base.specs.Segment.{GridSegment}
 use Rattle.realm_index.specs.Index.{HasKeysWhere}
-use Rattle.realm_index.proofs.TreeMaps.{get-tree}
+use Rattle.realm_index.proofs.TreeMaps.{find-lookup}
 
--- ---- one more number
--- a greater number at the end leaves a list ascending
-ascending_push : (ks : List ℕ) (y : ℕ) → IsStrictlyIncreasing ks → ((k : ℕ) → Contains ks k → k < y)
-    → IsStrictlyIncreasing (ks ++ y ∷ [])
-ascending_push ks y up below = λ k within.
-    let more = length_push ks y in
-    let there : k < length ks = omega arith in
-    let this = get_or_append_left ks (y ∷ []) 0 k there in
-    ⊎_elim
-    (λ (later : k + 1 < length ks). rw (this, get_or_append_left ks (y ∷ []) 0 (k + 1) later) (up k later))
-    (λ (last : length ks ≡ k + 1).
-    rw (this, get_or_push ks y 0 (k + 1) last) (below (get_or ks k 0) (Contains-get_or ks k 0 there)))
-    (later_or_last (k + 1) (length ks) (omega arith))
-  where
-    later_or_last : (k n : ℕ) → k ≤ n → (k < n) ⊎ (n ≡ k)
-    later_or_last k n no_more = grind arith
+-- ---- members of a list
+pub contains_here : {A : Type 0} (x : A) (xs : List A) → Contains (x ∷ xs) x
+contains_here x xs = (0, omega arith, refl)
 
--- ---- one more entry
--- ks has exactly the keys of the entries es whose segments are as P says, ascending
-pub record Picked (P : GridSegment → Type 0) (es : List (ℕ × GridSegment)) (ks : List ℕ) : Type 0 where
-  pub exact : (k : ℕ) → Contains ks k ↔ ((t : GridSegment) × (Contains es (k, t) × P t))
-  pub ascending : IsStrictlyIncreasing ks
+pub contains_later : {A : Type 0} (x y : A) (xs : List A) → Contains xs x → Contains (y ∷ xs) x
+contains_later x y xs (k, within, is) = (suc k, omega (arith, within), is)
 
-module _ (P : GridSegment → Type 0) where
-  -- no entry, no key
-  pub picked_none : Picked P [] []
-  picked_none = record {
-    exact = λ k. (λ there. absurd (omega (arith, there.1)), λ (t, (there, is)). absurd (omega (arith, there.1)));
-    ascending = λ k within. absurd (omega (arith, within));
-  }
+pub contains_cases : {A : Type 0} (x y : A) (xs : List A) → Contains (y ∷ xs) x → (y ≡ x) ⊎ Contains xs x
+contains_cases x y xs (zero, within, is) = inl is
+contains_cases x y xs (suc k, within, is) = inr (k, omega (arith, within), is)
 
-  module _ (es : List (ℕ × GridSegment)) (ks : List ℕ) (e : ℕ × GridSegment) (picked : Picked P es ks) where
-    -- a key that was picked stays, whatever comes
-    stays : (k : ℕ) → Contains ks k → (t : GridSegment) × (Contains (es ++ e ∷ []) (k, t) × P t)
-    stays k there =
-        let entry = (picked.exact k).0 there in
-        (entry.0, (Contains-append_left es (e ∷ []) (k, entry.0) entry.1.0, entry.1.1))
+-- ---- picking
+-- the keys of the entries that pass the test
+abbrev pub picks : (ℕ × GridSegment → Bool) → List (ℕ × GridSegment) → List ℕ
+picks p [] = []
+picks p (e ∷ es) = cond (p e) (e.0 ∷ picks p es) (picks p es)
 
-    -- an entry that is asked for
-    picked_push : P e.1 → ((k : ℕ) (t : GridSegment) → Contains es (k, t) → k < e.0)
-        → Picked P (es ++ e ∷ []) (ks ++ e.0 ∷ [])
-    picked_push is below = record {
-      exact = λ k. (
-        λ there. ⊎_elim
-            (stays k)
-            (λ (here : e.0 ≡ k).
-            subst (λ x. (t : GridSegment) × (Contains (es ++ e ∷ []) (x, t) × P t)) here (e.1, (Contains-push es e, is)))
-            (Contains-push_cases ks e.0 k there),
-        λ (t, (there, asked)). ⊎_elim
-            (λ before. Contains-append_left ks (e.0 ∷ []) k ((picked.exact k).1 (t, (before, asked))))
-            (λ here. subst (Contains (ks ++ e.0 ∷ [])) (ap (λ x. x.0) here) (Contains-push ks e.0))
-            (Contains-push_cases es e (k, t) there),
-      );
-      ascending = ascending_push ks e.0 picked.ascending (λ k there.
-          let entry = (picked.exact k).0 there in
-          below k entry.0 entry.1.0);
-    }
+module _ (p : ℕ × GridSegment → Bool) where
+  -- sums over the picked keys
+  sum_step : (f : ℕ → ℕ) (t : Bool) (k : ℕ) (ks : List ℕ) → sum_by f (cond t (k ∷ ks) ks) ≡ cond t (f k) 0 + sum_by f ks
+  sum_step f true k ks = sum_by-cons f k ks
+  sum_step f false k ks = omega arith
 
-    -- an entry that isn't
-    picked_pass : (P e.1 → ⊥) → Picked P (es ++ e ∷ []) ks
-    picked_pass isnt = record {
-      exact = λ k. (
-        stays k,
-        λ (t, (there, asked)). ⊎_elim
-            (λ before. (picked.exact k).1 (t, (before, asked)))
-            (λ (here : e ≡ (k, t)). absurd (isnt (subst P (sym (ap (λ x. x.1) here)) asked)))
-            (Contains-push_cases es e (k, t) there),
-      );
-      ascending = picked.ascending;
-    }
+  pub sum_picks : (f : ℕ → ℕ) (es : List (ℕ × GridSegment)) → sum_by f (picks p es) ≡ sum_by (λ e. cond (p e) (f e.0) 0) es
+  sum_picks f [] = refl
+  sum_picks f (e ∷ es) =
+      let step = sum_step f (p e) e.0 (picks p es) in
+      let whole = sum_by-cons (λ x. cond (p x) (f x.0) 0) e es in
+      let rest = sum_picks f es in
+      omega (arith, step, whole, rest)
 
--- ---- the entries in turn
-module _ (es : List (ℕ × GridSegment)) (n : ℕ) (e : ℕ × GridSegment) (next : slice_get es n ≡ Some e) where
-  -- the first entries, with the next
-  take_next : take (n + 1) es ≡ take n es ++ e ∷ []
-  take_next =
-      let within = slice_get_within es n e next in
-      take_more es n e within ∙ ap (λ x. take n es ++ x ∷ []) (get_or_from_slice_get es n e e next)
+  -- how many were picked
+  length_step : (t : Bool) (k : ℕ) (ks : List ℕ) → length (cond t (k ∷ ks) ks) ≡ cond t 1 0 + length ks
+  length_step true k ks = omega arith
+  length_step false k ks = omega arith
 
-  -- earlier keys are less
-  earlier_is_less : IsStrictlySortedBy nat_cmp (keys_of es) → (k : ℕ) (t : GridSegment) → Contains (take n es) (k, t)
-      → k < e.0
-  earlier_is_less sorted k t (i, within, is) =
-      let first = λ (f : ℕ × GridSegment). f.0 in
-      let whole = slice_get_within es n e next in
-      let short = length-take n es in
-      let at_i : get_or (keys_of es) i 0 ≡ k =
-      get_or-map first es i (k, t) 0 (omega arith) ∙ ap first (sym (get_or-take n es i (k, t) (omega arith)) ∙ is) in
-      let at_n : get_or (keys_of es) n 0 ≡ e.0 =
-      get_or-map first es n e 0 whole ∙ ap first (get_or_from_slice_get es n e e next) in
-      let keys = length-map es first in
-      omega (arith, below_from_sorted (keys_of es) i n 0 sorted (omega arith) (omega arith))
+  pub length_picks : (es : List (ℕ × GridSegment)) → length (picks p es) ≡ sum_by (λ e. cond (p e) 1 0) es
+  length_picks [] = refl
+  length_picks (e ∷ es) =
+      let step = length_step (p e) e.0 (picks p es) in
+      let whole = sum_by-cons (λ x. cond (p x) 1 0) e es in
+      let rest = length_picks es in
+      omega (arith, step, whole, rest)
 
-  module _ (P : GridSegment → Type 0) (ks : List ℕ) where
-    -- the next entry is asked for
-    pub picked_more : IsStrictlySortedBy nat_cmp (keys_of es) → P e.1 → Picked P (take n es) ks
-        → Picked P (take (n + 1) es) (ks ++ e.0 ∷ [])
-    picked_more sorted is picked = rw take_next (picked_push P (take n es) ks e picked is (earlier_is_less sorted))
+  -- the picked keys ascend
+  all_step : (P : ℕ → Type 0) (t : Bool) (k : ℕ) (ks : List ℕ) → P k → AllByRecursion P ks → AllByRecursion P (cond t (k ∷ ks) ks)
+  all_step P true k ks one all = (one, all)
+  all_step P false k ks one all = all
 
-    -- the next entry isn't
-    pub picked_same : (P e.1 → ⊥) → Picked P (take n es) ks → Picked P (take (n + 1) es) ks
-    picked_same isnt picked = rw take_next (picked_pass P (take n es) ks e picked isnt)
+  all_picks : (P : ℕ → Type 0) (es : List (ℕ × GridSegment)) → AllByRecursion P (keys_of es) → AllByRecursion P (picks p es)
+  all_picks P [] all = all
+  all_picks P (e ∷ es) all = all_step P (p e) e.0 (picks p es) all.0 (all_picks P es all.1)
 
--- ---- all entries
-some_and : (o : Option GridSegment) (P : GridSegment → Type 0) → IsSomeAnd o P → (t : GridSegment) × ((o ≡ Some t) × P t)
+  sorted_step : (t : Bool) (k : ℕ) (ks : List ℕ) → AllByRecursion (λ y. nat_cmp k y ≡ Less) ks → IsStrictlySortedBy nat_cmp ks
+      → IsStrictlySortedBy nat_cmp (cond t (k ∷ ks) ks)
+  unfolding IsStrictlySortedBy
+  sorted_step true k ks below sorted = (below, sorted)
+  sorted_step false k ks below sorted = sorted
+
+  pub sorted_picks : (es : List (ℕ × GridSegment)) → IsStrictlySortedBy nat_cmp (keys_of es) → IsStrictlySortedBy nat_cmp (picks p es)
+  sorted_picks [] sorted = sorted
+  sorted_picks (e ∷ es) sorted = sorted_step (p e) e.0 (picks p es)
+      (all_picks (λ y. nat_cmp e.0 y ≡ Less) es (sorted_head nat_cmp e.0 (keys_of es) sorted))
+      (sorted_picks es (sorted_tail nat_cmp e.0 (keys_of es) sorted))
+
+  -- which keys were picked
+  picked_step : (t : Bool) (k : ℕ) (e : ℕ × GridSegment) (es : List (ℕ × GridSegment)) → p e ≡ t
+      → (Contains (picks p es) k → (s : GridSegment) × Contains es (k, s) × IsTrue (p (k, s)))
+      → Contains (cond t (e.0 ∷ picks p es) (picks p es)) k → (s : GridSegment) × Contains (e ∷ es) (k, s) × IsTrue (p (k, s))
+  picked_step true k e es is rest there = ⊎_elim
+      (λ (here : e.0 ≡ k).
+      let same : e ≡ (k, e.1) = λ i. (here i, e.1) in
+      (e.1, subst (Contains (e ∷ es)) same (contains_here e es), subst (λ x. IsTrue (p x)) same is))
+      (λ later. let found = rest later in (found.0, contains_later (k, found.0) e es found.1, found.2))
+      (contains_cases k e.0 (picks p es) there)
+  picked_step false k e es is rest there =
+      let found = rest there in (found.0, contains_later (k, found.0) e es found.1, found.2)
+
+  pub picked_has : (k : ℕ) (es : List (ℕ × GridSegment)) → Contains (picks p es) k
+      → (s : GridSegment) × Contains es (k, s) × IsTrue (p (k, s))
+  picked_has k [] there = absurd (omega (arith, there.1))
+  picked_has k (e ∷ es) there = picked_step (p e) k e es refl (picked_has k es) there
+
+  has_step : (t : Bool) (k : ℕ) (s : GridSegment) (e : ℕ × GridSegment) (ks : List ℕ) → p e ≡ t → IsTrue (p (k, s))
+      → (e ≡ (k, s)) ⊎ Contains ks k → Contains (cond t (e.0 ∷ ks) ks) k
+  has_step true k s e ks is pass found = ⊎_elim
+      (λ (here : e ≡ (k, s)). subst (Contains (e.0 ∷ ks)) (ap (λ x. x.0) here) (contains_here e.0 ks))
+      (λ later. contains_later k e.0 ks later) found
+  has_step false k s e ks is pass found = ⊎_elim
+      (λ (here : e ≡ (k, s)). absurd (cc (ap p here, is, pass)))
+      (λ later. later) found
+
+  pub has_picked : (k : ℕ) (s : GridSegment) (es : List (ℕ × GridSegment)) → Contains es (k, s) → IsTrue (p (k, s))
+      → Contains (picks p es) k
+  has_picked k s [] there pass = absurd (omega (arith, there.1))
+  has_picked k s (e ∷ es) there pass = has_step (p e) k s e (picks p es) refl pass
+      (⊎_elim (λ here. inl here) (λ later. inr (has_picked k s es later pass)) (contains_cases (k, s) e es there))
+
+-- ---- the keys of a map
+pub tied : (o : Ordering) → is_eq o ≡ true → o ≡ Equal
+tied Less e = absurd (cc)
+tied Equal e = refl
+tied Greater e = absurd (cc)
+
+some_and : (o : Option GridSegment) (P : GridSegment → Type 0) → IsSomeAnd o P → (t : GridSegment) × (o ≡ Some t) × P t
 some_and None P none = absurd none
-some_and (Some t) P is = (t, (refl, is))
+some_and (Some t) P is = (t, refl, is)
 
--- the keys picked from all entries of a tree are those of its map
-pub picked_all : (P : GridSegment → Type 0) (m : BTreeMap ℕ GridSegment) (ks : List ℕ) → tree.IsOrdered nat_cmp m
-    → Picked P m.entries ks → HasKeysWhere P (map.from_entries m.entries) ks
-picked_all P m ks ordered picked = record {
-  exact = λ k.
-      let found = btree_map_get_iff nat_cmp_total exact_unsigned m ordered k in (
-        λ there.
-            let entry = (picked.exact k).0 there in
-            rw (get-tree nat_cmp_total m k, (found entry.0).1 entry.1.0) entry.1.1,
-        λ some.
-            let entry = some_and (tree.get nat_cmp m k) P (rw (get-tree nat_cmp_total m k) at some) in
-            (picked.exact k).1 (entry.0, ((found entry.0).0 entry.1.0, entry.1.1)),
-      );
-  ascending = picked.ascending;
-}
+module _ (es : List (ℕ × GridSegment)) (sorted : IsStrictlySortedBy nat_cmp (keys_of es)) where
+  -- what the map of ascending entries has is among them
+  looked_up : (k : ℕ) → map.get (map.from_entries {R = nat_cmp} es) k ≡ lookup (eq_by_cmp nat_cmp k) es
+  looked_up k = map.get-from_entries nat_cmp_total es k ∙ find-lookup nat_cmp_total k es
+
+  got : (k : ℕ) (t : GridSegment) → Contains es (k, t) → map.get (map.from_entries {R = nat_cmp} es) k ≡ Some t
+  got k t there = looked_up k ∙ lookup-from_Contains (eq_by_cmp_equiv nat_cmp_total) k t es
+      (IsDistinct-from_sorted nat_cmp (keys_of es) sorted) there
+
+  there : (k : ℕ) (t : GridSegment) → map.get (map.from_entries {R = nat_cmp} es) k ≡ Some t → Contains es (k, t)
+  there k t is = Contains-from_lookup (λ x y same. map.nat_cmp-IsAntisymmetric x y (tied (nat_cmp x y) same)) k t es
+      (sym (looked_up k) ∙ is)
+
+  -- where the test of each entry decides P, the picked keys are those of the map
+  pub picked_keys : (P : GridSegment → Type 0) (p : ℕ × GridSegment → Bool)
+      → ((k : ℕ) (t : GridSegment) → Contains es (k, t) → IsTrue (p (k, t)) ↔ P t)
+      → HasKeysWhere P (map.from_entries es) (picks p es)
+  picked_keys P p decides = record {
+    exact = λ k. (
+      λ listed.
+          let entry = picked_has p k es listed in
+          rw (got k entry.0 entry.1) ((decides k entry.0 entry.1).0 entry.2),
+      λ some.
+          let entry = some_and (map.get (map.from_entries {R = nat_cmp} es) k) P some in
+          let listed = there k entry.0 entry.1 in
+          has_picked p k entry.0 es listed ((decides k entry.0 listed).1 entry.2),
+    );
+    ascending = IsStrictlyIncreasing-from_sorted (picks p es) (sorted_picks p es sorted);
+  }

@@ -1,4 +1,12 @@
 -- indexes as maps from keys to segments, and the keys that an answer has
 pub mod Index
--- what is asked of an index, for this crate's own proofs
-pub mod Asked
+-- squares, and the home square of a segment
+pub mod Square
+-- boxes and squares by tests, for this crate's own proofs
+pub mod Bounds
+-- trees of squares, for this crate's own proofs
+pub mod Branch
+-- how the tree of an index stands by its map, for this crate's own proofs
+pub mod Kept
+-- the worked case of the tests
+pub mod Worked

@@ -1,16 +1,19 @@
 //! Indexes of segments by keys.
-ghost use Rattle.std.specs.Prelude.{◌≡◌, ◌↔◌, ◌+◌, ◌≤◌, None, IsSome, IsTrue, IfOk, OnOk, OnErr};
-ghost use Rattle.std.specs.Prelude.{MatchResult, length};
+ghost use Rattle.std.specs.Prelude.{◌≡◌, ◌↔◌, ◌+◌, ◌≤◌, ℕ, [], All, None};
+ghost use Rattle.std.specs.Prelude.{IsSome, IsTrue, IfOk, OnOk, OnErr, MatchResult};
 ghost use Rattle.std.specs.Bool.{OnTrue, OnFalse};
 ghost use Rattle.std.specs.FinMap as map;
-ghost use Rattle.std.specs.Ordering.{nat_cmp};
-ghost use Rattle.std.specs.BTreeMap.{IsOrdered};
+ghost use Rattle.std.specs.List.Sorted.{IsNonDecreasing};
 ghost use Rattle.grid_base.specs.Point.{InBox};
 ghost use Rattle.grid_base.specs.Segment.{BoxesMeet};
-ghost use Rattle.realm_index.specs.Index.{HasKeysWhere};
-ghost use Rattle.realm_index.specs.Asked.{IsAsked};
+ghost use Rattle.realm_index.specs.Index.{HasKeysWhere, HasCountWhere};
+ghost use Rattle.realm_index.specs.Square.{HasHomeNear, HasHomeRound};
+ghost use Rattle.realm_index.specs.Bounds.{holds};
+ghost use Rattle.realm_index.specs.Branch.{AddsKeys, count_near};
 
-use crate::asked::Asked;
+use crate::bounds::Bounds;
+use crate::square::Square;
+use crate::tree::{Entry, Tree};
 use grid_base::{NoMemory, Point, Segment, Steps};
 use std::alloc::Global;
 use std::collections::BTreeMap;
@@ -20,23 +23,23 @@ use std::sync::ledger::Ledger;
 /// Segments under keys, which the caller picks.
 #[derive(Drop)]
 pub struct Index {
-    entries: BTreeMap<usize, Segment>,
+    tree: Tree,
+    segments: BTreeMap<usize, Segment>,
     alloc: Global,
 }
 
 impl Model for Index {
     ghost use Rattle.std.specs.FinMap as map;
-    ghost use Rattle.std.specs.Ordering.{nat_cmp};
-    ghost use Rattle.std.specs.BTreeMap.{IsOrdered};
     ghost use Rattle.realm_index.specs.Index.{Entries, entries_code};
+    ghost use Rattle.realm_index.specs.Kept.{IsKept};
 
     ghost Value = { Entries };
 
     ghost coded = { entries_code };
 
-    ghost view = { λ i. map.from_entries i.entries.entries };
+    ghost view = { λ i. map.from_entries i.segments.entries };
 
-    ghost invariant = { λ i. IsOrdered nat_cmp i.entries };
+    ghost invariant = { λ i. IsKept i.tree i.segments };
 }
 
 impl Index {
@@ -45,7 +48,8 @@ impl Index {
         ensures { result ≡ map.empty }
     {
         Index {
-            entries: BTreeMap::new(alloc),
+            tree: Tree::new(alloc, Square::whole()),
+            segments: BTreeMap::new(alloc),
             alloc,
         }
     }
@@ -56,8 +60,18 @@ impl Index {
         ensures ok { OnOk result (self.new ≡ map.insert self.old key s) }
         ensures unchanged { OnErr result (self.new ≡ self.old) }
     {
-        self.entries.insert(key, s)?;
-        Ok(())
+        let entry = Entry {
+            key,
+            bounds: Bounds::of(&s),
+        };
+        self.tree.put(entry)?;
+        match self.segments.insert(key, s) {
+            Ok(_) => Ok(()),
+            Err(_) => {
+                self.tree.take(&entry);
+                Err(NoMemory)
+            }
+        }
     }
 
     /// Takes out the segment under `key`, and says whether there was one.
@@ -66,7 +80,14 @@ impl Index {
         ensures removed { OnTrue result (self.new ≡ map.remove self.old key) }
         ensures unchanged { OnFalse result (self.new ≡ self.old) }
     {
-        self.entries.remove(&key).is_some()
+        match self.segments.remove(&key) {
+            None => false,
+            Some(s) => {
+                let bounds = Bounds::of(&s);
+                self.tree.take(&Entry { key, bounds });
+                true
+            }
+        }
     }
 
     /// The keys of the segments whose boxes meet that of `s`, rims included, ascending. A step is a
@@ -77,11 +98,10 @@ impl Index {
         steps: &mut Steps<L>,
     ) -> Result<Vec<usize>, NoMemory>
         ensures keys { IfOk result (λ v. HasKeysWhere (BoxesMeet s.now) self.now v.items) }
-        ensures steps { MatchResult result
-            (λ _. steps.new ≡ steps.old + map.len self.now)
-            (λ _. steps.new ≤ steps.old + map.len self.now) }
+        ensures steps { (n : ℕ) × HasCountWhere (HasHomeNear s.now) self.now n
+            × MatchResult result (λ _. steps.new ≡ steps.old + n) (λ _. steps.new ≤ steps.old + n) }
     {
-        keys_where(&self.entries, self.alloc, Asked::Meeting(s), steps)
+        keys_near(&self.tree, self.alloc, &Bounds::of(s), steps)
     }
 
     /// The keys of the segments whose boxes hold `p`, rims included, ascending. A step is a test of
@@ -92,34 +112,29 @@ impl Index {
         steps: &mut Steps<L>,
     ) -> Result<Vec<usize>, NoMemory>
         ensures keys { IfOk result (λ v. HasKeysWhere (λ t. InBox t.a t.b p.now) self.now v.items) }
-        ensures steps { MatchResult result
-            (λ _. steps.new ≡ steps.old + map.len self.now)
-            (λ _. steps.new ≤ steps.old + map.len self.now) }
+        ensures steps { (n : ℕ) × HasCountWhere (HasHomeRound p.now) self.now n
+            × MatchResult result (λ _. steps.new ≡ steps.old + n) (λ _. steps.new ≤ steps.old + n) }
     {
-        keys_where(&self.entries, self.alloc, Asked::Holding(p), steps)
+        keys_near(&self.tree, self.alloc, &Bounds::at(p), steps)
     }
 }
 
-// The keys of the entries that are asked for.
-fn keys_where<L: Ledger>(
-    entries: &BTreeMap<usize, Segment>,
+// The keys of the entries whose boxes meet `near`, ascending.
+fn keys_near<L: Ledger>(
+    tree: &Tree,
     alloc: Global,
-    asked: Asked<'_>,
+    near: &Bounds,
     steps: &mut Steps<L>,
 ) -> Result<Vec<usize>, NoMemory>
-    requires ordered { IsOrdered nat_cmp entries.now }
-    ensures keys { IfOk result
-        (λ v. HasKeysWhere (IsAsked asked.entry) (map.from_entries entries.now.entries) v.items) }
+    ensures keys { IfOk result (λ v. AddsKeys near.now tree.now.entries [] v.items) }
+    ensures rising { IfOk result (λ v. IsNonDecreasing v.items) }
     ensures steps { MatchResult result
-        (λ _. steps.new ≡ steps.old + length entries.now.entries)
-        (λ _. steps.new ≤ steps.old + length entries.now.entries) }
+        (λ _. steps.new ≡ steps.old + count_near near.now tree.now.entries)
+        (λ _. steps.new ≤ steps.old + count_near near.now tree.now.entries) }
+    ensures held { All (λ e. IsTrue (holds tree.now.square e.bounds)) tree.now.entries }
 {
     let mut keys = Vec::new(alloc);
-    for (key, t) in entries {
-        steps.tick();
-        if asked.includes(t) {
-            keys.push(*key)?;
-        }
-    }
+    tree.find(near, &mut keys, steps)?;
+    keys.sort_unstable();
     Ok(keys)
 }

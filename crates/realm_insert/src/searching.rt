@@ -119,7 +119,7 @@ fn split_at(drawing: &Drawing, p: &Point, t: &Segment) -> Option<Step>
     ensures { MatchOption result (IsPoint drawing.now.drawing p.now → Inside p.now t.now → ⊥)
         (IsPermitted drawing.now.drawing) }
 {
-    if drawing.is_point(p) && in_side(t, p) {
+    if in_side(t, p) && drawing.is_point(p) {
         Some(Step::Split { p: *p, t: *t })
     } else {
         None

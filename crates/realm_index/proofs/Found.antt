@@ -1,0 +1,113 @@
+-- This file shows what an index answers of its map, from what its tree found.
+use Rattle.std.proofs.Common.{◌≡◌, ◌↔◌, ℕ, ◌≤◌, Bool, true, false, cond, IsTrue, refl, sym, ap, ◌∙◌, subst, arith}
+use Rattle.std.proofs.Common.{List, [], All, Contains, Result, Ok, Err, IfOk, ◌==◌, ◌&&◌}
+use Rattle.std.specs.List.{sum_by}
+use Rattle.std.specs.Bool.{OnTrue, OnFalse}
+use Rattle.std.specs.List.Sorted.{IsNonDecreasing}
+use Rattle.std.specs.BTreeMap.{BTreeMap}
+use Rattle.std.specs.FinMap as map
+use Rattle.std.proofs.lemmas.Bool.{and_parts, and_from, eqb-true, eq-eqb, false_from_ne_true}
+use Rattle.std.proofs.lemmas.List.Elements.{All-contains, All-weaker}
+use Rattle.std.proofs.lemmas.Map.Keys.{non_decreasing_from_sorted}
+use Rattle.grid_base.specs.Segment.{GridSegment}
+use Rattle.realm_index.specs.Square.{whole_grid}
+use Rattle.realm_index.specs.Bounds.{bounds_of, meets, holds, is_near, fits, home}
+use Rattle.realm_index.specs.Branch.{Branch, if_met, if_near, AddsKeys, count_near, HasMore, Lacks}
+use Rattle.realm_index.specs.Index.{HasKeysWhere, HasCountWhere}
+use Rattle.realm_index.specs.Kept.{IsKept}
+use Rattle.realm_index.specs.declared.tree.Entry.{Entry}
+use Rattle.realm_index.specs.declared.bounds.Bounds.{Bounds}
+use Rattle.realm_index.proofs.Homes.{fits_from}
+use Rattle.realm_index.proofs.Sums.{fails, all_pass, none_fails}
+use Rattle.realm_index.proofs.Searches.{zero_sum}
+use Rattle.realm_index.proofs.Orders.{HasSameSums, same_sorted}
+use Rattle.realm_index.proofs.Picked.{picks, sum_picks, length_picks, sorted_picks, picked_keys}
+
+-- ---- two facts of one result
+pub both_ok : {V E : Type 0} (P Q R : V → Type 0) (r : Result V E) → IfOk r P → IfOk r Q → ((v : V) → P v → Q v → R v) → IfOk r R
+both_ok P Q R (Ok v) p q f = f v p q
+both_ok P Q R (Err e) p q f = tt
+
+-- ---- an entry that is there
+-- whether two entries are one
+abbrev is_same : Entry → Entry → Bool
+is_same x y = (x.key == y.key) && ((x.bounds.left == y.bounds.left) && ((x.bounds.right == y.bounds.right)
+    && ((x.bounds.low == y.bounds.low) && (x.bounds.high == y.bounds.high))))
+
+same_itself : (x : Entry) → is_same x x ≡ true
+same_itself x = and_from _ _ (eq-eqb x.key x.key refl) (and_from _ _ (eq-eqb x.bounds.left x.bounds.left refl)
+    (and_from _ _ (eq-eqb x.bounds.right x.bounds.right refl) (and_from _ _ (eq-eqb x.bounds.low x.bounds.low refl)
+    (eq-eqb x.bounds.high x.bounds.high refl))))
+
+same_from : (x y : Entry) → is_same x y ≡ true → x ≡ y
+same_from x y h =
+    let h1 = and_parts _ _ h in
+    let h2 = and_parts _ _ h1.1 in
+    let h3 = and_parts _ _ h2.1 in
+    let h4 = and_parts _ _ h3.1 in
+    let k = eqb-true _ _ h1.0 in
+    let l = eqb-true _ _ h2.0 in
+    let r = eqb-true _ _ h3.0 in
+    let b = eqb-true _ _ h4.0 in
+    let t = eqb-true _ _ h4.1 in
+    λ i. record { key = k i; bounds = record { left = l i; right = r i; low = b i; high = t i } }
+
+-- 1 at the entry itself
+abbrev pub is_one : Entry → Entry → ℕ
+is_one e x = cond (is_same x e) 1 0
+
+pub one_itself : (e : Entry) → is_one e e ≡ 1
+one_itself e = ap {B = ℕ} (λ t. cond t 1 0) (same_itself e)
+
+pub none_there : (es : List Entry) (e : Entry) → Lacks es e → sum_by (is_one e) es ≡ 0
+none_there es e lacks = zero_sum (is_one e) es (All-weaker (λ x. x ≡ e → ⊥) (λ x. is_one e x ≡ 0)
+    (λ x isnt. ap {B = ℕ} (λ t. cond t 1 0) (false_from_ne_true (is_same x e) (λ is. isnt (same_from x e is)))) es lacks)
+
+-- an entry that a list has more than another is taken out of it
+pub is_taken : (mid new : List Entry) (e : Entry) (t : Bool) → (1 ≤ sum_by (is_one e) mid) → OnTrue t (HasMore new mid e)
+    → OnFalse t (Lacks mid e) → HasMore new mid e
+is_taken mid new e true some taken none = taken
+is_taken mid new e false some taken none = let lacks = none_there mid e none in absurd (omega (arith, some, lacks))
+
+-- ---- answers
+module _ (tree : Branch) (segments : BTreeMap ℕ GridSegment) (kept : IsKept tree segments) (w : Bounds) where
+  -- whether the box of the segment meets w, and whether its home is near it
+  abbrev is_met : ℕ × GridSegment → Bool
+  is_met e = meets w (bounds_of e.1)
+
+  abbrev is_home_near : ℕ × GridSegment → Bool
+  is_home_near e = is_near w (home (bounds_of e.1))
+
+  met_sums : (ks : List ℕ) → AddsKeys w tree.entries [] ks → HasSameSums ks (picks is_met segments.entries)
+  met_sums ks adds f =
+      let found = adds f in
+      let same = kept.same (if_met w f) in
+      let picked = sum_picks is_met f segments.entries in
+      omega (arith, found, same, picked)
+
+  pub met_keys : (P : GridSegment → Type 0) → ((t : GridSegment) → IsTrue (meets w (bounds_of t)) ↔ P t) → (ks : List ℕ)
+      → AddsKeys w tree.entries [] ks → IsNonDecreasing ks → HasKeysWhere P (map.from_entries segments.entries) ks
+  met_keys P decides ks adds up =
+      let all = sorted_picks is_met segments.entries kept.ordered in
+      let same = same_sorted ks (picks is_met segments.entries) up (non_decreasing_from_sorted (picks is_met segments.entries) all)
+      (met_sums ks adds) in
+      subst (HasKeysWhere P (map.from_entries segments.entries)) (sym same)
+      (picked_keys segments.entries kept.ordered P is_met (λ k t there. decides t))
+
+  module _ (held : All (λ e. IsTrue (holds tree.square e.bounds)) tree.entries) where
+    on_grid : (k : ℕ) (t : GridSegment) → Contains segments.entries (k, t) → IsTrue (fits 28 (bounds_of t))
+    on_grid k t there =
+        let none = none_fails (λ (e : Entry). holds tree.square e.bounds) tree.entries held in
+        let same = kept.same (fails (λ (e : Entry). holds tree.square e.bounds)) in
+        let all = all_pass (λ (e : ℕ × GridSegment). holds tree.square (bounds_of e.1)) segments.entries (sym same ∙ none) in
+        let here = All-contains (λ (e : ℕ × GridSegment). IsTrue (holds tree.square (bounds_of e.1))) segments.entries (k, t) all there in
+        fits_from whole_grid (bounds_of t) (subst (λ q. IsTrue (holds q (bounds_of t))) kept.whole here)
+
+    pub near_count : (P : GridSegment → Type 0)
+        → ((t : GridSegment) → IsTrue (fits 28 (bounds_of t)) → IsTrue (is_near w (home (bounds_of t))) ↔ P t)
+        → HasCountWhere P (map.from_entries segments.entries) (count_near w tree.entries)
+    near_count P decides = record {
+      keys = picks is_home_near segments.entries;
+      these = picked_keys segments.entries kept.ordered P is_home_near (λ k t there. decides t (on_grid k t there));
+      count = length_picks is_home_near segments.entries ∙ sym (kept.same (if_near w));
+    }

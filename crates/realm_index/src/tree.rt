@@ -1,0 +1,230 @@
+//! A tree of squares: each has the entries whose home it is, and the quarters that have entries below it.
+ghost use Rattle.std.specs.Prelude.{◌≡◌, ◌+◌, ◌<◌, ◌≤◌, ℕ, [], IsTrue, false, All, length, get_or};
+ghost use Rattle.std.specs.Prelude.{OnOk, IfOk, MatchOption, MatchResult};
+ghost use Rattle.std.specs.Bool.{OnTrue, OnFalse};
+ghost use Rattle.realm_index.specs.Bounds.{holds};
+ghost use Rattle.realm_index.specs.declared.tree.Entry.{Entry as Item};
+ghost use Rattle.realm_index.specs.Branch.{flatten, AreLess, StayBelow, HasPartFor};
+ghost use Rattle.realm_index.specs.Branch.{HasMore, HasSame, Lacks, AddsKeys, count_near};
+
+use crate::bounds::Bounds;
+use crate::square::Square;
+use grid_base::{NoMemory, Steps};
+use std::alloc::Global;
+use std::marker::Model;
+use std::sync::ledger::Ledger;
+
+// A key, and the box of the segment under it.
+#[derive(Clone, Copy, Debug, PartialEq, Eq)]
+pub(crate) struct Entry {
+    pub(crate) key: usize,
+    pub(crate) bounds: Bounds,
+}
+
+// The entries whose boxes are in one square. Contracts see the square and the list of the entries.
+#[derive(Drop)]
+pub(crate) struct Tree {
+    square: Square,
+    own: Vec<Entry>,
+    parts: Vec<Tree>,
+}
+
+impl Model for Tree {
+    ghost use Rattle.realm_index.specs.Branch.{Branch, branch_of, IsBranch, most_le};
+
+    ghost Value = { Branch };
+
+    ghost view = { λ t. branch_of t.square t.own.items t.parts.items };
+
+    ghost invariant = { λ t. IsBranch t.square t.own.items t.parts.items };
+
+    ghost size = { λ b. b.square.level };
+
+    ghost use Rattle.std.proofs.Common.{arith};
+
+    ghost size_decreases = { λ t is. omega (arith, most_le t.square.level t.parts.items is.lower) };
+}
+
+impl Tree {
+    // A tree without entries.
+    pub(crate) fn new(alloc: Global, square: Square) -> Tree
+        ensures { result ≡ record { square = square; entries = [] } }
+    {
+        Tree {
+            square,
+            own: Vec::new(alloc),
+            parts: Vec::new(alloc),
+        }
+    }
+
+    // Whether its square holds the box.
+    fn holds(&self, b: &Bounds) -> bool
+        ensures held { result ≡ holds self.now.square b.now }
+        ensures all { All (λ e. IsTrue (holds self.now.square e.bounds)) self.now.entries }
+    {
+        self.square.holds(b)
+    }
+
+    // Puts an entry in its place.
+    pub(crate) fn put(&mut self, entry: Entry) -> Result<(), NoMemory>
+        requires held { IsTrue (holds self.old.square entry.bounds) }
+        ensures square { self.new.square ≡ self.old.square }
+        ensures entries { MatchResult result (λ _. HasMore self.old.entries self.new.entries entry)
+            (λ _. HasSame self.old.entries self.new.entries) }
+    {
+        let Some(part) = self.square.part_for(&entry.bounds) else {
+            self.own.push(entry)?;
+            return Ok(());
+        };
+        let alloc = *self.own.allocator();
+        let place = place_for(alloc, &mut self.parts, part, &entry.bounds)?;
+        let below = &mut self.parts[place];
+        below.put(entry)
+    }
+
+    // Whether nothing is left at it and below it.
+    fn is_bare(&self) -> bool
+        ensures { OnTrue result (self.now.entries ≡ []) }
+    {
+        self.own.is_empty() && self.parts.is_empty()
+    }
+
+    // Takes an entry out, and says whether it was there.
+    #[cycle(take)]
+    pub(crate) fn take(&mut self, entry: &Entry) -> bool
+        requires held { IsTrue (holds self.old.square entry.now.bounds) }
+        ensures square { self.new.square ≡ self.old.square }
+        ensures taken { OnTrue result (HasMore self.new.entries self.old.entries entry.now) }
+        ensures none { OnFalse result (Lacks self.old.entries entry.now) }
+        ensures unchanged { OnFalse result (self.new ≡ self.old) }
+    {
+        match self.square.part_for(&entry.bounds) {
+            None => take_own(&mut self.own, entry),
+            Some(_) => take_below(&mut self.parts, entry),
+        }
+    }
+
+    // Adds the keys of the entries whose boxes meet `near`. A step is a test of one box.
+    pub(crate) fn find<L: Ledger>(
+        &self,
+        near: &Bounds,
+        keys: &mut Vec<usize>,
+        steps: &mut Steps<L>,
+    ) -> Result<(), NoMemory>
+        ensures keys { OnOk result (AddsKeys near.now self.now.entries keys.old.items keys.new.items) }
+        ensures steps { MatchResult result
+            (λ _. steps.new ≡ steps.old + count_near near.now self.now.entries)
+            (λ _. steps.new ≤ steps.old + count_near near.now self.now.entries) }
+        ensures held { All (λ e. IsTrue (holds self.now.square e.bounds)) self.now.entries }
+    {
+        if !self.square.is_near(near) {
+            return Ok(());
+        }
+        find_among(&self.own, near, keys, steps)?;
+        for part in &self.parts {
+            part.find(near, keys, steps)?;
+        }
+        Ok(())
+    }
+}
+
+// Takes an entry out of the parts, and says whether one of them had it.
+#[cycle(take)]
+fn take_below(parts: &mut Vec<Tree>, entry: &Entry) -> bool
+    ensures taken { OnTrue result (HasMore (flatten parts.new.items) (flatten parts.old.items) entry.now) }
+    ensures none { OnFalse result (Lacks (flatten parts.old.items) entry.now) }
+    ensures unchanged { OnFalse result (parts.new.items ≡ parts.old.items) }
+    ensures lower { StayBelow parts.old.items parts.new.items }
+{
+    for i in 0..parts.len() {
+        let part = &mut parts[i];
+        if part.holds(&entry.bounds) && part.take(entry) {
+            drop_bare(parts, i);
+            return true;
+        }
+    }
+    false
+}
+
+// Drops the part at this place where nothing is left of it.
+fn drop_bare(parts: &mut Vec<Tree>, place: usize)
+    requires within { place < length parts.old.items }
+    ensures same { HasSame (flatten parts.old.items) (flatten parts.new.items) }
+    ensures lower { StayBelow parts.old.items parts.new.items }
+{
+    let part = &parts[place];
+    if part.is_bare() {
+        parts.swap_remove(place);
+    }
+}
+
+// Takes an entry out of the list, and says whether it was there.
+fn take_own(own: &mut Vec<Entry>, entry: &Entry) -> bool
+    ensures taken { OnTrue result (HasMore own.new.items own.old.items entry.now) }
+    ensures none { OnFalse result (Lacks own.old.items entry.now) }
+    ensures unchanged { OnFalse result (own.new.items ≡ own.old.items) }
+{
+    match place_among(own, entry) {
+        Some(place) => {
+            own.swap_remove(place);
+            true
+        }
+        None => false,
+    }
+}
+
+// Where the entry is in the list.
+fn place_among(own: &[Entry], entry: &Entry) -> Option<usize>
+    ensures { MatchOption result (Lacks own.now entry.now)
+        (λ place. (place < length own.now) × ((d : Item) → get_or own.now place d ≡ entry.now)) }
+{
+    own.iter().position(|e| e == entry)
+}
+
+// Adds the keys of the entries of the list whose boxes meet `near`, each of which is a step.
+fn find_among<L: Ledger>(
+    own: &[Entry],
+    near: &Bounds,
+    keys: &mut Vec<usize>,
+    steps: &mut Steps<L>,
+) -> Result<(), NoMemory>
+    ensures keys { OnOk result (AddsKeys near.now own.now keys.old.items keys.new.items) }
+    ensures steps { MatchResult result
+        (λ _. steps.new ≡ steps.old + length own.now) (λ _. steps.new ≤ steps.old + length own.now) }
+{
+    for entry in own {
+        steps.tick();
+        if near.meets(&entry.bounds) {
+            keys.push(entry.key)?;
+        }
+    }
+    Ok(())
+}
+
+// Where the part is that holds the box; where there is none, `part` is added, which does.
+fn place_for(
+    alloc: Global,
+    parts: &mut Vec<Tree>,
+    part: Square,
+    b: &Bounds,
+) -> Result<usize, NoMemory>
+    requires held { IsTrue (holds part b.now) }
+    ensures place { IfOk result (HasPartFor parts.new.items b.now) }
+    ensures same { HasSame (flatten parts.old.items) (flatten parts.new.items) }
+    ensures lower { (n : ℕ) → part.level < n → AreLess n parts.old.items → AreLess n parts.new.items }
+{
+    if let Some(place) = place_of(parts, b) {
+        return Ok(place);
+    }
+    let place = parts.len();
+    parts.push(Tree::new(alloc, part))?;
+    Ok(place)
+}
+
+// Where the part is that holds the box.
+fn place_of(parts: &[Tree], b: &Bounds) -> Option<usize>
+    ensures { MatchOption result (All (λ c. holds c.square b.now ≡ false) parts.now)
+        (HasPartFor parts.now b.now) }
+{
+    parts.iter().position(|part| part.holds(b))
+}
