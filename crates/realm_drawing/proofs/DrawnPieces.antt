@@ -56,7 +56,7 @@ piece_was r d s sound piece =
     ]
 
 -- and a piece stays unless it is redrawn
-piece_stays : (r : Redrawings) (d : Drawing) (s : GridSegment) → AreRedrawings r → IsPiece d s
+pub piece_stays : (r : Redrawings) (d : Drawing) (s : GridSegment) → AreRedrawings r → IsPiece d s
     → IsPiece (redrawn_drawing r d) s ⊎ IsRedrawn r s
 piece_stays r d s sound piece =
     let Then = λ (o : Original). HasPiece s (redrawn_original_by r o) in
@@ -80,7 +80,7 @@ point_was r d p sound (inr vertex) =
     ]
 
 -- and a point stays
-point_stays : (r : Redrawings) (d : Drawing) (p : GridPoint) → AreRedrawings r → IsPoint d p
+pub point_stays : (r : Redrawings) (d : Drawing) (p : GridPoint) → AreRedrawings r → IsPoint d p
     → IsPoint (redrawn_drawing r d) p
 point_stays r d p sound (inl explicit) = inl explicit
 point_stays r d p sound (inr vertex) =

@@ -16,7 +16,7 @@ abbrev pub key_in : Option Holding → Option ℕ
 key_in o = option_map (λ h. h.key) o
 
 -- what has a key is a piece
-piece_from_key : (r : Holdings) (s : GridSegment) (k : ℕ) → key_of r s ≡ Some k → IsPiece r s
+pub piece_from_key : (r : Holdings) (s : GridSegment) (k : ℕ) → key_of r s ≡ Some k → IsPiece r s
 piece_from_key r s k = of_what_is_held (map.get r s)
   where
     of_what_is_held : (o : Option Holding) → key_in o ≡ Some k → IsSome o
@@ -24,7 +24,7 @@ piece_from_key r s k = of_what_is_held (map.get r s)
     of_what_is_held (Some h) key = refl
 
 -- and a piece has a key
-key_from_piece : (r : Holdings) (s : GridSegment) → IsPiece r s → (k : ℕ) × (key_of r s ≡ Some k)
+pub key_from_piece : (r : Holdings) (s : GridSegment) → IsPiece r s → (k : ℕ) × (key_of r s ≡ Some k)
 key_from_piece r s = of_what_is_held (map.get r s)
   where
     of_what_is_held : (o : Option Holding) → IsSome o → (k : ℕ) × (key_in o ≡ Some k)

@@ -58,6 +58,10 @@ pub mod OwnerShares
 pub mod KeptKeys
 -- shares that are added to a registry or taken out
 pub mod ShareChanges
+-- the shares that a step takes away are of pieces
+pub mod StepShares
+-- the pieces that a registry comes to have, with their keys
+pub mod FreshPieces
 -- sets of points, in order
 pub mod PointSets
 -- when a step mends a violation
@@ -124,6 +128,8 @@ mod KeptPieces
 mod Vertices
 -- what is promised of the chains that stand for originals
 mod StandingChains
+-- what a step draws anew, with keys
+mod DrawnAnew
 -- the list of all points
 mod Listings
 -- one more explicit point

@@ -20,7 +20,7 @@ use Rattle.realm_drawing.proofs.KeptKeys.{piece_with_owners, same_key, kept_with
 abbrev owners_in : Option Holding → List ℕ
 owners_in o = unwrap_or (option_map (λ h. h.owners) o) []
 
-Contains-single : (y z : Share) → Contains (y ∷ []) z → y ≡ z
+pub Contains-single : (y z : Share) → Contains (y ∷ []) z → y ≡ z
 Contains-single y z there =
     elim (Contains-cons_cases y [] z there) [ inl here ↦ here | inr later ↦ absurd (Contains-nil z later) ]
 

@@ -26,6 +26,13 @@ HasPieceOf originals s x = IsBefore s.a s.b × Any (λ o. (o.id ≡ x) × HasLin
 abbrev pub HasOwnersOf : List Original → Holdings → Type 0
 HasOwnersOf originals r = (s : GridSegment) (x : ℕ) → Owns r s x ↔ HasPieceOf originals s x
 
+-- ids rise, each chain may stand for its original, and the registry has the owners of each piece
+pub record AreKept (originals : List Original) (r : Holdings) : Type 0 where
+  pub ids_rise : IsAscending originals
+  pub all_valid : All HasValidChain originals
+  pub sound : IsSound r
+  pub owners : HasOwnersOf originals r
+
 -- explicit points ascend and ids rise, each chain may stand for its original, and the registry has the owners of
 -- each piece
 pub record IsKept (points : List GridPoint) (originals : List Original) (r : Holdings) : Type 0 where

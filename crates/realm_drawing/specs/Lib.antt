@@ -24,6 +24,8 @@ pub mod Mending
 pub mod Passages
 -- lists of points that lead from end to end of a segment, for this crate's own proofs
 pub mod Courses
+-- the pieces that a registry comes to have, for this crate's own proofs
+pub mod Fresh
 -- the shares that a step adds and takes away, for this crate's own proofs
 pub mod StepShares
 -- what a search for a violation finds, for this crate's own proofs

@@ -24,7 +24,7 @@ use crate::ids::place_of;
 use crate::keyed::KeyedPiece;
 use crate::leaving::drop_chain;
 use crate::mending::{is_mending, redrawings_of};
-use crate::redrawing::redraw;
+use crate::redrawing::put_paths;
 use crate::shares::{add_shares, chain_shares};
 use crate::violations::first_violation;
 use component_registry::Registry;
@@ -138,10 +138,11 @@ impl Drawing {
         ensures keys { KeepsKeys self.old self.new }
         ensures unchanged { OnErr result (self.new ≡ self.old) }
     {
+        let alloc = *self.originals.allocator();
         self.originals.reserve(1)?;
-        let mut shares = Vec::new(*self.originals.allocator());
+        let mut shares = Vec::new(alloc);
         chain_shares(id, &points, &mut shares)?;
-        add_shares(&mut self.registry, &shares)?;
+        add_shares(alloc, &mut self.registry, &shares)?;
         let (a, b) = (s.a(), s.b());
         let chain = Chain::new(points);
         self.originals.push_reserved(Original { id, a, b, chain });
@@ -173,10 +174,7 @@ impl Drawing {
         ensures keys { KeepsKeys self.old self.new }
         ensures unchanged { OnErr result (self.new ≡ self.old) }
     {
-        if !self.permits(step) {
-            return Err(StepError::NotPermitted);
-        }
-        self.take(step)?;
+        self.redraw(step)?;
         Ok(())
     }
 
@@ -194,14 +192,15 @@ impl Drawing {
         if !self.permits(step) {
             return Err(StepError::NotPermitted);
         }
-        Err(StepError::NoMemory)
+        Ok(self.take(step)?)
     }
 
     // Takes a step that is permitted.
-    fn take(&mut self, step: &Step) -> Result<(), NoMemory>
+    fn take(&mut self, step: &Step) -> Result<Vec<KeyedPiece>, NoMemory>
         requires parts { HasParts self.old.drawing step.now }
         requires mending { IsMending step.now }
         ensures ok { OnOk result (Permitted self.old.drawing step.now self.new.drawing) }
+        ensures anew { IfOk result (λ list. DrawsAnew step.now self.old self.new list.items) }
         ensures permitted { IsPermitted self.old.drawing step.now }
         ensures stand { AllStand self.new.drawing }
         ensures keyed { AreKeyed self.new }
@@ -211,9 +210,9 @@ impl Drawing {
         self.promises();
         let alloc = *self.originals.allocator();
         let redrawings = redrawings_of(alloc, step)?;
-        let done = redraw(alloc, &mut self.originals, &mut self.registry, &redrawings);
+        let fresh = put_paths(alloc, &mut self.originals, &mut self.registry, &redrawings);
         self.promises();
-        done
+        fresh
     }
 
     // What is true of a drawing at any time.

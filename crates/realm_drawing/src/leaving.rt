@@ -11,12 +11,11 @@ use grid_base::{Point, Segment};
 
 // Takes out the share of each link of `points` with this id.
 pub(crate) fn drop_chain(registry: &mut Registry, id: u32, points: &[Point])
+    requires sound { IsSound registry.old }
     ensures owners { LosesShares registry.old registry.new (IsOfChain id points.now) }
     ensures keys { KeepsKeys registry.old registry.new }
     ensures sound { IsSound registry.new }
 {
-    // That a registry is sound is known where it is read.
-    let _sound = registry.piece(0);
     for i in 1..points.len() {
         drop_between(registry, id, &points[i - 1], &points[i]);
     }
@@ -24,12 +23,11 @@ pub(crate) fn drop_chain(registry: &mut Registry, id: u32, points: &[Point])
 
 // Takes out the share of the segment between `v` and `w` with this id.
 fn drop_between(registry: &mut Registry, id: u32, v: &Point, w: &Point)
+    requires sound { IsSound registry.old }
     ensures owners { LosesShares registry.old registry.new (λ y. (y.id ≡ id) × IsBetween y.piece v.now w.now) }
     ensures keys { KeepsKeys registry.old registry.new }
     ensures sound { IsSound registry.new }
 {
-    // Where there is no segment, the registry is sound as it stands.
-    let _sound = registry.piece(0);
     if let Some(piece) = Segment::new(*v, *w) {
         drop_shares(registry, &[Share { piece, id }]);
     }

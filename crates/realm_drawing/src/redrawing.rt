@@ -1,16 +1,17 @@
 //! The paths of a step, put in the place of its pieces in every chain that has them.
 ghost use Rattle.std.specs.Prelude.{◌≡◌, IfOk, OnOk, OnErr, All, map};
 ghost use Rattle.grid_base.specs.Point.{IsBefore};
-ghost use Rattle.component_registry.specs.Registry.{IsSound};
 ghost use Rattle.realm_drawing.specs.Ids.{IsAscending};
 ghost use Rattle.realm_drawing.specs.Chains.{HasValidChain, IsSomeChain};
-ghost use Rattle.realm_drawing.specs.Kept.{HasOwnersOf};
+ghost use Rattle.realm_drawing.specs.Kept.{HasOwnersOf, AreKept};
 ghost use Rattle.realm_drawing.specs.Redraws.{redrawn_by, redrawn_original_by, AreRedrawings};
 ghost use Rattle.realm_drawing.specs.Redraws.{AreReplacements, AddsReplacements};
 ghost use Rattle.realm_drawing.specs.Shares.{KeepsKeys};
+ghost use Rattle.realm_drawing.specs.Fresh.{ListsFresh};
 ghost use Rattle.realm_drawing.specs.StepShares.{Lists, IsGainedBy, IsLostBy};
 
 use crate::ids::place_of;
+use crate::keyed::KeyedPiece;
 use crate::passages::redrawn_points;
 use crate::shares::{Share, add_shares, drop_shares, gained, lost};
 use component_registry::Registry;
@@ -38,24 +39,19 @@ pub(crate) struct Replacement {
     chain: Chain,
 }
 
-// Puts the paths of the step in the place of its pieces, in every chain that has them, and the registry after it.
-// All memory is taken before the first change that stays.
-pub(crate) fn redraw(
+// Puts the paths of the step in the place of its pieces, in every chain that has them, and the registry after it. The
+// answer is the pieces that are new, each with its key. All memory is taken before the first change that stays.
+pub(crate) fn put_paths(
     alloc: Global,
     originals: &mut Vec<Original>,
     registry: &mut Registry,
     step: &Redrawings,
-) -> Result<(), NoMemory>
-    requires rising { IsAscending originals.old.items }
-    requires valid { All HasValidChain originals.old.items }
-    requires sound { IsSound registry.old }
-    requires owners { HasOwnersOf originals.old.items registry.old }
+) -> Result<Vec<KeyedPiece>, NoMemory>
+    requires kept { AreKept originals.old.items registry.old }
     requires step { AreRedrawings step.now }
     ensures ok { OnOk result (originals.new.items ≡ map (redrawn_original_by step.now) originals.old.items) }
-    ensures rising { IsAscending originals.new.items }
-    ensures valid { All HasValidChain originals.new.items }
-    ensures sound { IsSound registry.new }
-    ensures owners { HasOwnersOf originals.new.items registry.new }
+    ensures fresh { IfOk result (λ list. ListsFresh registry.old registry.new list.items) }
+    ensures kept { AreKept originals.new.items registry.new }
     ensures keys { KeepsKeys registry.old registry.new }
     ensures originals_unchanged { OnErr result (originals.new.items ≡ originals.old.items) }
     ensures registry_unchanged { OnErr result (registry.new ≡ registry.old) }
@@ -63,10 +59,10 @@ pub(crate) fn redraw(
     let list = replacements(alloc, originals, registry, step)?;
     let more = gained_by(alloc, registry, step)?;
     let less = lost_by(alloc, registry, step)?;
-    add_shares(registry, more.as_slice())?;
+    let fresh = add_shares(alloc, registry, more.as_slice())?;
     drop_shares(registry, less.as_slice());
     install(originals, step, list);
-    Ok(())
+    Ok(fresh)
 }
 
 // The shares that the originals gain by the step.

@@ -1,14 +1,17 @@
 //! Shares: pieces with the ids that own them or are to own them, changed many at a time.
-ghost use Rattle.std.specs.Prelude.{◌≡◌, ◌⊎◌, ◌↔◌, ℕ, ◌∷◌, [], All, Contains, IsTrue, OnOk, OnErr};
+ghost use Rattle.std.specs.Prelude.{◌≡◌, ◌⊎◌, ◌↔◌, ℕ, ◌∷◌, [], All, Contains, IsTrue, IfOk, OnOk, OnErr};
 ghost use Rattle.std.specs.List.Sorted.{IsStrictlyIncreasing};
 ghost use Rattle.component_registry.specs.Registry as registries;
-ghost use Rattle.component_registry.specs.Registry.{IsSound, Owns};
+ghost use Rattle.component_registry.specs.Registry.{IsPiece, IsSound, Owns};
 ghost use Rattle.grid_base.specs.Drawing.{HasLink, IsLink};
 ghost use Rattle.realm_drawing.specs.Shares.{share_of, Held, KeepsKeys, HasMore, HasFewer};
 ghost use Rattle.realm_drawing.specs.Shares.{ListsAlso, IsBetween, IsGained, IsLost, IsOfChain};
+ghost use Rattle.realm_drawing.specs.Fresh.{ListsFresh, ListsIfNew};
 
+use crate::keyed::KeyedPiece;
 use component_registry::Registry;
 use grid_base::{NoMemory, Point, Segment};
+use std::alloc::Global;
 
 // A piece, and the id of an original that owns it or is to own it.
 #[derive(Clone, Copy, Debug, PartialEq, Eq)]
@@ -17,41 +20,37 @@ pub(crate) struct Share {
     pub(crate) id: u32,
 }
 
-// Whether the registry has this share.
-pub(crate) fn is_held(registry: &Registry, share: &Share) -> bool
-    ensures held { IsTrue result ↔ Held registry.now share.now }
-    ensures sound { IsSound registry.now }
-{
-    has(owners_of(registry, &share.piece), share.id)
-}
-
-// Adds the shares of the list, all or none.
-pub(crate) fn add_shares(registry: &mut Registry, shares: &[Share]) -> Result<(), NoMemory>
+// Adds the shares of the list, all or none, and answers the pieces that are new, each with its key.
+pub(crate) fn add_shares(
+    alloc: Global,
+    registry: &mut Registry,
+    shares: &[Share],
+) -> Result<Vec<KeyedPiece>, NoMemory>
+    requires sound { IsSound registry.old }
     requires new_shares { All (λ y. ¬ Held registry.old y) shares.now }
     ensures owners { OnOk result (HasMore registry.old registry.new shares.now) }
+    ensures fresh { IfOk result (λ list. ListsFresh registry.old registry.new list.items) }
     ensures keys { OnOk result (KeepsKeys registry.old registry.new) }
     ensures unchanged { OnErr result (registry.new ≡ registry.old) }
     ensures sound { IsSound registry.new }
 {
-    // That a registry is sound is known where it is read.
-    let _sound = registry.piece(0);
+    let mut fresh = Vec::new(alloc);
     for share in shares {
-        if add_share(registry, share).is_err() {
+        if add_share(registry, share, &mut fresh).is_err() {
             drop_shares(registry, shares);
             return Err(NoMemory);
         }
     }
-    Ok(())
+    Ok(fresh)
 }
 
 // Takes the shares of the list out, whether or not they are there.
 pub(crate) fn drop_shares(registry: &mut Registry, shares: &[Share])
+    requires sound { IsSound registry.old }
     ensures owners { HasFewer registry.old registry.new shares.now }
     ensures keys { KeepsKeys registry.old registry.new }
     ensures sound { IsSound registry.new }
 {
-    // That a registry is sound is known where it is read.
-    let _sound = registry.piece(0);
     for share in shares {
         drop_share(registry, share);
     }
@@ -187,16 +186,47 @@ fn is_link(piece: &Segment, v: &Point, w: &Point) -> bool
     (*v == a && *w == b) || (*v == b && *w == a)
 }
 
-// Adds one share, unless it is there.
-fn add_share(registry: &mut Registry, share: &Share) -> Result<(), NoMemory>
+// Adds one share, unless it is there, and lists its piece where that is new.
+fn add_share(
+    registry: &mut Registry,
+    share: &Share,
+    fresh: &mut Vec<KeyedPiece>,
+) -> Result<(), NoMemory>
     ensures owners { OnOk result (HasMore registry.old registry.new (share.now ∷ [])) }
+    ensures fresh { OnOk result
+        (ListsIfNew registry.old registry.new share.now.piece fresh.old.items fresh.new.items) }
     ensures keys { OnOk result (KeepsKeys registry.old registry.new) }
     ensures unchanged { OnErr result (registry.new ≡ registry.old) }
     ensures sound { IsSound registry.new }
 {
-    if !is_held(registry, share) {
+    let Some(key) = registry.key(&share.piece) else {
+        return add_new(registry, share, fresh);
+    };
+    if !has(registry.owners(key), share.id) {
         registry.add(share.piece, share.id)?;
     }
+    Ok(())
+}
+
+// Adds the first share of a new piece, and lists the piece.
+fn add_new(
+    registry: &mut Registry,
+    share: &Share,
+    fresh: &mut Vec<KeyedPiece>,
+) -> Result<(), NoMemory>
+    requires sound { IsSound registry.old }
+    requires new { ¬ IsPiece registry.old share.now.piece }
+    ensures owners { OnOk result (HasMore registry.old registry.new (share.now ∷ [])) }
+    ensures fresh { OnOk result
+        (ListsIfNew registry.old registry.new share.now.piece fresh.old.items fresh.new.items) }
+    ensures keys { OnOk result (KeepsKeys registry.old registry.new) }
+    ensures unchanged { OnErr result (registry.new ≡ registry.old) }
+    ensures sound { IsSound registry.new }
+{
+    fresh.reserve(1)?;
+    let piece = share.piece;
+    let key = registry.add(piece, share.id)?;
+    fresh.push_reserved(KeyedPiece { piece, key });
     Ok(())
 }
 

@@ -9,7 +9,7 @@ pub loop-i-init : goal.loop-i-init
 loop-i-init c = record {
   owners = loses_no_link c.args.id c.args.registry.now c.args.points.now;
   keys = KeepsKeys-itself c.args.registry.now;
-  sound = c.piece-sound.ensures.sound;
+  sound = c.requires.sound;
 }
 
 -- the share of one link more, and what is left kept its keys

@@ -19,6 +19,7 @@ add_shares-requires c =
     let lists = rw (c.new-shares.ensures.items, c.deref.ensures.value) at c.in_ok-chain_shares.ensures.ok in
     let below = rw (← c.self.view_is) at c.requires.id_above in
     record {
+      sound = c.self.invariant.sound;
       new_shares = rw c.deref-2.ensures.value (shares_are_new c.self.inside.explicit c.self.inside.originals.items _
           c.self.invariant c.args.id c.args.points.items _ below lists);
     }

@@ -1,0 +1,77 @@
+-- This file shows that the pieces that the registry comes to have with a step are those that the step draws anew.
+use Rattle.std.proofs.Common.{◌≡◌, List, map, AllPairs, Result, Ok, Err, IfOk, OnOk, Vec, Global, sym, subst, inl, inr}
+use Rattle.grid_base.specs.Point.{GridPoint, IsBefore}
+use Rattle.grid_base.specs.Drawing.{Drawing}
+use Rattle.grid_base.specs.declared.original.Original.{Original}
+use Rattle.grid_base.specs.declared.kinds.Step.{Step}
+use Rattle.component_registry.specs.Registry.{Holdings}
+use Rattle.realm_drawing.specs.Draws.{DrawsAnew}
+use Rattle.realm_drawing.specs.Fresh.{ListsFresh}
+use Rattle.realm_drawing.specs.Kept.{drawn, AreKept, IsKept}
+use Rattle.realm_drawing.specs.Keyed.{KeyedPiece, keyed}
+use Rattle.realm_drawing.specs.Mending.{IsRedrawingsOf}
+use Rattle.realm_drawing.specs.Redraws.{redrawn_original_by}
+use Rattle.realm_drawing.specs.declared.redrawing.Redrawings.{Redrawings}
+use Rattle.realm_drawing.proofs.DrawnPieces.{piece_stays, point_stays}
+use Rattle.realm_drawing.proofs.KeptKeys.{key_from_piece}
+use Rattle.realm_drawing.proofs.KeptPieces.{key_is_listed, piece_of_registry}
+use Rattle.realm_drawing.proofs.Vertices.{vertices_are_ends}
+
+-- with explicit points that ascend the drawing is kept
+pub kept_with_points : (points : List GridPoint) (originals : List Original) (r : Holdings) → AllPairs IsBefore points
+    → AreKept originals r → IsKept points originals r
+kept_with_points points originals r ascend kept = record {
+  points_ascend = ascend;
+  ids_rise = kept.ids_rise;
+  all_valid = kept.all_valid;
+  sound = kept.sound;
+  owners = kept.owners;
+}
+
+-- a vertex is an end of a piece, which was there or is listed
+draws_anew : (step : Step) (r : Redrawings) (points : List GridPoint) (originals : List Original) (old new : Holdings)
+    (list : List KeyedPiece) → IsRedrawingsOf step r → IsKept points originals old
+    → IsKept points (map (redrawn_original_by r) originals) new → ListsFresh old new list
+    → DrawsAnew step (drawn points originals old) (drawn points (map (redrawn_original_by r) originals) new) list
+draws_anew step r points originals old new list of_step before after fresh =
+    let changed = map (redrawn_original_by r) originals in
+    let d : Drawing = record { points = points; originals = originals } in
+    record {
+      fresh = λ s k there.
+          let found = fresh.listed s k there in (
+            (key_is_listed points changed new s k).0 found.0,
+            λ piece. found.1 ((piece_of_registry points originals old before s).1 piece),
+          );
+      all_pieces = λ s k has. elim (fresh.all s k ((key_is_listed points changed new s k).1 has)) [
+        | inl had ↦ inl ((piece_of_registry points originals old before s).0 had)
+        | inr there ↦ inr there
+      ];
+      once = fresh.once;
+      ends = λ p point. elim point [
+        | inl explicit ↦ inl (inl explicit)
+        | inr vertex ↦
+            let (s, (piece, end)) = (vertices_are_ends points changed new after p).1 vertex in
+            let (k, key) = key_from_piece new s piece in
+            elim (fresh.all s k key) [
+              | inl had ↦ inl (inr ((vertices_are_ends points originals old before p).0 (s, (had, end))))
+              | inr (i, within, at) ↦ inr (i, keyed s k, within, at, end)
+            ]
+      ];
+      others_stay = λ s piece. elim (piece_stays r d s of_step.sound piece) [
+        | inl there ↦ inl there
+        | inr instead ↦ inr ((of_step.pieces s).1 instead)
+      ];
+      points_stay = λ p point. point_stays r d p of_step.sound point;
+    }
+
+-- so it is with a call that changes them, unless it fails
+pub draws_anew_if : {E : Type 0} (step : Step) (r : Redrawings) (points : List GridPoint) (originals changed : List Original)
+    (old new : Holdings) (done : Result (Vec KeyedPiece Global) E) → IsRedrawingsOf step r → IsKept points originals old
+    → IsKept points changed new → OnOk done (changed ≡ map (redrawn_original_by r) originals)
+    → IfOk done (λ list. ListsFresh old new list.items)
+    → IfOk done (λ list. DrawsAnew step (drawn points originals old) (drawn points changed new) list.items)
+draws_anew_if step r points originals changed old new (Err e) of_step before after is fresh = tt
+draws_anew_if step r points originals changed old new (Ok v) of_step before after is fresh =
+    subst (λ os. DrawsAnew step (drawn points originals old) (drawn points os new) v.items) (sym is)
+    (draws_anew step r points originals old new v.items of_step before
+    (subst (λ os. IsKept points os new) is after) fresh)
