@@ -1,13 +1,15 @@
--- a sound registry is told by its keys and owners, and dropping an owner undoes adding it
+-- a sound registry is told by its keys and owners
 pub mod Registries
 -- how often points are used
 pub mod Uses
--- keys that a look-up tells apart
+-- points and segments that a look-up tells apart
 pub mod Lookups
--- what clauses see of the tree and the slab
+-- the sorted keys of a map
+pub mod OrderedKeys
+-- what clauses see of the map and the slab
 pub mod Seen
--- one change of the tree and of the slab
-pub mod TreeSteps
+-- one change of the map and of the slab
+pub mod Changes
 -- owners put in their places and taken out
 pub mod OwnerLists
 -- one change of the counts

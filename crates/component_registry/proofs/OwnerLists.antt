@@ -143,3 +143,18 @@ Contains-remove xs i x up within =
           let in_front = Contains-permutation _ _ x moved there in
           ⊎_elim (λ here. absurd (other (sym here))) (λ rest. rest) (Contains-cons_cases y x _ in_front),
     )
+
+-- the rest ascends
+pub ascending_without : (xs : List ℕ) (i : ℕ) → IsStrictlyIncreasing xs → i < length xs → IsStrictlyIncreasing (remove xs i)
+ascending_without xs i up within = λ k more.
+    let shorter = length-remove xs i within in
+    let below = λ (j : ℕ) (less : j < i). get_or-remove_below xs i 0 j less within in
+    let above = λ (j : ℕ) (later : i ≤ j). get_or-remove_above xs i 0 j later within in
+    ⊎_elim
+    (λ (less : k < i). ⊎_elim
+    (λ (next : k + 1 < i). rw (below k less, below (k + 1) next) (up k (omega arith)))
+    (λ (over : i ≤ k + 1).
+    rw (below k less, above (k + 1) over) (AllPairs-from_increasing xs up k (k + 1 + 1) 0 (omega arith) (omega arith)))
+    (below_or_not (k + 1) i))
+    (λ (later : i ≤ k). rw (above k later, above (k + 1) (omega arith)) (up (k + 1) (omega arith)))
+    (below_or_not k i)

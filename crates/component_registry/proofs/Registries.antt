@@ -1,6 +1,6 @@
--- This file shows that a sound registry is told by its keys and its owners, and that dropping an owner undoes adding it.
-use Rattle.std.proofs.Common.{◌≡◌, ◌≢◌, ◌↔◌, ℕ, suc, ◌<◌, refl, sym, ap, ap₂, ◌∙◌, subst, inr, ⊎_elim, arith}
-use Rattle.std.proofs.Common.{List, [], ◌∷◌, length, Contains, AllPairs, Option, Some, None, IsSome, IfSome, unwrap_or}
+-- This file shows that a sound registry is told by its keys and its owners.
+use Rattle.std.proofs.Common.{◌≡◌, ◌↔◌, ℕ, suc, ◌<◌, refl, sym, ap₂, subst, ⊎_elim, arith}
+use Rattle.std.proofs.Common.{List, [], ◌∷◌, Contains, AllPairs, Option, Some, None, IsSome, unwrap_or}
 use Rattle.std.specs.Option.{option_map}
 use Rattle.std.specs.FinMap as map
 use Rattle.std.proofs.lemmas.List.Kept.{AllPairs-from_increasing}
@@ -9,8 +9,7 @@ use Rattle.slab.proofs.SlabLemmas.{Contains-cons, Contains-cons_cases}
 use Rattle.grid_base.specs.Segment.{GridSegment}
 use Rattle.grid_base.proofs.Orders.{segment_cmp-total}
 use Rattle.component_registry.specs.Registry.{Holding, Holdings, holding_of, IsPiece, key_of, owners_of, Owns, IsSound}
-use Rattle.component_registry.specs.Registry.{AddsOwner, DropsOwner}
-use Rattle.component_registry.proofs.Lookups.{segment_exact, this_segment_or_other}
+use Rattle.component_registry.proofs.Lookups.{segment_exact}
 
 -- ---- ascending lists
 abbrev Rises : List ℕ → Type 0
@@ -96,44 +95,3 @@ piece_from_owner r s x = of_what_is_held (map.get r s)
     of_what_is_held : (o : Option Holding) → Contains (owners_in o) x → IsSome o
     of_what_is_held None there = absurd (omega (arith, there.1))
     of_what_is_held (Some h) there = refl
-
--- ---- what is undone
--- a piece with the same owners before and behind a registry in which m is its key has the same key before and behind
-same_key : (before behind : Option Holding) (m : Option ℕ) (k : ℕ) → owners_in behind ≡ owners_in before
-    → (IsSome before → 0 < length (owners_in before)) → (IsSome behind → 0 < length (owners_in behind))
-    → m ≡ Some k → IfSome (key_in before) (λ had. had ≡ k) → IfSome (key_in behind) (λ kept. m ≡ Some kept)
-    → key_in behind ≡ key_in before
-same_key None None m k owners owned_before owned_behind key had kept = refl
-same_key None (Some g) m k owners owned_before owned_behind key had kept =
-    absurd (omega (arith, owned_behind refl, ap length owners))
-same_key (Some h) None m k owners owned_before owned_behind key had kept =
-    absurd (omega (arith, owned_before refl, ap length owners))
-same_key (Some h) (Some g) m k owners owned_before owned_behind key had kept = sym kept ∙ key ∙ ap (λ n. Some n) (sym had)
-
--- an owner that was added and dropped again leaves the owners that were there
-owners_undone : (r mid t : Holdings) (s : GridSegment) (id k : ℕ) → ¬ Owns r s id → AddsOwner r mid s id k
-    → DropsOwner mid t s id → (x : ℕ) → Owns t s x ↔ Owns r s x
-owners_undone r mid t s id k new added dropped x = (
-  λ in_t.
-      let left = (dropped.owners x).0 in_t in
-      ⊎_elim (λ same. absurd (left.1 same)) (λ in_r. in_r) ((added.owners x).0 left.0),
-  λ in_r.
-      let other : x ≢ id = λ same. new (subst (Owns r s) same in_r) in
-      (dropped.owners x).1 ((added.owners x).1 (inr in_r), other),
-)
-
--- and the registry as it was
-pub undone : (r mid t : Holdings) (s : GridSegment) (id k : ℕ) → IsSound r → IsSound t → ¬ Owns r s id
-    → AddsOwner r mid s id k → DropsOwner mid t s id → t ≡ r
-undone r mid t s id k sound_r sound_t new added dropped =
-    let before = map.get r s in
-    let behind = map.get t s in
-    let owners = same_owners t r sound_t sound_r s (owners_undone r mid t s id k new added dropped) in
-    let owned_before = sound_r.owned s in
-    let owned_behind = sound_t.owned s in
-    let keys = same_key before behind (key_of mid s) k owners owned_before owned_behind added.key added.key_stays dropped.key_stays in
-    let here = same_holding behind before keys owners in
-    map.same_map segment_cmp-total segment_exact t r (λ q. ⊎_elim
-    (λ same. subst (λ x. map.get t x ≡ map.get r x) (sym same) here)
-    (λ other. dropped.others q other ∙ added.others q other)
-    (this_segment_or_other s q))

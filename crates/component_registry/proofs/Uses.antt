@@ -1,30 +1,24 @@
 -- This file shows how often points are used, and what a change of one piece does to that.
-use Rattle.std.proofs.Common.{◌≡◌, ◌≢◌, ◌⊎◌, ◌↔◌, ℕ, ◌+◌, ◌<◌, ◌||◌, Bool, true, false, true≢false, cond, Ordering, Less, Equal, Greater}
-use Rattle.std.proofs.Common.{refl, sym, ap, ap₂, ◌∙◌, subst, inl, inr, ⊎_elim, zero-add, arith}
+use Rattle.std.proofs.Common.{◌≡◌, ◌≢◌, ◌⊎◌, ◌↔◌, ℕ, ◌+◌, ◌<◌, ◌≤◌, ◌||◌, Bool, true, false, true≢false, cond, Ordering, Less, Equal, Greater}
+use Rattle.std.proofs.Common.{refl, sym, ap, ◌∙◌, subst, inl, inr, ⊎_elim, zero-add, arith}
 use Rattle.std.proofs.Common.{List, [], ◌∷◌, length, sum_by, Option, Some, None, is_some}
 use Rattle.std.specs.List.{list_any}
 use Rattle.std.specs.Map.{keys_of}
 use Rattle.std.specs.Ordering.{is_eq, eq_by_cmp}
 use Rattle.std.specs.FinMap as map
 use Rattle.std.specs.FinMap.Entries.{find, put}
-use Rattle.std.proofs.lemmas.Bool.Decides.{nat_tests}
 use Rattle.std.proofs.lemmas.Cmp.{tied_itself}
 use Rattle.std.proofs.lemmas.List.Sums.{sum_by-cons}
 use Rattle.std.proofs.lemmas.Option.{none-some}
-use Rattle.grid_base.specs.Point.{GridPoint, point_at, is_point}
+use Rattle.grid_base.specs.Point.{GridPoint, is_point}
 use Rattle.grid_base.specs.Segment.{GridSegment, IsEnd, segment_cmp}
-use Rattle.grid_base.proofs.Orders.{segment_cmp-total}
+use Rattle.grid_base.proofs.Orders.{segment_cmp-total, is_point-same, is_point-itself}
 use Rattle.component_registry.specs.Registry.{Holding, Holdings, IsPiece, owners_of, is_end, times_end, uses_of, IsSound}
 use Rattle.component_registry.proofs.Lookups.{segment_exact, this_segment_or_other, other_segment_passed}
 
 -- ---- ends
 is_point-true : (p q : GridPoint) → (is_point p q ≡ true) ↔ (p ≡ q)
-is_point-true p q = (
-  λ h.
-      let same : (p.x ≡ q.x) × (p.y ≡ q.y) = grind (arith, nat_tests) in
-      ap₂ point_at same.0 same.1,
-  λ same. grind (arith, nat_tests),
-)
+is_point-true p q = (is_point-same p q, λ same. rw same (is_point-itself q))
 
 or_left : (m n : Bool) → m ≡ true → (m || n) ≡ true
 or_left m n h = ap (λ x. x || n) h
@@ -49,6 +43,13 @@ is_end-true p s =
 -- an end is counted once
 pub times_end-1 : (p : GridPoint) (s : GridSegment) → IsEnd p s → times_end p s ≡ 1
 times_end-1 p s end = ap (λ b. cond b 1 0) ((is_end-true p s).1 end)
+
+pub times_end-le_1 : (p : GridPoint) (s : GridSegment) → times_end p s ≤ 1
+times_end-le_1 p s = at_most (is_end p s)
+  where
+    at_most : (b : Bool) → cond b 1 0 ≤ 1
+    at_most true = omega arith
+    at_most false = omega arith
 
 -- ---- sums over a finite map
 -- how much of the uses of p an entry has

@@ -1,18 +1,20 @@
 //! What is held of one piece: its key and its owners.
-ghost use Rattle.std.specs.Prelude.{◌≡◌, ◌≢◌, ◌⊎◌, ◌↔◌, ◌+◌, ℕ, IsTrue, IfOk, OnOk, OnErr};
+ghost use Rattle.std.specs.Prelude.{◌≡◌, ◌≢◌, ◌⊎◌, ◌↔◌, ◌+◌, ℕ, IsTrue, OnOk, OnErr};
 ghost use Rattle.std.specs.Prelude.{◌∷◌, [], Contains, length};
+ghost use Rattle.std.specs.Bool.{OnTrue, OnFalse};
 ghost use Rattle.std.specs.List.Sorted.{IsStrictlyIncreasing};
 ghost use Rattle.component_registry.specs.Registry.{holding_of};
 
 use grid_base::NoMemory;
+use smallvec::SmallVec;
 use std::alloc::Global;
 use std::marker::Model;
 
-// The key of a piece, and its owners, ascending.
+// The key of a piece, and its owners, ascending. A few of them take no memory of their own.
 #[derive(Drop)]
 pub(crate) struct Holding {
     key: usize,
-    owners: Vec<u32>,
+    owners: SmallVec<u32, 4>,
 }
 
 impl Model for Holding {
@@ -30,12 +32,12 @@ impl Model for Holding {
 
 impl Holding {
     // What is held of a new piece with one owner.
-    pub(crate) fn new(alloc: Global, key: usize, id: u32) -> Result<Holding, NoMemory>
-        ensures { IfOk result (λ h. h ≡ holding_of key (id ∷ [])) }
+    pub(crate) fn new(alloc: Global, key: usize, id: u32) -> Holding
+        ensures { result ≡ holding_of key (id ∷ []) }
     {
-        let mut owners = Vec::new(alloc);
-        owners.push(id)?;
-        Ok(Holding { key, owners })
+        let mut owners = SmallVec::new(alloc);
+        owners.push_reserved(id);
+        Holding { key, owners }
     }
 
     pub(crate) fn key(&self) -> usize
@@ -75,25 +77,22 @@ impl Holding {
         Ok(())
     }
 
-    // Whether `id` is an owner.
-    pub(crate) fn has_owner(&self, id: u32) -> bool
-        ensures { IsTrue result ↔ Contains self.now.owners id }
-    {
-        self.owners.as_slice().binary_search(&id).is_ok()
-    }
-
-    // Takes `id` out.
-    pub(crate) fn drop_owner(&mut self, id: u32)
-        requires { Contains self.old.owners id }
-        ensures owners { (x : ℕ)
-            → Contains self.new.owners x ↔ (Contains self.old.owners x × (x ≢ id)) }
-        ensures count { length self.new.owners + 1 ≡ length self.old.owners }
+    // Takes `id` out, and says whether it was there.
+    pub(crate) fn drop_owner(&mut self, id: u32) -> bool
+        ensures found { IsTrue result ↔ Contains self.old.owners id }
+        ensures owners { OnTrue result
+            ((x : ℕ) → Contains self.new.owners x ↔ (Contains self.old.owners x × (x ≢ id))) }
+        ensures count { OnTrue result (length self.new.owners + 1 ≡ length self.old.owners) }
         ensures key { self.new.key ≡ self.old.key }
         ensures ascending { IsStrictlyIncreasing self.new.owners }
+        ensures unchanged { OnFalse result (self.new ≡ self.old) }
     {
         match self.owners.as_slice().binary_search(&id) {
-            Ok(place) => self.owners.remove(place),
-            Err(_) => unreachable!(),
-        };
+            Ok(place) => {
+                self.owners.remove(place);
+                true
+            }
+            Err(_) => false,
+        }
     }
 }

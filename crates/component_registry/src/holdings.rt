@@ -1,25 +1,24 @@
-//! The pieces, in a tree from each to what is held of it, and in a slab from each key to its piece.
-//! A new piece comes into the tree before the slab, whose room was made first: no step is undone.
+//! The pieces, in a map from each to what is held of it, and in a slab from each key to its piece.
+//! A new piece comes into the map before the slab, whose room was made first: no step is undone.
 ghost use Rattle.std.specs.Prelude.{◌≡◌, ◌≢◌, ◌↔◌, IsTrue, IfOk, OnErr, Some};
 ghost use Rattle.std.specs.Prelude.{[], Contains, AllPairs};
 ghost use Rattle.std.specs.Bool.{OnTrue, OnFalse};
 ghost use Rattle.std.specs.FinMap as map;
-ghost use Rattle.std.specs.BTreeMap as tree;
 ghost use Rattle.grid_base.specs.Segment.{GridSegment, IsSegmentBefore};
 ghost use Rattle.component_registry.specs.Registry.{IsPiece, key_of, owners_of, Owns, IsSound};
 ghost use Rattle.component_registry.specs.Registry.{AddsOwner, DropsOwner};
 
+use crate::hashed::{Hashed, empty, keys_in_order};
 use crate::holding::Holding;
 use grid_base::{NoMemory, Segment};
 use slab::Slab;
 use std::alloc::Global;
-use std::collections::BTreeMap;
 use std::marker::Model;
 
 // The pieces with their keys and owners.
 #[derive(Drop)]
 pub(crate) struct Holdings {
-    pieces: BTreeMap<Segment, Holding>,
+    pieces: Hashed<Segment, Holding>,
     keys: Slab<Segment>,
     alloc: Global,
 }
@@ -43,7 +42,7 @@ impl Holdings {
         ensures empty { result ≡ map.empty }
     {
         Holdings {
-            pieces: BTreeMap::new(alloc),
+            pieces: empty(alloc),
             keys: Slab::new(alloc),
             alloc,
         }
@@ -88,7 +87,7 @@ impl Holdings {
             (λ v. (s : GridSegment) → Contains v.items s ↔ IsPiece self.now s) }
         ensures ascending { IfOk result (λ v. AllPairs IsSegmentBefore v.items) }
     {
-        list_of(self.alloc, &self.pieces)
+        keys_in_order(self.alloc, &self.pieces)
     }
 
     // Makes `id` an owner of `piece`, and answers its key.
@@ -113,7 +112,7 @@ impl Holdings {
         ensures sound { IsSound self.new }
     {
         self.keys.reserve(1)?;
-        let holding = Holding::new(self.alloc, self.keys.vacant_key(), id)?;
+        let holding = Holding::new(self.alloc, self.keys.vacant_key(), id);
         self.pieces.insert(piece, holding)?;
         Ok(self.keys.insert_reserved(piece))
     }
@@ -125,45 +124,17 @@ impl Holdings {
         ensures unchanged { OnFalse result (self.new ≡ self.old) }
         ensures sound { IsSound self.new }
     {
-        let found = self.owns(piece, id);
-        if found {
-            self.drop_owner(piece, id);
-        }
-        found
-    }
-
-    // Whether `id` owns `piece`.
-    fn owns(&self, piece: &Segment, id: u32) -> bool
-        ensures owner { IsTrue result ↔ Owns self.now piece.now id }
-        ensures sound { IsSound self.now }
-    {
-        match self.pieces.get(piece) {
-            Some(holding) => holding.has_owner(id),
-            None => false,
-        }
-    }
-
-    // Takes `id` from the owners of `piece`.
-    fn drop_owner(&mut self, piece: &Segment, id: u32)
-        requires owner { Owns self.old piece.now id }
-        ensures dropped { DropsOwner self.old self.new piece.now id }
-        ensures sound { IsSound self.new }
-    {
         let Some(holding) = self.pieces.get_mut(piece) else {
-            unreachable!()
+            return false;
         };
-        holding.drop_owner(id);
+        if !holding.drop_owner(id) {
+            return false;
+        }
         if holding.is_unowned() {
             let key = holding.key();
             self.pieces.remove(piece);
             self.keys.try_remove(key);
         }
+        true
     }
-}
-
-// The pieces of a tree, in its order.
-fn list_of(alloc: Global, pieces: &BTreeMap<Segment, Holding>) -> Result<Vec<Segment>, NoMemory>
-    ensures { IfOk result (λ v. v.items ≡ tree.keys pieces.now) }
-{
-    Ok(pieces.keys().copied().collect(alloc)?)
 }

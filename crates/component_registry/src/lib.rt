@@ -3,6 +3,7 @@
 #![tactic(auto)]
 
 mod ends;
+mod hashed;
 mod holding;
 mod holdings;
 mod registry;

@@ -4,22 +4,27 @@ ghost use Rattle.std.specs.Prelude.{[], Contains, AllPairs};
 ghost use Rattle.std.specs.Bool.{OnTrue, OnFalse};
 ghost use Rattle.std.specs.FinMap as map;
 ghost use Rattle.std.specs.List.Sorted.{IsStrictlyIncreasing};
+ghost use Rattle.grid_base.specs.Point.{GridPoint, IsBefore};
 ghost use Rattle.grid_base.specs.Segment.{GridSegment, IsSegmentBefore, IsEnd};
 ghost use Rattle.component_registry.specs.Registry.{IsPiece, key_of, owners_of, Owns, IsSound};
 ghost use Rattle.component_registry.specs.Registry.{uses_of, AddsOwner, DropsOwner};
 
 use crate::ends;
+use crate::ends::Ends;
+use crate::hashed::{empty, keys_in_order};
 use crate::holdings::Holdings;
 use grid_base::{NoMemory, Point, Segment};
 use std::alloc::Global;
-use std::collections::BTreeMap;
 use std::marker::Model;
 
 /// Which pieces there are, under which key, and who owns each. An owner is the id of an original.
 #[derive(Drop)]
 pub struct Registry {
     holdings: Holdings,
-    ends: BTreeMap<Point, u64>,
+    ends: Ends,
+    // How often an owner was added: no point is used more often.
+    added: u64,
+    alloc: Global,
 }
 
 impl Model for Registry {
@@ -33,7 +38,7 @@ impl Model for Registry {
 
     ghost view = { λ r. r.holdings };
 
-    ghost invariant = { λ r. IsCounted r.holdings r.ends };
+    ghost invariant = { λ r. IsCounted r.holdings r.ends r.added };
 }
 
 impl Registry {
@@ -44,7 +49,9 @@ impl Registry {
     {
         Registry {
             holdings: Holdings::new(alloc),
-            ends: BTreeMap::new(alloc),
+            ends: empty(alloc),
+            added: 0,
+            alloc,
         }
     }
 
@@ -56,8 +63,12 @@ impl Registry {
         ensures unchanged { OnErr result (self.new ≡ self.old) }
         ensures sound { IsSound self.new }
     {
-        ends::make_places(&mut self.ends, &piece)?;
+        if self.added == u64::MAX {
+            return Err(NoMemory);
+        }
+        ends::make_room(&mut self.ends)?;
         let key = self.holdings.add(piece, id)?;
+        self.added += 1;
         ends::count_up(&mut self.ends, &piece);
         Ok(key)
     }
@@ -119,5 +130,14 @@ impl Registry {
         ensures ascending { IfOk result (λ v. AllPairs IsSegmentBefore v.items) }
     {
         self.holdings.pieces()
+    }
+
+    /// All points that are ends of pieces, ascending.
+    pub fn vertices(&self) -> Result<Vec<Point>, NoMemory>
+        ensures exact { IfOk result
+            (λ v. (p : GridPoint) → Contains v.items p ↔ (0 < uses_of self.now p)) }
+        ensures ascending { IfOk result (λ v. AllPairs IsBefore v.items) }
+    {
+        keys_in_order(self.alloc, &self.ends)
     }
 }

@@ -1,7 +1,14 @@
 //! Worked cases, counted on paper.
 use crate::Registry;
 use grid_base::{Point, Segment};
+use std::alloc::Global;
+use std::process::Abort;
 use std::test::Fail;
+
+// The bottom of a square, and its right side.
+const BOTTOM: [u64; 4] = [0, 0, 4, 0];
+
+const RIGHT: [u64; 4] = [4, 0, 4, 4];
 
 fn segment([x, y, u, v]: [u64; 4]) -> Result<Segment, Fail> {
     let found = Segment::new(Point::new(x, y)?, Point::new(u, v)?);
@@ -9,67 +16,82 @@ fn segment([x, y, u, v]: [u64; 4]) -> Result<Segment, Fail> {
 }
 
 // A piece is put for an id that doesn't own it yet.
-fn add(registry: &mut Registry, piece: Segment, id: u32) -> Result<usize, Fail> {
+fn add(registry: &mut Registry, ends: [u64; 4], id: u32) -> Result<usize, Fail> {
+    let piece = segment(ends)?;
     if registry.remove(&piece, id) {
         return Err(Fail::new("an owner already"));
     }
     Ok(registry.add(piece, id)?)
 }
 
-// The bottom of a square is shared by 7 and 3, its right side is owned by 3 alone.
-const BOTTOM: [u64; 4] = [0, 0, 4, 0];
-
-const RIGHT: [u64; 4] = [4, 0, 4, 4];
-
-fn square(registry: &mut Registry) -> Result<(usize, usize), Fail> {
-    let bottom = add(registry, segment(BOTTOM)?, 7)?;
-    let right = add(registry, segment(RIGHT)?, 3)?;
-    add(registry, segment(BOTTOM)?, 3)?;
-    Ok((bottom, right))
-}
-
-#[test]
-fn a_shared_piece_has_one_key_and_both_owners(rt: HostRuntime) -> Result<(), Fail> {
-    let mut registry = Registry::new(rt.alloc());
-    let (bottom, right) = square(&mut registry)?;
-    for (ends, key, owners) in [(BOTTOM, bottom, &[3, 7][..]), (RIGHT, right, &[3])] {
+// The registry holds these pieces, ascending, with these owners, and nothing else.
+fn assert_pieces(
+    rt: &impl Abort,
+    alloc: Global,
+    registry: &Registry,
+    pieces: &[([u64; 4], &[u32])],
+) -> Result<(), Fail> {
+    let mut list = Vec::new(alloc);
+    for &(ends, owners) in pieces {
         let piece = segment(ends)?;
-        assert_eq!(rt; registry.key(&piece), Some(key), "{ends:?}");
+        let key = registry.key(&piece).ok_or("no piece")?;
         assert_eq!(rt; registry.piece(key), Some(piece), "{ends:?}");
         assert_eq!(rt; registry.owners(key), owners, "{ends:?}");
+        list.push(piece)?;
     }
-    let pieces = [segment(BOTTOM)?, segment(RIGHT)?];
-    assert_eq!(rt; registry.pieces()?.as_slice(), pieces.as_slice());
-    assert_eq!(rt; registry.key(&segment([0, 0, 4, 4])?), None);
+    assert_eq!(rt; registry.pieces()?.as_slice(), list.as_slice());
+    Ok(())
+}
+
+// These points are used, ascending, each so often, and no others.
+fn assert_uses(
+    rt: &impl Abort,
+    alloc: Global,
+    registry: &Registry,
+    uses: &[[u64; 3]],
+) -> Result<(), Fail> {
+    let mut points = Vec::new(alloc);
+    for &[x, y, count] in uses {
+        let p = Point::new(x, y)?;
+        assert_eq!(rt; registry.vertex_uses(&p), count, "{x} {y}");
+        points.push(p)?;
+    }
+    assert_eq!(rt; registry.vertices()?.as_slice(), points.as_slice());
     Ok(())
 }
 
 #[test]
-fn a_vertex_is_used_once_for_each_owner_of_each_piece(rt: HostRuntime) -> Result<(), Fail> {
+fn a_shared_piece_goes_with_its_last_owner(rt: HostRuntime) -> Result<(), Fail> {
     let mut registry = Registry::new(rt.alloc());
-    square(&mut registry)?;
-    for (x, y, uses) in [(0, 0, 2), (4, 0, 3), (4, 4, 1), (2, 0, 0)] {
-        assert_eq!(rt; registry.vertex_uses(&Point::new(x, y)?), uses, "{x} {y}");
-    }
-    Ok(())
-}
-
-#[test]
-fn a_piece_goes_with_its_last_owner(rt: HostRuntime) -> Result<(), Fail> {
-    let mut registry = Registry::new(rt.alloc());
-    let (key, _) = square(&mut registry)?;
-    let bottom = segment(BOTTOM)?;
-    for (id, found, owners, uses) in [
-        (9, false, &[3, 7][..], 3),
-        (7, true, &[3], 2),
-        (7, false, &[3], 2),
-        (3, true, &[], 1),
+    let key = add(&mut registry, BOTTOM, 7)?;
+    add(&mut registry, RIGHT, 3)?;
+    assert_eq!(rt; add(&mut registry, BOTTOM, 3)?, key);
+    let both = &[(BOTTOM, &[3, 7][..]), (RIGHT, &[3])][..];
+    assert_pieces(&rt, rt.alloc(), &registry, both)?;
+    for &(id, found, pieces, uses) in &[
+        (9, false, both, &[[0, 0, 2], [4, 0, 3], [4, 4, 1]][..]),
+        (
+            7,
+            true,
+            &[(BOTTOM, &[3]), (RIGHT, &[3])],
+            &[[0, 0, 1], [4, 0, 2], [4, 4, 1]],
+        ),
+        (3, true, &[(RIGHT, &[3])], &[[4, 0, 1], [4, 4, 1]]),
     ] {
-        assert_eq!(rt; registry.remove(&bottom, id), found, "{id}");
-        assert_eq!(rt; registry.owners(key), owners, "{id}");
-        assert_eq!(rt; registry.vertex_uses(&Point::new(4, 0)?), uses, "{id}");
+        assert_eq!(rt; registry.remove(&segment(BOTTOM)?, id), found, "{id}");
+        assert_pieces(&rt, rt.alloc(), &registry, pieces)?;
+        assert_uses(&rt, rt.alloc(), &registry, uses)?;
     }
-    assert_eq!(rt; registry.key(&bottom), None);
     assert_eq!(rt; registry.piece(key), None);
     Ok(())
+}
+
+#[test]
+fn a_piece_may_have_many_owners(rt: HostRuntime) -> Result<(), Fail> {
+    let mut registry = Registry::new(rt.alloc());
+    for &id in &[6, 2, 9, 4, 1, 8] {
+        add(&mut registry, BOTTOM, id)?;
+    }
+    assert_pieces(&rt, rt.alloc(), &registry, &[(BOTTOM, &[1, 2, 4, 6, 8, 9])])?;
+    assert_uses(&rt, rt.alloc(), &registry, &[[0, 0, 6], [4, 0, 6]])
 }

@@ -1,19 +1,25 @@
-use Rattle.std.proofs.Common.{◌+◌, sym}
-use Rattle.component_registry.proofs.EndCounts.{updates_through, others_written, others_placed}
+use Rattle.std.proofs.Common.{◌+◌, sym, arith}
+use Rattle.component_registry.proofs.EndCounts.{others_written, no_zero_written, others_found, no_zero_put}
 use Rattle.component_registry.proofs.ends.raise.Goals as goal
 
--- one count was written
+-- the count that was there was written
 pub returns-in-Some-clause-others : goal.returns-in-Some-clause-others
 returns-in-Some-clause-others c =
     let more = c.in-Some.uses.now + 1 in
     let there = sym c.in-Some.ensures.value in
-    others_written c.args.ends.now (c.get_mut.follows.lender more) c.args.p.now _ more there (c.get_mut.follows.holds more)
+    others_written c.args.ends.now (c.get_mut.follows.lender more) c.args.p _ more there (c.get_mut.follows.holds more)
 
-pub returns-in-Some-clause-places : goal.returns-in-Some-clause-places
-returns-in-Some-clause-places c =
+pub returns-in-Some-clause-no_zero : goal.returns-in-Some-clause-no_zero
+returns-in-Some-clause-no_zero c =
     let more = c.in-Some.uses.now + 1 in
-    let old = c.args.ends.now in
-    let new = c.get_mut.follows.lender more in
     let there = sym c.in-Some.ensures.value in
-    let updates = updates_through old new c.args.p.now _ more there (c.get_mut.follows.holds more) in
-    others_placed old new c.args.p.now _ updates
+    no_zero_written c.args.ends.now (c.get_mut.follows.lender more) c.args.p _ more there (c.get_mut.follows.holds more) (omega arith)
+
+-- a first count was put
+pub returns-clause-others : goal.returns-clause-others
+returns-clause-others c =
+    rw (← c.get_mut.follows.holds-at-none) (others_found c.get_mut.follows.lender-at-none c.insert.new.self c.args.p _ c.in-Ok.ensures.updates)
+
+pub returns-clause-no_zero : goal.returns-clause-no_zero
+returns-clause-no_zero c =
+    rw (← c.get_mut.follows.holds-at-none) (no_zero_put c.get_mut.follows.lender-at-none c.insert.new.self c.args.p 1 c.in-Ok.ensures.updates (omega arith))

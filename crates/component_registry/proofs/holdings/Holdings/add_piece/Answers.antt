@@ -1,16 +1,13 @@
 use Rattle.std.proofs.Common.{◌≡◌, ◌∙◌, sym, ap, ◌∷◌, [], Some, None, arith}
 use Rattle.component_registry.specs.Registry.{Holding, holding_of}
 use Rattle.component_registry.specs.Kept.{held_in}
-use Rattle.component_registry.proofs.Seen.{sound_seen, not_in_tree}
-use Rattle.component_registry.proofs.TreeSteps.{Puts, puts, kept_room, kept_insert, adds_insert}
+use Rattle.component_registry.proofs.Seen.{sound_seen, not_in_map}
+use Rattle.component_registry.proofs.Changes.{Puts, puts, kept_room, kept_insert, adds_insert}
 use Rattle.component_registry.proofs.holdings.Holdings.add_piece.Goals as goal
 
--- without memory the tree has what it had
+-- without memory the map has what it had
 pub returns-in_err-reserve-clause-sound : goal.returns-in_err-reserve-clause-sound
 returns-in_err-reserve-clause-sound c = sound_seen _ _ c.self.invariant
-
-pub returns-in_err-holding-clause-sound : goal.returns-in_err-holding-clause-sound
-returns-in_err-holding-clause-sound c = sound_seen _ _ c.self.invariant
 
 pub returns-in_err-insert-clause-sound : goal.returns-in_err-insert-clause-sound
 returns-in_err-insert-clause-sound c = rw c.in_err-insert.ensures.err (sound_seen _ _ c.self.invariant)
@@ -19,22 +16,22 @@ returns-in_err-insert-clause-sound c = rw c.in_err-insert.ensures.err (sound_see
 abbrev first_held : goal.After-insert_reserved → Holding
 first_held c = holding_of c.insert_reserved.result (c.args.id ∷ [])
 
--- the tree holds it under the key that the slab gave
-holds : (c : goal.After-insert_reserved) → c.in_ok-holding.holding ≡ first_held c
+-- the map holds it under the key that the slab gave
+holds : (c : goal.After-insert_reserved) → c.new-holding.result ≡ first_held c
 holds c =
     let key = c.vacant_key.ensures.value ∙ sym c.insert_reserved.ensures.key in
-    c.in_ok-holding.ensures ∙ ap (λ k. holding_of k (c.args.id ∷ [])) key
+    c.new-holding.ensures ∙ ap (λ k. holding_of k (c.args.id ∷ [])) key
 
 -- and of other pieces what it held
 put : (c : goal.After-insert_reserved) → Puts c.self.inside.pieces c.insert.new.self c.args.piece (Some (first_held c))
 put c =
-    let held = Some c.in_ok-holding.holding in
+    let held = Some c.new-holding.result in
     let done = c.in_ok-insert.ensures in
-    rw (holds c) at (puts c.self.inside.pieces c.insert.new.self c.args.piece held done.updates done.ordered)
+    rw (holds c) at (puts c.self.inside.pieces c.insert.new.self c.args.piece held done.updates)
 
 -- there was no such piece
 none : (c : goal.After-insert_reserved) → held_in c.self.inside.pieces c.args.piece ≡ None
-none c = not_in_tree c.self.inside.pieces c.args.self.now c.self.view_is c.args.piece c.requires.new_piece
+none c = not_in_map c.self.inside.pieces c.args.self.now c.self.view_is c.args.piece c.requires.new_piece
 
 pub invariant_of-self-2 : goal.invariant_of-self-2
 invariant_of-self-2 c =

@@ -2,7 +2,7 @@ use Rattle.std.proofs.Common.{arith}
 use Rattle.component_registry.proofs.Seen.{get-seen, sound_seen}
 use Rattle.component_registry.proofs.holdings.Holdings.key.Goals as goal
 
--- the tree has what is held of the piece
+-- the map has what is held of the piece
 pub returns-in-Some-clause-key : goal.returns-in-Some-clause-key
 returns-in-Some-clause-key c =
     let seen = get-seen c.self.inside.pieces c.args.piece.now in

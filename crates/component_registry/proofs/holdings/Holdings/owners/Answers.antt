@@ -11,7 +11,7 @@ returns-in_default-clause-owners c = λ s is.
     let stored = piece_has_key _ _ c.self.invariant c.args.key s in
     absurd (none-some s (c.in_default.ensures ∙ stored.1 (rw c.self.view_is is)))
 
--- the tree has the owners of the piece under the key
+-- the map has the owners of the piece under the key
 pub returns-in-Some-get-clause-owners : goal.returns-in-Some-get-clause-owners
 returns-in-Some-get-clause-owners c = λ s is.
     let m = c.self.inside.pieces in

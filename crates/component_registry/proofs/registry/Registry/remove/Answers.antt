@@ -14,5 +14,7 @@ count_down-requires c = record {
 pub invariant_of-self-2 : goal.invariant_of-self-2
 invariant_of-self-2 c = record {
   sound = c.remove.ensures.sound;
-  counted = λ p. omega (arith, c.if-not-remove.ensures.removed.uses p, c.count_down.ensures p, c.self.invariant.counted p);
+  counted = λ p. omega (arith, c.if-not-remove.ensures.removed.uses p, c.count_down.ensures.fewer p, c.self.invariant.counted p);
+  no_zero = c.count_down.ensures.no_zero c.self.invariant.no_zero;
+  bounded = λ p. omega (arith, c.if-not-remove.ensures.removed.uses p, c.self.invariant.bounded p);
 }
