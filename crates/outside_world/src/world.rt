@@ -16,8 +16,8 @@ pub enum FileName {
 #[derive(Clone, Copy, Debug, PartialEq, Eq)]
 pub struct Failed;
 
-/// The world outside. What it holds is optional: a world may tell it or not, and clauses on content hold where it
-/// tells. One clock counts all calls.
+/// The world outside. What it holds is optional: a world may tell it or not, and clauses on content hold where
+/// it tells. One clock counts all calls.
 pub trait Outside {
     /// Whether the world still tells what it holds.
     ghost tells: { Self → Type 0 };
@@ -31,8 +31,8 @@ pub trait Outside {
     /// How often a give has failed.
     ghost sink_faults: { Self → ℕ };
 
-    /// Fills a prefix of the buffer with the next bytes of the input. 0 for a buffer with room means that the input
-    /// is over.
+    /// Fills a prefix of the buffer with the next bytes of the input. 0 for a buffer with room means that the
+    /// input is over.
     fn take(&mut self, buf: &mut [u8]) -> Result<usize, Failed>
         ensures within { IfOk result (λ n. n ≤ length buf.old) }
         ensures later { source_faults self.old ≤ source_faults self.new }
@@ -41,8 +41,8 @@ pub trait Outside {
         ensures still { tells self.new → tells self.old }
         ensures told { tells self.new → Took (view self.old) (view self.new) buf.new result };
 
-    /// Hands bytes to the output, and answers how many of them it took from the front: one at least, where there are
-    /// any.
+    /// Hands bytes to the output, and answers how many of them it took from the front: one at least, where there
+    /// are any.
     fn give(&mut self, bytes: &[u8]) -> Result<usize, Failed>
         ensures within { IfOk result (λ n. n ≤ length bytes.now) }
         ensures progress { IfOk result (λ n. 0 < length bytes.now → 0 < n) }

@@ -1,5 +1,5 @@
-//! The real world: standard input and standard output. It is the trusted edge: what the system does isn't told to
-//! any contract, so no clause on content speaks of this world. It only counts how often a call failed.
+//! The real world: standard input and standard output. It is the trusted edge: what the system does isn't told
+//! to any contract, so no clause on content speaks of this world. It only counts how often a call failed.
 ghost use Rattle.std.specs.Prelude.{◌≤◌};
 ghost use Rattle.outside_world.specs.Counts.{Rose};
 ghost use Rattle.rose.specs.Untold.{untold};
@@ -7,8 +7,8 @@ ghost use Rattle.rose.specs.Untold.{untold};
 use outside_world::{Failed, Outside};
 use std::io::Read;
 
-/// A source of bytes and a sink of bytes, with a count of the faults of each. The program's are standard input and
-/// standard output.
+/// A source of bytes and a sink of bytes, with a count of the faults of each. The program's are standard input
+/// and standard output.
 #[derive(Drop)]
 pub struct FileWorld<I: Read + Drop, P: Print + Drop> {
     input: I,

@@ -13,7 +13,7 @@ use std::alloc::Global;
 use std::process::ExitCode;
 use std::thread::Threads;
 
-/// Does what the program does with these words in this world. Words that aren't text are no words that it knows.
+/// Does what the program does with these words in this world. Words that aren't text are none that it knows.
 pub(crate) fn perform<R: Threads + Sync, W: Outside>(
     rt: &R,
     alloc: Global,
@@ -22,12 +22,14 @@ pub(crate) fn perform<R: Threads + Sync, W: Outside>(
 ) -> Status
     ensures not_text { IsErrOf words WordsError.NotText → result ≡ Status.Usage }
     ensures no_memory { IsErrOf words WordsError.NoMemory → result ≡ Status.NoMemory }
-    ensures usage { IfOk words (λ known. result ≡ Status.Usage ↔ (IsRunWord (map string_bytes known.items) → ⊥)) }
+    ensures usage { IfOk words
+        (λ known. result ≡ Status.Usage ↔ (IsRunWord (map string_bytes known.items) → ⊥)) }
     ensures told { IsOk words → result ≢ Status.Usage → W.tells world.new
         → HasRun (W.view world.old) (W.view world.new) result }
     ensures source_fault { result ≡ Status.SourceFault
         → Rose (W.source_faults world.old) (W.source_faults world.new) }
-    ensures sink_fault { result ≡ Status.SinkFault → Rose (W.sink_faults world.old) (W.sink_faults world.new) }
+    ensures sink_fault { result ≡ Status.SinkFault
+        → Rose (W.sink_faults world.old) (W.sink_faults world.new) }
     ensures goes_on { GoesOn ⟦<W as Outside>⟧ world.old world.new }
 {
     match words {

@@ -8,7 +8,8 @@ use Rattle.rose_shell.specs.Replies.{no_reply, ok_reply}
 
 -- the reply tells what came of a change, which gets this number where it is accepted
 abbrev pub TellsChange : ℕ → Result Applied AddError → List ℕ → Type 0
-TellsChange number (Ok applied) reply = reply ≡ ok_reply number (length applied.trace) applied.first applied.added
+TellsChange number (Ok applied) reply =
+    reply ≡ ok_reply number (length applied.trace) applied.first applied.added
 TellsChange number (Err Ids) reply = reply ≡ no_reply refusals.Ids
 TellsChange number (Err Changes) reply = reply ≡ no_reply refusals.Changes
 TellsChange number (Err NoMemory) reply = ⊥

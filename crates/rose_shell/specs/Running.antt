@@ -1,4 +1,5 @@
--- What `run` and `serve` promise: each line is answered by the table of lines, and each state on the way is a realm.
+-- What `run` and `serve` promise: each line is answered by the table of lines, and each state on the way is a
+-- realm.
 use Rattle.std.specs.Prelude.{◌≡◌, ◌^◌, ℕ, List, [], ◌∷◌, All, codes}
 use Rattle.outside_world.specs.View.{View}
 use Rattle.outside_world.specs.declared.world.FileName.{FileName}
@@ -17,7 +18,8 @@ abbrev pub StandsAlways : SpendableState → (FileName → List ℕ) → Type 0
 StandsAlways state files = Unit {0}
 
 -- the store has served the world, and after each line its drawing is a realm
-pub record HasServed (old new : View) (start end : SpendableState) (budget : ℕ) (status : Status) : Type 0 where
+pub record HasServed (old new : View) (start end : SpendableState) (budget : ℕ) (status : Status)
+    : Type 0 where
   pub session : Served StoreAnswers StandsAlways old new start end budget status
   pub realms : All (λ turn. IsDrawnRealm turn.after.state.drawing) session.turns
 

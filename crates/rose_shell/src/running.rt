@@ -1,5 +1,6 @@
 //! The calls of the program: the words choose what is done, and the loop answers line by line.
-ghost use Rattle.std.specs.Prelude.{◌≡◌, ◌≢◌, ◌≤◌, ◌^◌, ◌⊎◌, ◌↔◌, IsTrue, false, length, map, string_bytes, codes};
+ghost use Rattle.std.specs.Prelude.{◌≡◌, ◌≢◌, ◌≤◌, ◌^◌, ◌⊎◌, ◌↔◌, IsTrue, false};
+ghost use Rattle.std.specs.Prelude.{length, map, string_bytes, codes};
 ghost use Rattle.outside_world.specs.Counts.{Rose};
 ghost use Rattle.outside_world.specs.GoesOn.{GoesOn};
 ghost use Rattle.rose_shell.specs.Running.{IsRunWord, HasServed, HasRun};
@@ -14,9 +15,9 @@ use std::thread::Threads;
 /// How many bytes a run takes at most: 2^40.
 const MOST_BYTES: u64 = 1_099_511_627_776;
 
-/// Does what the program does with these words, the arguments after its name: `run` reads lines to the end of the
-/// input, from the empty store on, and answers each. Want of memory may end it at any place. Then the replies to the
-/// first lines were given, each whole.
+/// Does what the program does with these words, the arguments after its name: `run` reads lines to the end of
+/// the input, from the empty store on, and answers each. Want of memory may end it at any place. Then the replies
+/// to the first lines were given, each whole.
 pub fn run<R: Threads + Sync, W: Outside>(
     rt: &R,
     alloc: Global,
@@ -28,8 +29,10 @@ pub fn run<R: Threads + Sync, W: Outside>(
     ensures untouched { result ≡ Status.Usage → world.new ≡ world.old }
     ensures source_fault { result ≡ Status.SourceFault
         → Rose (W.source_faults world.old) (W.source_faults world.new) }
-    ensures sink_fault { result ≡ Status.SinkFault → Rose (W.sink_faults world.old) (W.sink_faults world.new) }
-    ensures told { result ≢ Status.Usage → W.tells world.new → HasRun (W.view world.old) (W.view world.new) result }
+    ensures sink_fault { result ≡ Status.SinkFault
+        → Rose (W.sink_faults world.old) (W.sink_faults world.new) }
+    ensures told { result ≢ Status.Usage → W.tells world.new
+        → HasRun (W.view world.old) (W.view world.new) result }
     ensures complete { IsRunWord (map string_bytes words.now) → W.tells world.new
         → ¬ (Rose (W.source_faults world.old) (W.source_faults world.new))
         → ¬ (Rose (W.sink_faults world.old) (W.sink_faults world.new))
@@ -60,8 +63,8 @@ fn is_run(word: &str) -> bool
     word == "run"
 }
 
-/// Reads lines to the end of the input, and answers each from this store on. The run ends at the first fault, at
-/// want of memory, and at the first take that gives more after `budget` bytes were taken.
+/// Reads lines to the end of the input, and answers each from this store on. The run ends at the first fault,
+/// at want of memory, and at the first take that gives more after `budget` bytes were taken.
 pub fn serve<R: Threads + Sync, W: Outside>(
     _rt: &R,
     store: &mut Store,
@@ -72,7 +75,8 @@ pub fn serve<R: Threads + Sync, W: Outside>(
     ensures never_usage { result ≢ Status.Usage }
     ensures source_fault { result ≡ Status.SourceFault
         → Rose (W.source_faults world.old) (W.source_faults world.new) }
-    ensures sink_fault { result ≡ Status.SinkFault → Rose (W.sink_faults world.old) (W.sink_faults world.new) }
+    ensures sink_fault { result ≡ Status.SinkFault
+        → Rose (W.sink_faults world.old) (W.sink_faults world.new) }
     ensures told { W.tells world.new
         → HasServed (W.view world.old) (W.view world.new) store.old store.new budget result }
     // Where no call fails and the input ends within the budget, nothing but memory can be wanting.

@@ -13,9 +13,9 @@ use crate::status::Status;
 use outside_world::{Failed, Outside};
 use std::alloc::Global;
 
-/// Reads lines to the end of the input, and answers each, with this room for the bytes of one take. What stands after
-/// the last line feed is a line too, where it isn't empty. The run ends at the first fault, at want of memory, and at
-/// the first take that gives more after `budget` bytes were taken.
+/// Reads lines to the end of the input, and answers each, with this room for the bytes of one take. What stands
+/// after the last line feed is a line too, where it isn't empty. The run ends at the first fault, at want of
+/// memory, and at the first take that gives more after `budget` bytes were taken.
 pub(crate) fn serve_by_chunks<W: Outside, D: Desk<W>>(
     alloc: Global,
     desk: &mut D,

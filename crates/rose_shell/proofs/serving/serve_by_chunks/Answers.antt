@@ -22,13 +22,15 @@ loop-n-preserved g c =
       goes_on = goes_on_then inv.goes_on (goes_on_then took.goes_on ens.goes_on);
       ready = ens.ready (λ is. cc);
       keeping = λ t.
-          keeping_more (inv.keeping (took.goes_on.tells (ens.goes_on.tells t))) (took.told (ens.goes_on.tells t)) took.within (omega (arith, took.room))
+          let then = ens.goes_on.tells t in
+          keeping_more (inv.keeping (took.goes_on.tells then)) (took.told then) took.within (omega (arith, took.room))
           (λ part is. ens.went part is t) (λ part is. ens.kept part is);
     }
 
 -- the source has failed when all whole lines were answered
 pub returns-in-Err-clause-told : goal.returns-in-Err-clause-told
-returns-in-Err-clause-told g c = λ t. served_source (c.loop-n.invariant.keeping (c.in-Err.ensures.goes_on.tells t)) (c.in-Err.ensures.told t)
+returns-in-Err-clause-told g c = λ t.
+    served_source (c.loop-n.invariant.keeping (c.in-Err.ensures.goes_on.tells t)) (c.in-Err.ensures.told t)
 
 -- the budget was spent, and this take has given more
 pub returns-then-room-eq0-clause-told : goal.returns-then-room-eq0-clause-told
@@ -41,7 +43,8 @@ pub returns-in-Ok-answer_last-clause-told : goal.returns-in-Ok-answer_last-claus
 returns-in-Ok-answer_last-clause-told g c = λ t.
     let took = c.in-Ok.ensures in
     let ens = c.in-Ok-answer_last.ensures in
-    served_all (c.loop-n.invariant.keeping (took.goes_on.tells (ens.goes_on.tells t))) (took.told (ens.goes_on.tells t)) c.if-n-eq0.true (omega arith)
+    let then = ens.goes_on.tells t in
+    served_all (c.loop-n.invariant.keeping (took.goes_on.tells then)) (took.told then) c.if-n-eq0.true (omega arith)
     (λ line is. ens.went line (c.deref.ensures.value ∙ is) t)
 
 -- or halts the run
@@ -49,8 +52,9 @@ pub returns-in-Err-answer_last-clause-told : goal.returns-in-Err-answer_last-cla
 returns-in-Err-answer_last-clause-told g c = λ t.
     let took = c.in-Ok.ensures in
     let ens = c.in-Err-answer_last.ensures in
-    served_last c.status_of.ensures.status (c.loop-n.invariant.keeping (took.goes_on.tells (ens.goes_on.tells t)))
-    (took.told (ens.goes_on.tells t)) c.if-n-eq0.true (omega arith)
+    let then = ens.goes_on.tells t in
+    served_last c.status_of.ensures.status (c.loop-n.invariant.keeping (took.goes_on.tells then)) (took.told then)
+    c.if-n-eq0.true (omega arith)
     (λ line is. ens.stopped line (c.deref.ensures.value ∙ is) t)
 
 -- a line among those of this take halts the run
@@ -58,5 +62,6 @@ pub returns-in-Err-feed-clause-told : goal.returns-in-Err-feed-clause-told
 returns-in-Err-feed-clause-told g c = λ t.
     let took = c.in-Ok.ensures in
     let ens = c.in-Err-feed.ensures in
-    served_halt c.status_of-in-Err-feed.ensures.status (c.loop-n.invariant.keeping (took.goes_on.tells (ens.goes_on.tells t))) (took.told (ens.goes_on.tells t))
+    let then = ens.goes_on.tells t in
+    served_halt c.status_of-in-Err-feed.ensures.status (c.loop-n.invariant.keeping (took.goes_on.tells then)) (took.told then)
     took.within (omega (arith, took.room)) (λ part is. ens.stopped part is t)
