@@ -4,30 +4,27 @@ use crate::*;
 use grid_base::{Point, Segment};
 use std::process::Abort;
 
-fn point(rt: &impl Abort, x: u64, y: u64) -> Point {
-    Point::new(x, y).expect(rt, "a point of the grid")
+fn point(x: u64, y: u64) -> Option<Point> {
+    Point::new(x, y).ok()
 }
 
 // The two segments of a row.
-fn segments(rt: &impl Abort, [k, l, m, n, x, y, u, v]: [u64; 8]) -> (Segment, Segment) {
-    let s = Segment::new(point(rt, k, l), point(rt, m, n));
-    let t = Segment::new(point(rt, x, y), point(rt, u, v));
-    (
-        s.expect(rt, "two different ends"),
-        t.expect(rt, "two different ends"),
-    )
+fn segments([k, l, m, n, x, y, u, v]: [u64; 8]) -> Option<(Segment, Segment)> {
+    let s = Segment::new(point(k, l)?, point(m, n)?)?;
+    let t = Segment::new(point(x, y)?, point(u, v)?)?;
+    Some((s, t))
 }
 
 // Whether the segments meet at the point of their row, whichever is named first.
+fn meet([k, l, m, n, x, y, u, v, p, q]: [u64; 10]) -> Option<bool> {
+    let (s, t) = segments([k, l, m, n, x, y, u, v])?;
+    let want = Meet::At(point(p, q)?);
+    Some(meet_point(&s, &t) == want && meet_point(&t, &s) == want)
+}
+
 fn all_meet(rt: &impl Abort, rows: &[[u64; 10]]) {
     for row in rows {
-        let [k, l, m, n, x, y, u, v, p, q] = *row;
-        let (s, t) = segments(rt, [k, l, m, n, x, y, u, v]);
-        let want = Meet::At(point(rt, p, q));
-        assert!(rt;
-            meet_point(&s, &t) == want && meet_point(&t, &s) == want,
-            "{row:?}"
-        );
+        assert!(rt; meet(*row) == Some(true), "{row:?}");
     }
 }
 
@@ -93,23 +90,23 @@ fn segments_meet_at_the_rounded_crossing(rt: HostRuntime) {
 }
 
 // Whether the segments, of which the first rises, cross at the centre of the cell of their row.
+fn have_corner([k, l, m, n, x, y, u, v, p, q]: [u64; 10]) -> Option<bool> {
+    let (s, t) = segments([k, l, m, n, x, y, u, v])?;
+    let cell = point(p, q)?;
+    let rising_first = Meet::Corner {
+        cell,
+        falling_first: false,
+    };
+    let falling_first = Meet::Corner {
+        cell,
+        falling_first: true,
+    };
+    Some(meet_point(&s, &t) == rising_first && meet_point(&t, &s) == falling_first)
+}
+
 fn all_have_corners(rt: &impl Abort, rows: &[[u64; 10]]) {
     for row in rows {
-        let [k, l, m, n, x, y, u, v, p, q] = *row;
-        let (s, t) = segments(rt, [k, l, m, n, x, y, u, v]);
-        let cell = point(rt, p, q);
-        let rising_first = Meet::Corner {
-            cell,
-            falling_first: false,
-        };
-        let falling_first = Meet::Corner {
-            cell,
-            falling_first: true,
-        };
-        assert!(rt;
-            meet_point(&s, &t) == rising_first && meet_point(&t, &s) == falling_first,
-            "{row:?}"
-        );
+        assert!(rt; have_corner(*row) == Some(true), "{row:?}");
     }
 }
 
@@ -131,13 +128,14 @@ fn two_diagonals_have_a_corner_at_a_centre(rt: HostRuntime) {
     );
 }
 
+fn are_apart(row: [u64; 8]) -> Option<bool> {
+    let (s, t) = segments(row)?;
+    Some(meet_point(&s, &t) == Meet::Apart && crossing(&s, &t).is_none())
+}
+
 fn all_are_apart(rt: &impl Abort, rows: &[[u64; 8]]) {
     for row in rows {
-        let (s, t) = segments(rt, *row);
-        assert!(rt;
-            meet_point(&s, &t) == Meet::Apart && crossing(&s, &t).is_none(),
-            "{row:?}"
-        );
+        assert!(rt; are_apart(*row) == Some(true), "{row:?}");
     }
 }
 
@@ -177,12 +175,17 @@ fn segments_that_dont_cross_are_apart(rt: HostRuntime) {
     );
 }
 
+// The numbers of the crossing.
+fn fraction(row: [u64; 8]) -> Option<[i128; 3]> {
+    let (s, t) = segments(row)?;
+    let place = crossing(&s, &t)?;
+    Some([place.x, place.y, place.w])
+}
+
 // Whether the segments cross at the fraction of their row.
 fn all_cross(rt: &impl Abort, rows: &[([u64; 8], [i128; 3])]) {
     for (row, want) in rows {
-        let (s, t) = segments(rt, *row);
-        let place = crossing(&s, &t).expect(rt, "segments that cross");
-        assert!(rt; [place.x, place.y, place.w] == *want, "{row:?}");
+        assert!(rt; fraction(*row) == Some(*want), "{row:?}");
     }
 }
 

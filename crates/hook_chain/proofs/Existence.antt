@@ -4,7 +4,7 @@ use Rattle.std.proofs.Common.{◌∷◌, ◌++◌, map, reverse, refl, sym, subs
 use Rattle.grid_base.specs.Point.{GridPoint, point_at, IsBefore}
 use Rattle.grid_base.specs.Segment.{GridSegment, is_flat}
 use Rattle.grid_base.specs.Sides.{Side, Left, On, Right, side}
-use Rattle.grid_base.proofs.Ends.{three_points, not_before_itself, columns_in_order}
+use Rattle.grid_base.proofs.Ends.{same_or_not, not_before_itself, columns_in_order}
 use Rattle.segment_envelope.specs.Near.{Near}
 use Rattle.hook_chain.specs.declared.charts.Chart.{Chart}
 use Rattle.hook_chain.specs.Chains.{AllLinks}
@@ -104,13 +104,6 @@ on_or_off : (s : Side) → (s ≡ On) ⊎ (s ≢ On)
 on_or_off Left = inr (λ same. cc)
 on_or_off On = inl refl
 on_or_off Right = inr (λ same. cc)
-
--- two points are one or not
-same_or_not : (p q : GridPoint) → (p ≡ q) ⊎ (p ≢ q)
-same_or_not p q = elim (three_points p q) [
-  | inl before ↦ inr (λ same. not_before_itself p q same before)
-  | inr rest ↦ elim rest [ inl same ↦ inl same | inr after ↦ inr (λ same. not_before_itself q p (sym same) after) ]
-]
 
 -- where x is an end, the hook is the piece
 hook_at_end : (t : GridSegment) (x : GridPoint) → IsBefore t.a t.b → (x ≡ t.a) ⊎ (x ≡ t.b) → HasHook t x

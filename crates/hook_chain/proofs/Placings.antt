@@ -5,8 +5,9 @@ use Rattle.std.proofs.lemmas.Int.{ints}
 use Rattle.grid_base.specs.Point.{GridPoint, point_at}
 use Rattle.grid_base.specs.Sides.{turn}
 use Rattle.grid_base.proofs.Ends.{same_point}
+use Rattle.grid_base.proofs.Balances.{factor_cancels_le}
 use Rattle.hook_chain.specs.Parts.{IsInReach}
-use Rattle.grid_base.proofs.Turns.{times, leftward, rightward, turn_is}
+use Rattle.grid_base.proofs.Turns.{leftward, rightward, turn_is}
 use Rattle.hook_chain.specs.declared.charts.Chart.{Chart}
 use Rattle.hook_chain.specs.Placing.{course, cross, passed, passing, raised, rising, placed, seen, IsAcross, IsUp, IsPlaced, side_for}
 use Rattle.hook_chain.proofs.Axes.{bend, column, row, depth}
@@ -148,26 +149,22 @@ up_of : (under sheared : Bool) (start c d n end o : ℕ) → 0 < d → IsUp unde
 up_of false false start c d n end o wide at_end above =
     let turns = line_turn d n start end o in
     let scaled = ap (λ (t : ℕ). n * t) at_end in
-    let not_lower : o < start → ⊥ = λ lower. let gap = times 0 d (o) (start) wide lower in omega (arith, ints) in
-    let claim : start ≤ o = omega (arith, not_lower) in
+    let beyond = factor_cancels_le start o d wide (omega (arith, ints)) in
     (o - start, omega arith)
 up_of false true start c d n end o wide at_end above =
     let turns = line_turn d n start end o in
     let scaled = ap (λ (t : ℕ). n * t) at_end in
-    let not_lower : o + n < start → ⊥ = λ lower. let gap = times 0 d (o + n) (start) wide lower in omega (arith, ints) in
-    let claim : start ≤ o + n = omega (arith, not_lower) in
+    let beyond = factor_cancels_le start (o + n) d wide (omega (arith, ints)) in
     ((o + n) - start, omega arith)
 up_of true false start c d n end o wide at_end above =
     let turns = line_turn d n start end o in
     let scaled = ap (λ (t : ℕ). n * t) at_end in
-    let not_lower : start < o → ⊥ = λ lower. let gap = times 0 d (start) (o) wide lower in omega (arith, ints) in
-    let claim : o ≤ start = omega (arith, not_lower) in
+    let beyond = factor_cancels_le o start d wide (omega (arith, ints)) in
     (start - o, omega arith)
 up_of true true start c d n end o wide at_end above =
     let turns = line_turn d n start end o in
     let scaled = ap (λ (t : ℕ). n * t) at_end in
-    let not_lower : start + n < o → ⊥ = λ lower. let gap = times 0 d (start + n) (o) wide lower in omega (arith, ints) in
-    let claim : o ≤ start + n = omega (arith, not_lower) in
+    let beyond = factor_cancels_le o (start + n) d wide (omega (arith, ints)) in
     ((start + n) - o, omega arith)
 
 -- the turn of three points of the grid, by the walk's columns and the grid's rows

@@ -5,6 +5,7 @@ use Rattle.std.proofs.lemmas.Int.{ints}
 use Rattle.grid_base.specs.Point.{GridPoint, point_at}
 use Rattle.grid_base.proofs.Turns.{times, times_le, leftward, rightward, turn_is}
 use Rattle.grid_base.proofs.Ends.{same_point}
+use Rattle.grid_base.proofs.Balances.{factor_cancels_le}
 use Rattle.hook_chain.specs.Fractions.{IsLeastAbove}
 use Rattle.hook_chain.specs.Parts.{Reaches, IsLow, IsLater, IsGentle, BendsLeft, IsBareLink, IsInReach, IsPartTo}
 use Rattle.hook_chain.specs.Placing.{IsGoal}
@@ -23,31 +24,21 @@ IsTangent c d x z p q = (g : GridPoint) → z.x ≤ g.x → g.x ≤ x.x → Reac
 -- what is reached with a slope isn't lower
 not_lower : (s r zx zy gx gy : ℕ) → 0 < s → zx ≤ gx → s * zy + r * gx ≤ s * gy + r * zx → zy ≤ gy
 not_lower s r zx zy gx gy some later reached =
-    let not_under : gy < zy → ⊥ = λ under.
-    let down = times 0 s gy zy some under in
-    let along = times_le 0 r zx gx (omega arith) later in
-    omega arith
-    in omega (arith, not_under)
+    let rise = times_le 0 r zx gx (omega arith) later in factor_cancels_le zy gy s some (omega arith)
 
 -- what is as steep as a slope that isn't below c / d isn't below it either
 steep_enough : (c d r s b f : ℕ) → 0 < s → c * s ≤ r * d → r * b ≤ s * f → c * b ≤ f * d
 steep_enough c d r s b f some steep along =
-    let not_below : f * d < c * b → ⊥ = λ below.
-    let scaled = times 0 s (f * d) (c * b) some below in
     let slope = times_le (c * s) (r * d) 0 b steep (omega arith) in
     let rise = times_le (r * b) (s * f) 0 d along (omega arith) in
-    omega arith
-    in omega (arith, not_below)
+    factor_cancels_le (c * b) (f * d) s some (omega arith)
 
 -- a slope of at most p / q, where r / s is at most p / q too
 at_most_slope : (zx zy r s p q : ℕ) → 0 < s → zy * s ≤ r * zx → r * q ≤ p * s → zy * q ≤ p * zx
 at_most_slope zx zy r s p q some gradual less =
-    let not_above : p * zx < zy * q → ⊥ = λ above.
-    let scaled = times 0 s (p * zx) (zy * q) some above in
     let rise = times_le (zy * s) (r * zx) 0 q gradual (omega arith) in
     let slope = times_le (r * q) (p * s) 0 zx less (omega arith) in
-    omega arith
-    in omega (arith, not_above)
+    factor_cancels_le (zy * q) (p * zx) s some (omega arith)
 
 -- ---- one turn of the walk
 -- the line turns up to the least fraction
@@ -120,21 +111,14 @@ at_most_diagonal c d x z proper low before above =
 -- a point of the walk isn't above the way from the origin to x
 chord : (p q : ℕ) (x z : GridPoint) → 0 < q → z.x ≤ x.x → z.y * q ≤ p * z.x → q * z.y + p * x.x ≤ q * x.y + p * z.x → z.y * x.x ≤ x.y * z.x
 chord p q x z some before gradual tangent =
-    let not_above : x.y * z.x < z.y * x.x → ⊥ = λ above.
-    let scaled = times 0 q (x.y * z.x) (z.y * x.x) some above in
     let first = times_le (z.y * q) (p * z.x) z.x x.x gradual before in
     let second = times_le (q * z.y + p * x.x) (q * x.y + p * z.x) 0 z.x tangent (omega arith) in
-    omega arith
-    in omega (arith, not_above)
+    factor_cancels_le (z.y * x.x) (x.y * z.x) q some (omega arith)
 
 -- a slope of at most 1 leads to at most as many rows as columns
 rows_at_most : (p q : ℕ) (z : GridPoint) → 0 < q → p ≤ q → z.y * q ≤ p * z.x → z.y ≤ z.x
 rows_at_most p q z some proper gradual =
-    let not_above : z.x < z.y → ⊥ = λ above.
-    let scaled = times 0 q z.x z.y some above in
-    let slope = times_le p q 0 z.x proper (omega arith) in
-    omega arith
-    in omega (arith, not_above)
+    let slope = times_le p q 0 z.x proper (omega arith) in factor_cancels_le z.y z.x q some (omega arith)
 
 -- the walk ends at the lowest point of the last column that is on or above the line
 comes_to : (c d r s : ℕ) (x z : GridPoint) → 0 < s → IsTangent c d x z r s → z.x ≡ x.x → Reaches c d z → Reaches c d x → IsLow c d x

@@ -1,6 +1,6 @@
 //! Which pieces are close to an original. A steep original is a flat one with columns and rows
 //! exchanged.
-ghost use Rattle.std.specs.Prelude.{◌≡◌, ◌+◌, ◌*◌, ◌^◌, ◌<◌, ◌≤◌, ◌↔◌, ◌≤ℤ◌, IsTrue, unsigned_abs};
+ghost use Rattle.std.specs.Prelude.{◌≡◌, ◌+◌, ◌*◌, ◌^◌, ◌<◌, ◌≤◌, ◌↔◌, ◌≤ℤ◌, IsTrue, max, unsigned_abs};
 ghost use Rattle.grid_base.specs.Point.{InBox, IsBefore};
 ghost use Rattle.grid_base.specs.Segment.{segment_of, exchanged_point};
 ghost use Rattle.grid_base.specs.Sides.{Left, Right, side, side_number};
@@ -82,21 +82,7 @@ fn passes_between(o: &Segment, p: &Segment) -> bool
     ensures { IsTrue result
         ↔ ((side o.now.a o.now.b p.now.a ≡ Right) × (side o.now.a o.now.b p.now.b ≡ Left)) }
 {
-    passes_over(o, &p.a()) && passes_under(o, &p.b())
-}
-
-// Whether `p` is on the right of `s`, seen from its lesser end.
-fn passes_over(s: &Segment, p: &Point) -> bool
-    ensures { IsTrue result ↔ (side s.now.a s.now.b p.now ≡ Right) }
-{
-    cross_of(s, p) < 0
-}
-
-// Whether `p` is on the left of `s`, seen from its lesser end.
-fn passes_under(s: &Segment, p: &Point) -> bool
-    ensures { IsTrue result ↔ (side s.now.a s.now.b p.now ≡ Left) }
-{
-    cross_of(s, p) > 0
+    cross_of(o, &p.a()) < 0 && cross_of(o, &p.b()) > 0
 }
 
 // The same for a `p` that isn't vertical. Where it rises against `o`, the grid points that could
@@ -111,7 +97,7 @@ fn slanted_is_close(o: &Segment, p: &Segment) -> bool
 {
     let line = raised(o);
     let piece = raised(p);
-    let margin = distance(o, &p.a()).max(distance(o, &p.b()));
+    let margin = margin_of(o, p);
     if margin >= line.q {
         return false;
     }
@@ -122,12 +108,14 @@ fn slanted_is_close(o: &Segment, p: &Segment) -> bool
     }
 }
 
-// The size of the side number of `p`.
-fn distance(s: &Segment, p: &Point) -> u64
-    ensures distance { result ≡ unsigned_abs (side_number s.now p.now) }
+// The greater of the sizes of the side numbers of the ends of `p`.
+fn margin_of(o: &Segment, p: &Segment) -> u64
+    ensures margin { result ≡ max (unsigned_abs (side_number o.now p.now.a)) (unsigned_abs (side_number o.now p.now.b)) }
     ensures below_2_57 { result < 2 ^ 57 }
 {
-    cross_of(s, p).unsigned_abs() as u64
+    let lesser = cross_of(o, &p.a()).unsigned_abs();
+    let greater = cross_of(o, &p.b()).unsigned_abs();
+    lesser.max(greater) as u64
 }
 
 // Whether the greater end of `p` isn't farther to the right of `o` than the lesser.

@@ -15,27 +15,33 @@ pub(crate) fn least_above(c: u64, d: u64, n: u64) -> Fraction
     requires some { (0 < n) × (n < 2 ^ 30) }
     ensures { IsLeastAbove c d n result.p result.q }
 {
-    let mut low_p: u64 = 0;
-    let mut low_q: u64 = 1;
-    let mut high_p: u64 = 1;
-    let mut high_q: u64 = 1;
+    let mut low = Fraction { p: 0, q: 1 };
+    let mut high = Fraction { p: 1, q: 1 };
     let mut under = c;
     let mut over = d - c;
-    while over > 0 && low_q + high_q <= n {
+    while over > 0 && low.q + high.q <= n {
         if under <= over {
-            let k = (over / under).min((n - high_q) / low_q);
-            high_p += k * low_p;
-            high_q += k * low_q;
+            let k = (over / under).min((n - high.q) / low.q);
+            high = moved(high, k, low);
             over -= k * under;
         } else {
-            let k = ((under - 1) / over).min((n - low_q) / high_q);
-            low_p += k * high_p;
-            low_q += k * high_q;
+            let k = ((under - 1) / over).min((n - low.q) / high.q);
+            low = moved(low, k, high);
             under -= k * over;
         }
     }
+    high
+}
+
+/// The fraction that lies k times `by` past `from`, its numerator and its denominator each.
+pub(crate) fn moved(from: Fraction, k: u64, by: Fraction) -> Fraction
+    requires p_below { from.p + k * by.p < 2 ^ 57 }
+    requires q_below { from.q + k * by.q < 2 ^ 57 }
+    ensures p { result.p ≡ from.p + k * by.p }
+    ensures q { result.q ≡ from.q + k * by.q }
+{
     Fraction {
-        p: high_p,
-        q: high_q,
+        p: from.p + k * by.p,
+        q: from.q + k * by.q,
     }
 }

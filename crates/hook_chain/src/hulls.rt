@@ -54,10 +54,10 @@ fn path(alloc: Global, t: &Segment, x: Point) -> Result<Vec<Point>, NoMemory>
 {
     let (a, b) = (t.a(), t.b());
     if x == a || x == b {
-        return Ok(vec![in alloc; a, b]?);
+        return Ok(Vec::from_slice(alloc, &[a, b])?);
     }
     if cross_of(t, &x) == 0 {
-        return Ok(vec![in alloc; a, x, b]?);
+        return Ok(Vec::from_slice(alloc, &[a, x, b])?);
     }
     bent(alloc, t, x)
 }

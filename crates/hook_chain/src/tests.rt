@@ -7,13 +7,13 @@ use std::alloc::Global;
 use std::process::Abort;
 
 // The point with these coordinates.
-pub(crate) fn point(rt: &impl Abort, x: u64, y: u64) -> Point {
-    Point::new(x, y).expect(rt, "a point of the grid")
+fn point(x: u64, y: u64) -> Option<Point> {
+    Point::new(x, y).ok()
 }
 
 // The segment between two points.
-fn segment(rt: &impl Abort, a: [u64; 2], b: [u64; 2]) -> Segment {
-    Segment::new(point(rt, a[0], a[1]), point(rt, b[0], b[1])).expect(rt, "two different ends")
+fn segment([k, l, m, n]: [u64; 4]) -> Option<Segment> {
+    Segment::new(point(k, l)?, point(m, n)?)
 }
 
 // Whether the points have these coordinates, two for each.
@@ -29,19 +29,20 @@ fn are_at(points: &[Point], coordinates: &[u64]) -> bool {
 
 // Whether the hook of the segment from (k, l) to (m, n) at (x, y) has the points of the path; where there are
 // none, whether (x, y) isn't near.
-fn is_hook(rt: &impl Abort, alloc: Global, row: &[u64]) -> bool {
+fn is_hook(alloc: Global, row: &[u64]) -> Option<bool> {
     let [k, l, m, n, x, y, path @ ..] = row else {
-        return false;
+        return None;
     };
-    match hook(alloc, &segment(rt, [*k, *l], [*m, *n]), point(rt, *x, *y)) {
-        Ok(chain) => are_at(chain.points(), path),
-        Err(error) => error == HookError::NotNear && path.is_empty(),
+    let t = segment([*k, *l, *m, *n])?;
+    match hook(alloc, &t, point(*x, *y)?) {
+        Ok(chain) => Some(are_at(chain.points(), path)),
+        Err(error) => Some(error == HookError::NotNear && path.is_empty()),
     }
 }
 
 fn compare(rt: &impl Abort, alloc: Global, rows: &[&[u64]]) {
     for row in rows {
-        assert!(rt; is_hook(rt, alloc, row), "{row:?}");
+        assert!(rt; is_hook(alloc, row) == Some(true), "{row:?}");
     }
 }
 
@@ -115,13 +116,21 @@ fn hooks_lead_round_grid_points(rt: HostRuntime) {
     one_hook();
 }
 
-// Whether `close` says so of each piece. A row has the ends of the original, and those of the piece.
-fn all_are(rt: &impl Abort, is_close: bool, rows: &[[u64; 8]]) {
+// Whether the piece is close to the original, in whose box it is. A row has the ends of the original, and
+// those of the piece.
+fn is_close([k, l, m, n, x, y, u, v]: [u64; 8]) -> Option<bool> {
+    let o = segment([k, l, m, n])?;
+    let p = segment([x, y, u, v])?;
+    if in_box(&o, &p.a()) && in_box(&o, &p.b()) {
+        Some(close(&o, &p))
+    } else {
+        None
+    }
+}
+
+fn all_are(rt: &impl Abort, want: bool, rows: &[[u64; 8]]) {
     for row in rows {
-        let [k, l, m, n, x, y, u, v] = *row;
-        let (o, p) = (segment(rt, [k, l], [m, n]), segment(rt, [x, y], [u, v]));
-        let is_within = in_box(&o, &p.a()) && in_box(&o, &p.b());
-        assert!(rt; is_within && close(&o, &p) == is_close, "{row:?}");
+        assert!(rt; is_close(*row) == Some(want), "{row:?}");
     }
 }
 

@@ -5,31 +5,35 @@ use grid_base::{Point, Segment};
 use std::process::Abort;
 
 // The point with these coordinates.
-fn point(rt: &impl Abort, x: u32, y: u32) -> Point {
-    Point::new(u64::from(x), u64::from(y)).expect(rt, "a point of the grid")
+fn point(x: u32, y: u32) -> Option<Point> {
+    Point::new(u64::from(x), u64::from(y)).ok()
 }
 
 // The segment between two points.
-fn segment(rt: &impl Abort, [k, l, m, n]: [u32; 4]) -> Segment {
-    Segment::new(point(rt, k, l), point(rt, m, n)).expect(rt, "two different ends")
+fn segment([k, l, m, n]: [u32; 4]) -> Option<Segment> {
+    Segment::new(point(k, l)?, point(m, n)?)
 }
 
 // Whether the least and the greatest near point are these. A row has the ends of the segment, the
 // column, and the two rows.
+fn has_pair([k, l, m, n, column, least, greatest]: [u32; 7]) -> Option<bool> {
+    Some(column_pair(&segment([k, l, m, n])?, column) == Some((least, greatest)))
+}
+
 fn all_have(rt: &impl Abort, rows: &[[u32; 7]]) {
     for row in rows {
-        let [k, l, m, n, column, least, greatest] = *row;
-        let found = column_pair(&segment(rt, [k, l, m, n]), column);
-        assert!(rt; found == Some((least, greatest)), "{row:?}");
+        assert!(rt; has_pair(*row) == Some(true), "{row:?}");
     }
 }
 
 // Whether the column is outside. A row has the ends of the segment, and the column.
+fn is_outside([k, l, m, n, column]: [u32; 5]) -> Option<bool> {
+    Some(column_pair(&segment([k, l, m, n])?, column).is_none())
+}
+
 fn all_are_outside(rt: &impl Abort, rows: &[[u32; 5]]) {
     for row in rows {
-        let [k, l, m, n, column] = *row;
-        let found = column_pair(&segment(rt, [k, l, m, n]), column);
-        assert!(rt; found.is_none(), "{row:?}");
+        assert!(rt; is_outside(*row) == Some(true), "{row:?}");
     }
 }
 
@@ -72,17 +76,17 @@ fn a_column_has_the_points_next_to_the_segment(rt: HostRuntime) {
     all_are_outside(&rt, &[[4, 2, 9, 3, 3], [4, 2, 9, 3, 10], [2, 11, 5, 1, 12]]);
 }
 
-// Whether the points are near and in the envelope as said. A row has the ends of the segment, and the
-// point.
+// Whether the point is near, and whether it is in the envelope. A row has the ends of the segment, and
+// the point.
+fn lies([k, l, m, n, x, y]: [u32; 6]) -> Option<(bool, bool)> {
+    let s = segment([k, l, m, n])?;
+    let p = point(x, y)?;
+    Some((near(&s, &p), in_envelope(&s, &p)))
+}
+
 fn all_lie(rt: &impl Abort, is_near: bool, is_within: bool, rows: &[[u32; 6]]) {
     for row in rows {
-        let [k, l, m, n, x, y] = *row;
-        let s = segment(rt, [k, l, m, n]);
-        let p = point(rt, x, y);
-        assert!(rt;
-            near(&s, &p) == is_near && in_envelope(&s, &p) == is_within,
-            "{row:?}"
-        );
+        assert!(rt; lies(*row) == Some((is_near, is_within)), "{row:?}");
     }
 }
 

@@ -4,7 +4,7 @@
 ghost use Rattle.std.specs.Prelude.{◌≡◌, ◌+◌, ◌*◌, ◌^◌, ◌<◌, ◌≤◌, ◌↔◌, IsTrue};
 ghost use Rattle.hook_chain.specs.Climbs.{Climbs, AllSteeperClimb, AllSteeperWithinClimb};
 
-use crate::fraction::Fraction;
+use crate::fraction::{Fraction, moved};
 
 /// Whether each way steeper than `piece` climbs against `line` by more than `margin`.
 pub(crate) fn all_climb(line: Fraction, margin: u64, piece: Fraction) -> bool
@@ -35,19 +35,6 @@ pub(crate) fn all_climb(line: Fraction, margin: u64, piece: Fraction) -> bool
         }
     }
     true
-}
-
-// The fraction that lies k times `by` past `from`, its numerator and its denominator each.
-fn moved(from: Fraction, k: u64, by: Fraction) -> Fraction
-    requires p_below { from.p + k * by.p < 2 ^ 57 }
-    requires q_below { from.q + k * by.q < 2 ^ 57 }
-    ensures p { result.p ≡ from.p + k * by.p }
-    ensures q { result.q ≡ from.q + k * by.q }
-{
-    Fraction {
-        p: from.p + k * by.p,
-        q: from.q + k * by.q,
-    }
 }
 
 // Whether the way climbs against `line`.

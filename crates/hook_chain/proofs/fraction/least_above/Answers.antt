@@ -2,14 +2,42 @@ use Rattle.std.proofs.Common.{arith}
 use Rattle.hook_chain.proofs.Farey.{high_step, low_step, found, found_exact}
 use Rattle.hook_chain.proofs.fraction.least_above.Goals as goal
 
+-- the new upper fraction has a small denominator
+pub moved-high-requires-clause-p_below : goal.moved-high-requires-clause-p_below
+moved-high-requires-clause-p_below c =
+    let next = high_step _ _ _ _ _ _ _ _ _ _ c.loop-over.invariant c.min-k.ensures in
+    omega (arith, next.high_within, next.high_proper)
+
+pub moved-high-requires-clause-q_below : goal.moved-high-requires-clause-q_below
+moved-high-requires-clause-q_below c =
+    let next = high_step _ _ _ _ _ _ _ _ _ _ c.loop-over.invariant c.min-k.ensures in omega (arith, next.high_within)
+
+-- and so has the new lower one
+pub moved-low-requires-clause-p_below : goal.moved-low-requires-clause-p_below
+moved-low-requires-clause-p_below c =
+    let next = low_step _ _ _ _ _ _ _ _ _ _ c.loop-over.invariant c.min-k-else-under-over.ensures in
+    omega (arith, next.low_within, next.low_proper)
+
+pub moved-low-requires-clause-q_below : goal.moved-low-requires-clause-q_below
+moved-low-requires-clause-q_below c =
+    let next = low_step _ _ _ _ _ _ _ _ _ _ c.loop-over.invariant c.min-k-else-under-over.ensures in
+    omega (arith, next.low_within)
+
+-- the upper one goes down by as many lower ones as fit
 pub loop-over-preserved-then-under-over : goal.loop-over-preserved-then-under-over
-loop-over-preserved-then-under-over c = high_step _ _ _ _ _ _ _ _ _ _ c.loop-over.invariant c.min-k.ensures
+loop-over-preserved-then-under-over c =
+    rw (c.moved-high.ensures.p, c.moved-high.ensures.q) (high_step _ _ _ _ _ _ _ _ _ _ c.loop-over.invariant c.min-k.ensures)
 
+-- and the lower one up by as many upper ones
 pub loop-over-preserved : goal.loop-over-preserved
-loop-over-preserved c = low_step _ _ _ _ _ _ _ _ _ _ c.loop-over.invariant c.min-k-else-under-over.ensures
+loop-over-preserved c =
+    rw (c.moved-low.ensures.p, c.moved-low.ensures.q)
+    (low_step _ _ _ _ _ _ _ _ _ _ c.loop-over.invariant c.min-k-else-under-over.ensures)
 
-pub returns-else-low_q-high_q : goal.returns-else-low_q-high_q
-returns-else-low_q-high_q c = found _ _ _ _ _ _ _ _ _ c.loop-over.invariant c.if-low_q-high_q.false
+-- nothing between the two has a denominator of at most n
+pub returns-else-low-high : goal.returns-else-low-high
+returns-else-low-high c = found _ _ _ _ _ _ _ _ _ c.loop-over.invariant c.if-low-high.false
 
+-- or the upper one is c / d itself
 pub returns-after-loop-over : goal.returns-after-loop-over
 returns-after-loop-over c = found_exact _ _ _ _ _ _ _ _ _ (omega arith) c.loop-over.invariant (omega arith)
