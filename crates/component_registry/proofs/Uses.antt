@@ -1,5 +1,6 @@
 -- This file shows how often points are used, and what a change of one piece does to that.
-use Rattle.std.proofs.Common.{◌≡◌, ◌≢◌, ◌⊎◌, ◌↔◌, ℕ, ◌+◌, ◌<◌, ◌≤◌, ◌||◌, Bool, true, false, true≢false, cond, Ordering, Less, Equal, Greater}
+use Rattle.std.proofs.Common.{◌≡◌, ◌≢◌, ◌⊎◌, ◌↔◌, ℕ, ◌+◌, ◌<◌, ◌≤◌, ◌||◌, Bool, true, false, true≢false, cond}
+use Rattle.std.proofs.Common.{Ordering, Less, Equal, Greater}
 use Rattle.std.proofs.Common.{refl, sym, ap, ◌∙◌, subst, inl, inr, ⊎_elim, zero-add, arith}
 use Rattle.std.proofs.Common.{List, [], ◌∷◌, length, sum_by, Option, Some, None, is_some}
 use Rattle.std.specs.List.{list_any}

@@ -31,7 +31,8 @@ module _ {S : Type 0} where
   abbrev pub SameOtherUses : Counts S → Counts S → GridPoint → Type 0
   SameOtherUses old new p = (q : GridPoint) → q ≢ p → found_in new q ≡ found_in old q
 
--- the registry is sound, the counts are its own, none is 0, and none is greater than the number of owners ever added
+-- The registry is sound, and the counts are its own. None is 0, and none is greater than the number of
+-- owners that were ever added.
 pub record IsCounted {S : Type 0} (r : Holdings) (ends : Counts S) (added : ℕ) : Type 0 where
   pub sound : IsSound r
   pub counted : (p : GridPoint) → uses_in ends p ≡ uses_of r p

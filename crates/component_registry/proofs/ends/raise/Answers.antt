@@ -18,8 +18,11 @@ returns-in-Some-clause-no_zero c =
 -- a first count was put
 pub returns-clause-others : goal.returns-clause-others
 returns-clause-others c =
-    rw (← c.get_mut.follows.holds-at-none) (others_found c.get_mut.follows.lender-at-none c.insert.new.self c.args.p _ c.in-Ok.ensures.updates)
+    let same = c.get_mut.follows.lender-at-none in
+    rw (← c.get_mut.follows.holds-at-none) (others_found same c.insert.new.self c.args.p _ c.in-Ok.ensures.updates)
 
 pub returns-clause-no_zero : goal.returns-clause-no_zero
 returns-clause-no_zero c =
-    rw (← c.get_mut.follows.holds-at-none) (no_zero_put c.get_mut.follows.lender-at-none c.insert.new.self c.args.p 1 c.in-Ok.ensures.updates (omega arith))
+    let same = c.get_mut.follows.lender-at-none in
+    let put = no_zero_put same c.insert.new.self c.args.p 1 c.in-Ok.ensures.updates (omega arith) in
+    rw (← c.get_mut.follows.holds-at-none) put

@@ -3,7 +3,8 @@ use Rattle.component_registry.proofs.OwnerLists.{found_place, free_place, absent
 use Rattle.component_registry.proofs.holding.Holding.drop_owner.Goals as goal
 
 -- the search found the owner's place
-found : (c : goal.After-remove) → (c.in-Ok.place < length c.self.inside.owners.items) × (get_or c.self.inside.owners.items c.in-Ok.place 0 ≡ c.args.id)
+found : (c : goal.After-remove)
+    → (c.in-Ok.place < length c.self.inside.owners.items) × (get_or c.self.inside.owners.items c.in-Ok.place 0 ≡ c.args.id)
 found c =
     let answer = rw c.as_slice.ensures at c.in-Ok.ensures.position in
     found_place c.self.inside.owners.items c.args.id c.in-Ok.place c.self.invariant answer

@@ -21,6 +21,7 @@ invariant_of-self-2 c =
     let more = c.in_ok-key.ensures.ok.uses in record {
       sound = c.add.ensures.sound;
       counted = λ p. omega (arith, c.count_up.ensures.more p, same p, c.self.invariant.counted p, more p);
-      no_zero = c.count_up.ensures.no_zero (no_zero_kept c.self.inside.ends c.make_room.new.ends c.make_room.ensures.same c.self.invariant.no_zero);
+      no_zero = c.count_up.ensures.no_zero
+          (no_zero_kept c.self.inside.ends c.make_room.new.ends c.make_room.ensures.same c.self.invariant.no_zero);
       bounded = λ p. omega (arith, c.self.invariant.bounded p, more p, times_end-le_1 p c.args.piece);
     }
