@@ -43,15 +43,16 @@ mod tests {
     // The numbers are those of the program's manual.
     #[test]
     fn each_status_has_its_number(rt: HostRuntime) {
-        for (status, number) in [
+        let cases = [
             (Status::Done, 0),
             (Status::Usage, 1),
             (Status::SourceFault, 2),
             (Status::SinkFault, 3),
             (Status::NoMemory, 6),
             (Status::InputLimit, 7),
-        ] {
-            assert_eq!(rt; status.number(), number, "at {status:?}");
+        ];
+        for (status, number) in cases.iter() {
+            assert_eq!(rt; status.number(), *number, "at {status:?}");
         }
     }
 }

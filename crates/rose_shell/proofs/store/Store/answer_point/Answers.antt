@@ -26,7 +26,7 @@ returns-in-Ok c =
     let next = ap (λ (n : ℕ). n + 1) c.changes-number.ensures.changes in
     let marks = AcceptsPoint c.in-Ok.p in
     let P : List ℕ → SpendableState → Type 0 = λ reply old.
-        Unspent (AnswersPoint c.args.place) old reply c.add_point-change.new.self in
+    Unspent (AnswersPoint c.args.place) old reply c.add_point-change.new.self in
     record {
       answer = IfOk-weaker c.answer_change.result _ _
           (λ reply is. subst (P reply) c.self.view_is

@@ -28,7 +28,7 @@ pub returns-in-Ok : goal.returns-in-Ok
 returns-in-Ok c =
     let next = ap (λ (n : ℕ). n + 1) c.changes-number.ensures.changes in
     let P : List ℕ → SpendableState → Type 0 = λ reply old.
-        Unspent (AnswersSegment c.args.from c.args.to) old reply c.add_segment-change.new.self in
+    Unspent (AnswersSegment c.args.from c.args.to) old reply c.add_segment-change.new.self in
     record {
       answer = IfOk-weaker c.answer_change.result _ _
           (λ reply is. subst (P reply) c.self.view_is
