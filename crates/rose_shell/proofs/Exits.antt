@@ -17,6 +17,7 @@ use Rattle.rose_shell.specs.Loop.{Went, Stopped, status_at}
 use Rattle.rose_shell.proofs.Turns.{given_in_part_behind}
 use Rattle.rose_shell.proofs.Cuts.{lines_from-append}
 use Rattle.rose_shell.proofs.Runs.{run_then, ends_then, replies_then, crash_then}
+use Rattle.rose_shell.proofs.Treatments.{went_empty}
 use Rattle.rose_shell.proofs.Takes.{Ahead, Keeping, took_some, took_none, took_empty, asked_then, left_then, lines_then}
 
 -- which halt a status tells of
@@ -213,7 +214,14 @@ module _ {S : Type 0} {answers : Rule S} {stands : Stands S} where
       ended (took_empty keeping.ahead call none) (input_ended call none wide) (omega (arith, keeping.spent))
       (went (part_from [] keeping.bytes) keeping.part)
 
-  -- or halts the run
+  -- nothing had come of a line
+  pub served_whole : {old mid between : View} {start before : S} {kept buf : List ℕ} {n room budget : ℕ}
+      → Keeping answers stands old mid start before kept room budget → Took mid between buf (Ok n) → n ≡ 0 → 0 < length buf
+      → length kept ≡ 0 → Served answers stands old between start before budget Done
+  served_whole keeping call none wide empty =
+      served_all keeping call none wide (λ line is. went_empty line empty is (took_empty keeping.ahead call none).stand)
+
+  -- the line of which something had come halts the run
   pub served_last : {old mid between new : View} {start before end : S} {kept buf : List ℕ} {n room budget : ℕ} {halt : Halt}
       {status : Status} → status ≡ status_at halt → Keeping answers stands old mid start before kept room budget
       → Took mid between buf (Ok n) → n ≡ 0 → 0 < length buf

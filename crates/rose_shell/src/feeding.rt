@@ -5,7 +5,7 @@ ghost use Rattle.std.specs.Prelude.{◌≡◌, ◌≢◌, ◌<◌, ℕ, List, []
 ghost use Rattle.std.specs.Prelude.{slice_index, Err, MatchOption, IfErr, OnOk, IsErrOf};
 ghost use Rattle.outside_world.specs.Counts.{Rose};
 ghost use Rattle.outside_world.specs.GoesOn.{GoesOn};
-ghost use Rattle.rose_shell.specs.Lines.{lines_from, part_from, last_line, IsKept};
+ghost use Rattle.rose_shell.specs.Lines.{lines_from, part_from, IsKept};
 ghost use Rattle.rose_shell.specs.Desk.{AllStand};
 ghost use Rattle.rose_shell.specs.Loop.{Went, Stopped};
 
@@ -23,32 +23,6 @@ pub(crate) enum Halt {
     Sink,
     /// Memory ran out.
     NoMemory,
-}
-
-/// Answers what came of a line before the input ended, where anything came.
-pub(crate) fn answer_last<W: Outside, D: Desk<W>>(
-    alloc: Global,
-    desk: &mut D,
-    world: &mut W,
-    kept: &[u8],
-) -> Result<(), Halt>
-    requires ready { D.ready desk.old }
-    requires stand { W.tells world.old → AllStand D.stands (W.view world.old) desk.old }
-    ensures went { OnOk result ((line : List ℕ) → IsKept kept.now line → W.tells world.new
-        → Went D.answers D.stands (W.view world.old) (W.view world.new) desk.old desk.new
-        (last_line line)) }
-    ensures stopped { IfErr result (λ halt. (line : List ℕ) → IsKept kept.now line → W.tells world.new
-        → Stopped D.answers D.stands (W.view world.old) (W.view world.new) desk.old desk.new
-        (last_line line) halt) }
-    ensures sink_fault { IsErrOf result Halt.Sink
-        → Rose (W.sink_faults world.old) (W.sink_faults world.new) }
-    ensures ready { result ≢ Err Halt.NoMemory → D.ready desk.new }
-    ensures goes_on { GoesOn ⟦<W as Outside>⟧ world.old world.new }
-{
-    if kept.is_empty() {
-        return Ok(());
-    }
-    answer_kept(alloc, desk, world, kept)
 }
 
 /// Reads a chunk of the input, and answers each line that ends in it.
@@ -146,7 +120,7 @@ fn keep(kept: &mut Vec<u8>, bytes: &[u8]) -> Result<(), NoMemory>
 }
 
 /// Answers the line of which this was kept: refuses it unread where it is too long.
-fn answer_kept<W: Outside, D: Desk<W>>(
+pub(crate) fn answer_kept<W: Outside, D: Desk<W>>(
     alloc: Global,
     desk: &mut D,
     world: &mut W,

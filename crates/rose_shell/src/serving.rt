@@ -8,7 +8,7 @@ ghost use Rattle.rose_shell.specs.Session.{Served};
 ghost use Rattle.rose_shell.specs.Loop.{status_at};
 
 use crate::desk::Desk;
-use crate::feeding::{Halt, answer_last, feed};
+use crate::feeding::{Halt, answer_kept, feed};
 use crate::status::Status;
 use outside_world::{Failed, Outside};
 use std::alloc::Global;
@@ -44,7 +44,10 @@ pub(crate) fn serve_by_chunks<W: Outside, D: Desk<W>>(
             Err(Failed) => return Status::SourceFault,
         };
         if n == 0 {
-            match answer_last(alloc, desk, world, &kept) {
+            if kept.is_empty() {
+                return Status::Done;
+            }
+            match answer_kept(alloc, desk, world, &kept) {
                 Ok(()) => return Status::Done,
                 Err(halt) => return status_of(halt),
             }

@@ -1,4 +1,4 @@
-use Rattle.std.proofs.Common.{[], ◌∷◌, ◌++◌, ◌+◌, take, drop, refl, arith}
+use Rattle.std.proofs.Common.{[], ◌∷◌, ◌++◌, ◌+◌, take, drop, refl}
 use Rattle.std.proofs.lemmas.List.{take_rest}
 use Rattle.outside_world.proofs.GoingOn.{goes_on_none, goes_on_then}
 use Rattle.rose_shell.specs.Lines.{longest_line, part_from}

@@ -1,7 +1,8 @@
-use Rattle.std.proofs.Common.{arith, ◌∙◌}
+use Rattle.std.proofs.Common.{◌≡◌, ◌<◌, length, arith, rules, ◌∙◌}
 use Rattle.outside_world.proofs.GoingOn.{goes_on_none, goes_on_then}
 use Rattle.rose_shell.proofs.Takes.{keeping_none, keeping_more}
-use Rattle.rose_shell.proofs.Exits.{served_source, served_limit, served_halt, served_all, served_last}
+use Rattle.rose_shell.proofs.Exits.{served_source, served_limit, served_halt, served_whole, served_all, served_last}
+use Rattle.rose_shell.proofs.Treatments.{went_last, stopped_last}
 use Rattle.rose_shell.proofs.serving.serve_by_chunks.Goals as goal
 
 -- nothing was taken, and all of the budget is left
@@ -38,24 +39,33 @@ returns-then-room-eq0-clause-told g c = λ t.
     let took = c.in-Ok.ensures in
     served_limit (c.loop-n.invariant.keeping (took.goes_on.tells t)) (took.told t) c.if-room-eq0.true (omega arith) took.within
 
--- the input has ended, and what had come of a line is answered
-pub returns-in-Ok-answer_last-clause-told : goal.returns-in-Ok-answer_last-clause-told
-returns-in-Ok-answer_last-clause-told g c = λ t.
+-- the input has ended, and nothing had come of a line
+pub returns-then-is_empty-clause-told : goal.returns-then-is_empty-clause-told
+returns-then-is_empty-clause-told g c = λ t.
     let took = c.in-Ok.ensures in
-    let ens = c.in-Ok-answer_last.ensures in
+    let empty : length c.loop-n.kept.items ≡ 0 = search rules in
+    served_whole (c.loop-n.invariant.keeping (took.goes_on.tells t)) (took.told t) c.if-n-eq0.true (omega arith) empty
+
+-- or something had, and it is answered
+pub returns-in-Ok-answer_kept-clause-told : goal.returns-in-Ok-answer_kept-clause-told
+returns-in-Ok-answer_kept-clause-told g c = λ t.
+    let took = c.in-Ok.ensures in
+    let ens = c.in-Ok-answer_kept.ensures in
     let then = ens.goes_on.tells t in
+    let some : 0 < length c.loop-n.kept.items = search rules in
     served_all (c.loop-n.invariant.keeping (took.goes_on.tells then)) (took.told then) c.if-n-eq0.true (omega arith)
-    (λ line is. ens.went line (c.deref.ensures.value ∙ is) t)
+    (λ line is. went_last line some is (ens.went line (c.deref.ensures.value ∙ is) t))
 
 -- or halts the run
-pub returns-in-Err-answer_last-clause-told : goal.returns-in-Err-answer_last-clause-told
-returns-in-Err-answer_last-clause-told g c = λ t.
+pub returns-in-Err-answer_kept-clause-told : goal.returns-in-Err-answer_kept-clause-told
+returns-in-Err-answer_kept-clause-told g c = λ t.
     let took = c.in-Ok.ensures in
-    let ens = c.in-Err-answer_last.ensures in
+    let ens = c.in-Err-answer_kept.ensures in
     let then = ens.goes_on.tells t in
+    let some : 0 < length c.loop-n.kept.items = search rules in
     served_last c.status_of.ensures.status (c.loop-n.invariant.keeping (took.goes_on.tells then)) (took.told then)
     c.if-n-eq0.true (omega arith)
-    (λ line is. ens.stopped line (c.deref.ensures.value ∙ is) t)
+    (λ line is. stopped_last line some is (ens.stopped line (c.deref.ensures.value ∙ is) t))
 
 -- a line among those of this take halts the run
 pub returns-in-Err-feed-clause-told : goal.returns-in-Err-feed-clause-told
