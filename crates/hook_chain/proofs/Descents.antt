@@ -2,7 +2,7 @@
 use Rattle.std.proofs.Common.{◌≡◌, ℕ, ◌+◌, ◌-◌, ◌*◌, ◌/◌, ◌<◌, ◌≤◌, ap, arith}
 use Rattle.grid_base.proofs.Turns.{times, times_le}
 use Rattle.hook_chain.specs.Climbs.{Climbs, AllSteeperClimb, AllSteeperWithinClimb}
-use Rattle.hook_chain.proofs.Farey.{product_of_quotient}
+use Rattle.hook_chain.proofs.Farey.{product_of_quotient, quotient_some}
 use Rattle.hook_chain.proofs.Climbs.{AllFromClimb, next_climb, all_climb_by}
 
 -- the piece r / q is `over` times the lower way k / l and `under` times the upper way p / h, which are neighbours
@@ -18,12 +18,6 @@ pub record IsSplit (q r k l p h under over : ℕ) : Type 0 where
 pub record IsDescent (dx dy margin q r k l p h under over : ℕ) : Type 0 where
   pub split : IsSplit q r k l p h under over
   pub all : AllFromClimb dx dy margin h p
-
--- a quotient of at least the divisor isn't 0
-quotient_some : (m n : ℕ) → 0 < m → m ≤ n → 0 < n / m
-quotient_some m n some below =
-    let none : n / m ≡ 0 → ⊥ = λ same. let product = ap (λ (k : ℕ). m * k) same in omega arith in
-    omega (arith, none)
 
 -- ---- one turn
 -- the upper way goes down by as many lower ways as fit

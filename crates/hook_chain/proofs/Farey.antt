@@ -58,6 +58,24 @@ pub record IsSearch (c d n k l p q under over : ℕ) : Type 0 where
 pub product_of_quotient : (m a b : ℕ) → m ≤ a / b → m * b ≤ a
 product_of_quotient m a b h = let p = times_le m (a / b) 0 b h (omega arith) in omega arith
 
+-- a quotient of at least the divisor isn't 0
+pub quotient_some : (m n : ℕ) → 0 < m → m ≤ n → 0 < n / m
+quotient_some m n some below =
+    let none : n / m ≡ 0 → ⊥ = λ same. let product = ap (λ (k : ℕ). m * k) same in omega arith in
+    omega (arith, none)
+
+-- so as many whole steps as fit come to some
+pub taken_some : (a b : ℕ) → 0 < b → b ≤ a → 0 < a / b * b
+taken_some a b some fits = let product = times 0 (a / b) 0 b (quotient_some b a some fits) some in omega arith
+
+-- steps that fit in both are some
+pub steps_some : (a b e f m : ℕ) → 0 < b → b ≤ a → 0 < f → f ≤ e → m ≡ min (a / b) (e / f) → 0 < m * f
+steps_some a b e f m some_b first some_f second is =
+    let one = quotient_some b a some_b first in
+    let other = quotient_some f e some_f second in
+    let product = times 0 m 0 f (omega arith) some_f in
+    omega arith
+
 -- the upper one goes down by m times the lower one
 pub high_step : (c d n k l p q under over m : ℕ) → IsSearch c d n k l p q under over → m ≡ min (over / under) ((n - q) / l)
     → IsSearch c d n k l (p + m * k) (q + m * l) under (over - m * under)

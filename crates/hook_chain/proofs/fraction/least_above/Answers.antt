@@ -1,5 +1,5 @@
-use Rattle.std.proofs.Common.{arith}
-use Rattle.hook_chain.proofs.Farey.{high_step, low_step, found, found_exact}
+use Rattle.std.proofs.Common.{◌-◌, arith}
+use Rattle.hook_chain.proofs.Farey.{product_of_quotient, steps_some, high_step, low_step, found, found_exact}
 use Rattle.hook_chain.proofs.fraction.least_above.Goals as goal
 
 -- the new upper fraction has a small denominator
@@ -41,3 +41,22 @@ returns-else-low-high c = found _ _ _ _ _ _ _ _ _ c.loop-over.invariant c.if-low
 -- or the upper one is c / d itself
 pub returns-after-loop-over : goal.returns-after-loop-over
 returns-after-loop-over c = found_exact _ _ _ _ _ _ _ _ _ (omega arith) c.loop-over.invariant (omega arith)
+
+-- the steps that are taken away fit
+pub overflow_mul-over : goal.overflow_mul-over
+overflow_mul-over c =
+    let fits = product_of_quotient c.min-k.result c.loop-over.over c.loop-over.under (omega (arith, c.min-k.ensures)) in
+    omega (arith, fits, c.loop-over.auto.over-fits)
+
+pub overflow_mul-under : goal.overflow_mul-under
+overflow_mul-under c =
+    let fits = product_of_quotient c.min-k-else-under-over.result (c.loop-over.under - 1) c.loop-over.over
+    (omega (arith, c.min-k-else-under-over.ensures)) in
+    omega (arith, fits, c.loop-over.auto.under-fits)
+
+-- at least one step fits, so the lower denominator grows
+pub loop-over-smaller : goal.loop-over-smaller
+loop-over-smaller c =
+    let more = steps_some _ _ _ _ _ c.loop-over-test.true (omega (arith, c.if-under-over.false)) c.loop-over.invariant.high_some
+    (omega (arith, c.if-low-high.true)) c.min-k-else-under-over.ensures in
+    omega (arith, more, c.moved-low.ensures.q, c.if-low-high.true)

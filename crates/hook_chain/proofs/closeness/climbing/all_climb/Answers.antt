@@ -1,4 +1,6 @@
-use Rattle.std.proofs.Common.{refl, arith}
+use Rattle.std.proofs.Common.{◌-◌, refl, arith}
+use Rattle.std.proofs.Math.Nat.{div-mul-le_self}
+use Rattle.hook_chain.proofs.Farey.{taken_some}
 use Rattle.hook_chain.proofs.Descents.{high_moved, high_descends, low_ascends, high_within, low_within, high_climbs, descent_ends}
 use Rattle.hook_chain.proofs.closeness.climbing.all_climb.Goals as goal
 
@@ -49,3 +51,35 @@ loop-under-preserved c =
 pub returns-clause-steeper : goal.returns-clause-steeper
 returns-clause-steeper c _ b a steep =
     descent_ends _ _ _ _ _ _ _ _ _ _ _ c.loop-under.invariant (omega arith) c.requires.forth b a steep
+
+-- the steps that are taken away fit
+pub overflow_mul-over : goal.overflow_mul-over
+overflow_mul-over c =
+    let fits = div-mul-le_self (c.loop-under.over - 1) c.loop-under.under in
+    omega (arith, fits, c.loop-under.auto.over-fits)
+
+pub overflow_sub-over : goal.overflow_sub-over
+overflow_sub-over c =
+    let fits = div-mul-le_self (c.loop-under.over - 1) c.loop-under.under in omega (arith, fits)
+
+pub overflow_mul-under : goal.overflow_mul-under
+overflow_mul-under c =
+    let fits = div-mul-le_self (c.loop-under.under - 1) c.loop-under.over in
+    omega (arith, fits, c.loop-under.auto.under-fits)
+
+pub overflow_sub-under : goal.overflow_sub-under
+overflow_sub-under c =
+    let fits = div-mul-le_self (c.loop-under.under - 1) c.loop-under.over in omega (arith, fits)
+
+-- and they are some
+pub loop-under-smaller : goal.loop-under-smaller
+loop-under-smaller c =
+    let more = taken_some (c.loop-under.under - 1) c.loop-under.over c.loop-under.invariant.split.over_some
+    (omega (arith, c.if-under-over.false, c.loop-under-test.true)) in
+    omega (arith, more, c.loop-under.invariant.split.under_some)
+
+pub loop-under-smaller-else-not-climbs : goal.loop-under-smaller-else-not-climbs
+loop-under-smaller-else-not-climbs c =
+    let more = taken_some (c.loop-under.over - 1) c.loop-under.under c.loop-under.invariant.split.under_some
+    (omega (arith, c.if-under-over.true)) in
+    omega (arith, more, c.loop-under.invariant.split.over_some)
