@@ -1,5 +1,6 @@
 -- Each link of a hook is close to the piece, and no grid point between the two is off the hook.
-use Rattle.std.proofs.Common.{◌≡◌, ◌≢◌, ◌⊎◌, ◌+◌, ◌≤◌, ◌*◌, ◌<◌, ℕ, ℤ, pos, ◌-ℤ◌, ◌*ℤ◌, ◌<ℤ◌, ◌≤ℤ◌, List, ◌∷◌, ◌++◌, refl, sym, ap, subst, ◌∙◌, arith}
+use Rattle.std.proofs.Common.{◌≡◌, ◌≢◌, ◌⊎◌, ◌+◌, ◌≤◌, ◌*◌, ◌<◌, ℕ, ℤ, pos, ◌-ℤ◌, ◌*ℤ◌, ◌<ℤ◌, ◌≤ℤ◌, List, ◌∷◌, ◌++◌, refl, sym, ap, subst}
+use Rattle.std.proofs.Common.{◌∙◌, arith}
 use Rattle.std.proofs.Common.{inl, inr}
 use Rattle.std.proofs.lemmas.Int.{ints}
 use borrow.Author.Differences.{up, down}
@@ -123,8 +124,8 @@ on_straight t x v w p on between = elim between.not_beyond [
 ]
 
 -- a point that is apart from a link, between it and t, is on its line
-on_bent : (s : Side) (t : GridSegment) (x v w p : GridPoint) → side t.a t.b x ≡ s → s ≢ On → IsApart t v w p → IsBetweenPieceAndHook t x v w p
-    → side v w p ≡ On
+on_bent : (s : Side) (t : GridSegment) (x v w p : GridPoint) → side t.a t.b x ≡ s → s ≢ On → IsApart t v w p
+    → IsBetweenPieceAndHook t x v w p → side v w p ≡ On
 on_bent s t x v w p is off apart between = elim between.not_beyond [
   | inl line ↦ line
   | inr other ↦ absurd (strictly_between s (other ∙ ap opposite is) (bend_not_below s t.a t.b p off (same_side between.not_behind)) off)

@@ -11,14 +11,15 @@ use Rattle.grid_base.specs.Sides.{On, side}
 use Rattle.grid_base.proofs.Ends.{columns_in_order}
 use Rattle.segment_envelope.specs.Near.{Near}
 use Rattle.hook_chain.specs.declared.charts.Chart.{Chart}
-use Rattle.hook_chain.specs.Chains.{AllLinks, Leads}
+use Rattle.hook_chain.specs.Chains.{AllLinks}
 use Rattle.hook_chain.specs.Hook.{Hook}
 use Rattle.hook_chain.specs.ValidChain.{IsMonotone}
 use Rattle.hook_chain.specs.Redrawing.{front}
 use Rattle.hook_chain.specs.Placing.{seen, IsSeen, IsWalkedTo, IsChartOf, turned}
 use Rattle.hook_chain.proofs.Axes.{Axis}
 use Rattle.hook_chain.proofs.TautPaths.{Frame, IsTaut}
-use Rattle.hook_chain.proofs.Paths.{backwards, reverse_is, rest_of, head_and_rest, front_pushed, front_and_last, links_map, links_both, links_join}
+use Rattle.hook_chain.proofs.Paths.{backwards, reverse_is, rest_of, head_and_rest, front_pushed, front_and_last, links_map, links_both}
+use Rattle.hook_chain.proofs.Paths.{links_join}
 use Rattle.hook_chain.proofs.Paths.{links_back, IsForthAlong}
 use Rattle.hook_chain.proofs.Directions.{Follows}
 use Rattle.hook_chain.proofs.BentPaths.{frame_of}

@@ -141,7 +141,8 @@ bent_by_parts t axis x to from follows off after before first first_chord second
     let s = side t.a t.b x in
     let sound = frame_sound axis s t.a t.b in
     let apex : IsApex f x = record { off = off; above = bend_above s t.a t.b x off refl; after_a = after; before_b = before } in
-    let facts_first = vertices_both (IsBeyond f) (λ p. IsUnderChord f t.a x p × IsPointWithin axis.along t.a x p) (to ++ x ∷ []) first.beyond
+    let facts_first = vertices_both (IsBeyond f) (λ p. IsUnderChord f t.a x p × IsPointWithin axis.along t.a x p) (to ++ x ∷ [])
+    first.beyond
     (vertices_both (IsUnderChord f t.a x) (IsPointWithin axis.along t.a x) (to ++ x ∷ []) first_chord
     (vertices_within axis.along t.a x (to ++ x ∷ []) first.leads first.onward)) in
     let facts_second = vertices_both (IsBeyond f) (λ p. IsUnderChord f x t.b p × IsPointWithin axis.along x t.b p) (x ∷ from) second.beyond

@@ -245,6 +245,7 @@ vertices_within along a b (v ∷ w ∷ path) leads forth =
     let at_a = ap along leads.0 in
     let rest = vertices_within along w b (w ∷ path) leads.1 forth.1 in (
       (omega (arith, ints, at_a), omega (arith, ints, rest.0.1, forth.0)),
-      vertices_map (IsPointWithin along w b) (IsPointWithin along a b) (λ p within. (omega (arith, ints, within.0, at_a, forth.0), within.1))
+      vertices_map (IsPointWithin along w b) (IsPointWithin along a b)
+          (λ p within. (omega (arith, ints, within.0, at_a, forth.0), within.1))
           (w ∷ path) rest,
     )

@@ -110,7 +110,8 @@ fn slanted_is_close(o: &Segment, p: &Segment) -> bool
 
 // The greater of the sizes of the side numbers of the ends of `p`.
 fn margin_of(o: &Segment, p: &Segment) -> u64
-    ensures margin { result ≡ max (unsigned_abs (side_number o.now p.now.a)) (unsigned_abs (side_number o.now p.now.b)) }
+    ensures margin { result
+        ≡ max (unsigned_abs (side_number o.now p.now.a)) (unsigned_abs (side_number o.now p.now.b)) }
     ensures below_2_57 { result < 2 ^ 57 }
 {
     let lesser = cross_of(o, &p.a()).unsigned_abs();

@@ -45,5 +45,6 @@ pub fn hook_is_close()
 /// Each grid point between a piece and its hook, both counted, is on the hook.
 pub fn hook_holds_points_between()
     ensures { (t : GridSegment) (x : GridPoint) (chain : List GridPoint) → IsBefore t.a t.b → Hook t x chain
-        → AllLinks (λ v w. (p : GridPoint) → IsBetweenPieceAndHook t x v w p → IsOn (record { a = v; b = w }) p) chain }
+        → AllLinks (λ v w. (p : GridPoint) → IsBetweenPieceAndHook t x v w p
+        → IsOn (record { a = v; b = w }) p) chain }
 {}

@@ -6,7 +6,8 @@ use Rattle.segment_envelope.proofs.laws.near_is_within_one.Goals as goal
 
 -- the width of a flat segment times the distance along the column
 pub returns-clause-flat : goal.returns-clause-flat
-returns-clause-flat c = λ s p q ordered flat place column. seen_near s p _ _ q.w (flat_seen s p q ordered (flat_is s (sym flat)) place column)
+returns-clause-flat c = λ s p q ordered flat place column.
+    seen_near s p _ _ q.w (flat_seen s p q ordered (flat_is s (sym flat)) place column)
 
 -- the height of a steep one times the distance along the row
 pub returns-clause-steep : goal.returns-clause-steep
