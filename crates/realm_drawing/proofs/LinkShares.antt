@@ -1,11 +1,11 @@
 -- This file shows which shares a list has that goes along the links of a path.
 use Rattle.std.proofs.Common.{◌≡◌, ◌⊎◌, ◌↔◌, ℕ, ◌+◌, ◌-◌, ◌<◌, ◌≤◌, List, [], ◌∷◌, ◌++◌, length, get_or, take}
-use Rattle.std.proofs.Common.{Some, sym, ap, ap₂, subst, inl, inr, take_all}
+use Rattle.std.proofs.Common.{Some, Contains, sym, ap, ap₂, subst, inl, inr, take_all}
 use Rattle.std.specs.Option.{IsNone}
 use Rattle.grid_base.specs.Point.{GridPoint, IsBefore}
 use Rattle.grid_base.specs.Segment.{GridSegment, segment_of}
 use Rattle.grid_base.specs.Drawing.{HasLink}
-use Rattle.component_registry.specs.Registry.{Holdings, Owns}
+use Rattle.component_registry.specs.Registry.{Holdings}
 use Rattle.realm_drawing.specs.declared.shares.Share.{Share}
 use Rattle.realm_drawing.specs.Shares.{share_of, Held, ListsAlso, IsBetween, IsGained, IsOfChain}
 use Rattle.realm_drawing.proofs.PathLinks.{link_more, made_between}
@@ -70,12 +70,12 @@ lists_between A xs ys s v w none is = lists_same xs ys (λ y. A y × (y.piece �
 
 -- ---- all links
 -- the owners' shares of all links that aren't held yet are what is gained
-pub lists_gained : (r : Holdings) (piece : GridSegment) (path : List GridPoint) (i : ℕ) (xs ys : List Share)
-    → length path ≤ i → ListsAlso xs ys (λ y. (Owns r piece y.id × ¬ Held r y) × IsAmong path i y.piece)
-    → ListsAlso xs ys (IsGained r piece path)
-lists_gained r piece path i xs ys past = lists_same xs ys
-    (λ y. (Owns r piece y.id × ¬ Held r y) × IsAmong path i y.piece)
-    (IsGained r piece path)
+pub lists_gained : (r : Holdings) (owners : List ℕ) (path : List GridPoint) (i : ℕ) (xs ys : List Share)
+    → length path ≤ i → ListsAlso xs ys (λ y. (Contains owners y.id × ¬ Held r y) × IsAmong path i y.piece)
+    → ListsAlso xs ys (IsGained r owners path)
+lists_gained r owners path i xs ys past = lists_same xs ys
+    (λ y. (Contains owners y.id × ¬ Held r y) × IsAmong path i y.piece)
+    (IsGained r owners path)
     (λ y. rw take_all (
       λ ((owner, new), (link, ordered)). record { owner = owner; link = link; ordered = ordered; new = new },
       λ gained. ((gained.owner, gained.new), (gained.link, gained.ordered)),

@@ -12,7 +12,7 @@ use Rattle.realm_drawing.specs.Shares.{share_of, Held, ListsAlso, IsLost}
 use Rattle.realm_drawing.proofs.ShareLists.{lists_same, lists_both}
 
 -- the id at place i and those before it
-Contains-next : (ids : List ℕ) (i x : ℕ) → i < length ids → x ≡ get_or ids i x → (z : ℕ)
+pub Contains-next : (ids : List ℕ) (i x : ℕ) → i < length ids → x ≡ get_or ids i x → (z : ℕ)
     → Contains (take (i + 1) ids) z ↔ (Contains (take i ids) z ⊎ (z ≡ x))
 Contains-next ids i x within is z =
     let next = take_more ids i x within ∙ ap (λ n. take i ids ++ n ∷ []) (sym is) in
@@ -60,14 +60,13 @@ lists_unheld r xs ys s had x is = lists_same xs ys
     ))
 
 -- the shares of all owners are what is lost
-pub lists_lost : (r : Holdings) (piece : GridSegment) (path : List GridPoint) (ids : List ℕ) (i : ℕ) (xs ys : List Share)
-    → length ids ≤ i → ids ≡ owners_of r piece
+pub lists_lost : (ids : List ℕ) (piece : GridSegment) (path : List GridPoint) (i : ℕ) (xs ys : List Share) → length ids ≤ i
     → ListsAlso xs ys (λ y. (Contains (take i ids) y.id × ¬ HasLink path piece) × (y.piece ≡ piece))
-    → ListsAlso xs ys (IsLost r piece path)
-lists_lost r piece path ids i xs ys past is = lists_same xs ys
+    → ListsAlso xs ys (IsLost ids piece path)
+lists_lost ids piece path i xs ys past = lists_same xs ys
     (λ y. (Contains (take i ids) y.id × ¬ HasLink path piece) × (y.piece ≡ piece))
-    (IsLost r piece path)
-    (λ y. rw (take_all, is) (
+    (IsLost ids piece path)
+    (λ y. rw take_all (
       λ ((owner, gone), same). record { of_piece = same; owner = owner; no_link = gone },
       λ lost. ((lost.owner, lost.no_link), lost.of_piece),
     ))

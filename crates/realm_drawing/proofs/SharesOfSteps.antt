@@ -3,7 +3,7 @@ use Rattle.std.proofs.Common.{◌≡◌, Option, Some, None, List, [], All, Cont
 use Rattle.std.proofs.Common.{sym, subst, inl, inr}
 use Rattle.std.specs.Prelude.{IsSomeAnd}
 use Rattle.std.proofs.lemmas.List.Elements.{All-contains_itself, All-weaker}
-use Rattle.component_registry.specs.Registry.{Holdings}
+use Rattle.component_registry.specs.Registry.{Holdings, owners_of}
 use Rattle.realm_drawing.specs.declared.redrawing.Redrawing.{Redrawing}
 use Rattle.realm_drawing.specs.declared.redrawing.Redrawings.{Redrawings}
 use Rattle.realm_drawing.specs.declared.shares.Share.{Share}
@@ -50,6 +50,6 @@ pub gained_are_new : (step : Redrawings) (r : Holdings) (list : List Share) → 
 gained_are_new step r list are lists =
     All-weaker (Contains list) (λ y. Held r y → ⊥)
     (λ y listed. AnyOf-constant (Held r y → ⊥) step
-    (AnyOf-weaker (λ q. IsGained r q.piece q.path y) (λ q. Held r y → ⊥) step are (λ q path gains. gains.new)
+    (AnyOf-weaker (λ q. IsGained r (owners_of r q.piece) q.path y) (λ q. Held r y → ⊥) step are (λ q path gains. gains.new)
     ((lists y).0 listed)))
     list (All-contains_itself list)

@@ -47,11 +47,11 @@ pub record ChangesShares (step : Redrawings) (old mid new : Holdings) : Type 0 w
 
 -- x gains the share of s by the redrawing
 abbrev Gains : Holdings → GridSegment → ℕ → Redrawing → Type 0
-Gains old s x q = IsGained old q.piece q.path (share_of s x)
+Gains old s x q = IsGained old (owners_of old q.piece) q.path (share_of s x)
 
 -- x loses the share of s by the redrawing
 abbrev Loses : Holdings → GridSegment → ℕ → Redrawing → Type 0
-Loses old s x q = IsLost old q.piece q.path (share_of s x)
+Loses old s x q = IsLost (owners_of old q.piece) q.piece q.path (share_of s x)
 
 -- x owns the piece of the redrawing, and s is on its path
 abbrev Draws : Holdings → GridSegment → ℕ → Redrawing → Type 0

@@ -1,7 +1,7 @@
 -- This file shows that what a step takes from an owner is a piece.
 use Rattle.std.proofs.Common.{List, All, Contains, sym, subst}
 use Rattle.std.proofs.lemmas.List.Elements.{All-contains_itself, All-weaker}
-use Rattle.component_registry.specs.Registry.{Holdings, IsPiece}
+use Rattle.component_registry.specs.Registry.{Holdings, IsPiece, owners_of}
 use Rattle.component_registry.proofs.Registries.{piece_from_owner}
 use Rattle.realm_drawing.specs.declared.redrawing.Redrawings.{Redrawings}
 use Rattle.realm_drawing.specs.declared.shares.Share.{Share}
@@ -15,7 +15,7 @@ pub lost_were_pieces : (step : Redrawings) (r : Holdings) (list : List Share) 鈫
 lost_were_pieces step r list are lists =
     All-weaker (Contains list) (位 y. IsPiece r y.piece)
     (位 y listed. AnyOf-constant (IsPiece r y.piece) step
-    (AnyOf-weaker (位 q. IsLost r q.piece q.path y) (位 q. IsPiece r y.piece) step are
+    (AnyOf-weaker (位 q. IsLost (owners_of r q.piece) q.piece q.path y) (位 q. IsPiece r y.piece) step are
     (位 q path lost. subst (IsPiece r) (sym lost.of_piece) (piece_from_owner r q.piece y.id lost.owner))
     ((lists y).0 listed)))
     list (All-contains_itself list)

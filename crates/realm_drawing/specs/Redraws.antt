@@ -1,5 +1,5 @@
 -- The one or two redrawings of a step. No public clause cites this file.
-use Rattle.std.specs.Prelude.{◌≡◌, ◌≢◌, ◌⊎◌, ◌<◌, ℕ, Option, Some, None, MatchOption, List, length, All, Any, HoldsAt}
+use Rattle.std.specs.Prelude.{◌≡◌, ◌≢◌, ◌⊎◌, ◌<◌, ℕ, Option, Some, None, MatchOption, List, length, All, Any, Contains, HoldsAt}
 use Rattle.grid_base.specs.Point.{GridPoint, IsBefore}
 use Rattle.grid_base.specs.Segment.{GridSegment}
 use Rattle.grid_base.specs.Drawing.{HasLink}
@@ -41,6 +41,10 @@ pub record AreRedrawings (step : Redrawings) : Type 0 where
   pub first : IsPathFor step.first
   pub second : MatchOption step.second (Unit {0}) (λ r. IsPathFor r × AreApart step.first r)
 
+-- what comes of a chain that is to become the other: none where it stays
+abbrev pub Becomes : List GridPoint → List GridPoint → Option (List GridPoint) → Type 0
+Becomes chain after found = MatchOption found (after ≡ chain) (λ new. new ≡ after)
+
 -- r has the chain with the paths of the step for the original at its place
 pub record IsReplacement (step : Redrawings) (originals : List Original) (r : Replacement) : Type 0 where
   pub within : r.place < length originals
@@ -50,15 +54,23 @@ pub record IsReplacement (step : Redrawings) (originals : List Original) (r : Re
 abbrev pub HasReplacement : List Replacement → ℕ → Type 0
 HasReplacement list i = Any (λ r. r.place ≡ i) list
 
+-- there is one for place i, or the chain of the original there stays
+abbrev pub IsReplacedAt : Redrawings → List Original → List Replacement → ℕ → Type 0
+IsReplacedAt step originals list i =
+    HasReplacement list i ⊎ HoldsAt (λ o. redrawn_by step o.chain ≡ o.chain) originals i
+
 -- the list has replacements alone, and one for each original whose chain is to change
 pub record AreReplacements (step : Redrawings) (originals : List Original) (list : List Replacement) : Type 0 where
   pub each : All (IsReplacement step originals) list
-  pub all : (i : ℕ) → i < length originals
-      → HasReplacement list i ⊎ HoldsAt (λ o. redrawn_by step o.chain ≡ o.chain) originals i
+  pub all : (i : ℕ) → i < length originals → IsReplacedAt step originals list i
 
--- the list has replacements alone, those it had, and one for each original with the piece s
-pub record AddsReplacements (step : Redrawings) (originals : List Original) (s : GridSegment) (old new : List Replacement)
+-- the list has replacements alone, those it had, and those for the places that are wanted
+pub record AddsReplacements (step : Redrawings) (originals : List Original) (Wanted : ℕ → Type 0) (old new : List Replacement)
     : Type 0 where
   pub each : All (IsReplacement step originals) old → All (IsReplacement step originals) new
   pub stay : (i : ℕ) → HasReplacement old i → HasReplacement new i
-  pub owners : (i : ℕ) → i < length originals → HoldsAt (λ o. HasLink o.chain s) originals i → HasReplacement new i
+  pub wanted : (i : ℕ) → i < length originals → Wanted i → IsReplacedAt step originals new i
+
+-- the original at place i has one of these ids
+abbrev pub HasOwner : List Original → List ℕ → ℕ → Type 0
+HasOwner originals ids i = HoldsAt (λ o. Contains ids o.id) originals i

@@ -38,19 +38,19 @@ ListsAlso old new P = (y : Share) → Contains new y ↔ (Contains old y ⊎ P y
 abbrev pub IsBetween : GridSegment → GridPoint → GridPoint → Type 0
 IsBetween t v w = IsLink t v w × IsBefore t.a t.b
 
--- with the path an owner of the piece gains y: it is of a link of the path, and isn't held yet
-pub record IsGained (r : Holdings) (piece : GridSegment) (path : List GridPoint) (y : Share)
+-- with the path one of the owners gains y: it is of a link of the path, and isn't held yet
+pub record IsGained (r : Holdings) (owners : List ℕ) (path : List GridPoint) (y : Share)
     : Type 0 where
-  pub owner : Owns r piece y.id
+  pub owner : Contains owners y.id
   pub link : HasLink path y.piece
   pub ordered : IsBefore y.piece.a y.piece.b
   pub new : ¬ Held r y
 
--- with the path an owner of the piece loses y: it is of the piece, which is no link of the path
-pub record IsLost (r : Holdings) (piece : GridSegment) (path : List GridPoint) (y : Share)
+-- with the path one of the owners loses y: it is of the piece, which is no link of the path
+pub record IsLost (owners : List ℕ) (piece : GridSegment) (path : List GridPoint) (y : Share)
     : Type 0 where
   pub of_piece : y.piece ≡ piece
-  pub owner : Owns r piece y.id
+  pub owner : Contains owners y.id
   pub no_link : ¬ HasLink path piece
 
 -- y is the share of a link of the chain with this id

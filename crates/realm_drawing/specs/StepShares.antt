@@ -1,6 +1,6 @@
 -- Which shares a step adds and takes away. No public clause cites this file.
 use Rattle.std.specs.Prelude.{◌⊎◌, ◌↔◌, List, Contains, IsSomeAnd}
-use Rattle.component_registry.specs.Registry.{Holdings}
+use Rattle.component_registry.specs.Registry.{Holdings, owners_of}
 use Rattle.realm_drawing.specs.declared.redrawing.Redrawing.{Redrawing}
 use Rattle.realm_drawing.specs.declared.redrawing.Redrawings.{Redrawings}
 use Rattle.realm_drawing.specs.declared.shares.Share.{Share}
@@ -12,11 +12,11 @@ AnyOf step P = P step.first ⊎ IsSomeAnd step.second P
 
 -- y is a share that an original gains by the step
 abbrev pub IsGainedBy : Holdings → Redrawings → Share → Type 0
-IsGainedBy r step y = AnyOf step (λ q. IsGained r q.piece q.path y)
+IsGainedBy r step y = AnyOf step (λ q. IsGained r (owners_of r q.piece) q.path y)
 
 -- y is a share that an original loses by the step
 abbrev pub IsLostBy : Holdings → Redrawings → Share → Type 0
-IsLostBy r step y = AnyOf step (λ q. IsLost r q.piece q.path y)
+IsLostBy r step y = AnyOf step (λ q. IsLost (owners_of r q.piece) q.piece q.path y)
 
 -- the list has the shares with P, and no others
 abbrev pub Lists : List Share → (Share → Type 0) → Type 0

@@ -1,15 +1,17 @@
 //! A path in the place of a piece of a chain. Where the chain passes the piece is found by a binary
 //! search: along a chain no coordinate turns back, so how many columns and rows it has come rises.
-ghost use Rattle.std.specs.Prelude.{◌≡◌, ◌≢◌, ◌<◌, ◌+◌, ◌-◌, ◌↔◌, ◌++◌, IsTrue, MatchOption, IfOk, All};
+ghost use Rattle.std.specs.Prelude.{◌≡◌, ◌≢◌, ◌<◌, ◌+◌, ◌-◌, ◌↔◌, ◌++◌, IsTrue, Some, MatchOption, IfOk, All};
 ghost use Rattle.std.specs.Prelude.{length, take, drop, reverse};
 ghost use Rattle.grid_base.specs.Drawing.{HasLink};
 ghost use Rattle.hook_chain.specs.Chains.{Leads};
 ghost use Rattle.hook_chain.specs.Redrawing.{redrawn};
 ghost use Rattle.realm_drawing.specs.Chains.{IsSomeChain};
+ghost use Rattle.realm_drawing.specs.Redraws.{Becomes};
 ghost use Rattle.realm_drawing.specs.Passages as passages;
 ghost use Rattle.realm_drawing.specs.Passages.{IsPlaceAt, IsOnlyPlace, PassesAt};
 
-use grid_base::{NoMemory, Point, Segment};
+use crate::redrawing::Redrawing;
+use grid_base::{Chain, NoMemory, Point, Segment};
 use std::alloc::Global;
 
 // Where a chain passes a piece: the place of the end by which it comes to it.
@@ -20,51 +22,43 @@ enum Passage {
     Back(usize),
 }
 
-// The chain with the path, which leads from the lesser end of the piece to the greater, in the place
-// of the piece.
-pub(crate) fn redrawn_points(
+// The chain with the path in the place of the piece; none where it doesn't pass the piece.
+pub(crate) fn with_path(
     alloc: Global,
     points: &[Point],
-    piece: &Segment,
-    path: &[Point],
-) -> Result<Vec<Point>, NoMemory>
+    redrawing: &Redrawing,
+) -> Result<Option<Chain>, NoMemory>
     requires chain { IsSomeChain points.now }
-    requires leads { Leads piece.now.a piece.now.b path.now }
-    ensures { IfOk result (λ list. list.items ≡ redrawn piece.now path.now points.now) }
+    requires leads { Leads redrawing.now.piece.a redrawing.now.piece.b redrawing.now.path }
+    ensures { IfOk result
+        (Becomes points.now (redrawn redrawing.now.piece redrawing.now.path points.now)) }
 {
-    match passage_of(points, piece) {
+    let path = redrawing.path.points();
+    match passage_of(points, &redrawing.piece) {
         Some(Passage::Forth(place)) => with_way(alloc, points, place, &path[..path.len() - 1]),
         Some(Passage::Back(place)) => {
             let way = backwards(alloc, &path[1..])?;
             with_way(alloc, points, place, &way)
         }
-        None => copied(alloc, points),
+        None => Ok(None),
     }
 }
 
-// The points with the way in the place of one of them.
+// The points with the way in the place of one of them, in a list that is made at its full length.
 fn with_way(
     alloc: Global,
     points: &[Point],
     place: usize,
     way: &[Point],
-) -> Result<Vec<Point>, NoMemory>
+) -> Result<Option<Chain>, NoMemory>
     requires within { place < length points.now }
-    ensures { IfOk result
-        (λ list. list.items ≡ take place points.now ++ way.now ++ drop (place + 1) points.now) }
+    ensures { IfOk result (λ chain. chain ≡ Some (take place points.now ++ way.now ++ drop (place + 1) points.now)) }
 {
-    let mut list = Vec::new(alloc);
+    let mut list = Vec::with_capacity(alloc, points.len().saturating_add(way.len()))?;
     list.extend_from_slice(&points[..place])?;
     list.extend_from_slice(way)?;
     list.extend_from_slice(&points[place + 1..])?;
-    Ok(list)
-}
-
-// The same points.
-fn copied(alloc: Global, points: &[Point]) -> Result<Vec<Point>, NoMemory>
-    ensures { IfOk result (λ list. list.items ≡ points.now) }
-{
-    Ok(points.iter().copied().collect(alloc)?)
+    Ok(Some(Chain::new(list)))
 }
 
 // The path from its last point to its first.

@@ -1,18 +1,19 @@
 //! The paths of a step, put in the place of its pieces in every chain that has them.
-ghost use Rattle.std.specs.Prelude.{◌≡◌, IfOk, OnOk, OnErr, All, map};
-ghost use Rattle.grid_base.specs.Point.{IsBefore};
+ghost use Rattle.std.specs.Prelude.{◌≡◌, ◌<◌, IfOk, OnOk, OnErr, All, HoldsAt, length, map};
+ghost use Rattle.component_registry.specs.Registry.{owners_of};
 ghost use Rattle.realm_drawing.specs.Ids.{IsAscending};
 ghost use Rattle.realm_drawing.specs.Chains.{HasValidChain, IsSomeChain};
-ghost use Rattle.realm_drawing.specs.Kept.{HasOwnersOf, AreKept};
-ghost use Rattle.realm_drawing.specs.Redraws.{redrawn_by, redrawn_original_by, AreRedrawings};
-ghost use Rattle.realm_drawing.specs.Redraws.{AreReplacements, AddsReplacements};
-ghost use Rattle.realm_drawing.specs.Shares.{KeepsKeys};
+ghost use Rattle.realm_drawing.specs.Kept.{AreKept};
+ghost use Rattle.realm_drawing.specs.Redraws.{redrawn_by, redrawn_original_by, Becomes, AreRedrawings};
+ghost use Rattle.realm_drawing.specs.Redraws.{AreReplacements, AddsReplacements, HasOwner};
+ghost use Rattle.realm_drawing.specs.Shares.{KeepsKeys, ListsAlso, IsGained, IsLost};
 ghost use Rattle.realm_drawing.specs.Fresh.{ListsFresh};
 ghost use Rattle.realm_drawing.specs.StepShares.{Lists, IsGainedBy, IsLostBy};
 
 use crate::ids::place_of;
 use crate::keyed::KeyedPiece;
-use crate::passages::redrawn_points;
+use crate::passages::with_path;
+use crate::shares;
 use crate::shares::{Share, add_shares, drop_shares, gained, lost};
 use component_registry::Registry;
 use grid_base::{Chain, NoMemory, Original, Point, Segment};
@@ -39,6 +40,14 @@ pub(crate) struct Replacement {
     chain: Chain,
 }
 
+/// What a step changes: the chains that are replaced, and the shares that come and go.
+#[derive(Drop)]
+struct Plan {
+    chains: Vec<Replacement>,
+    more: Vec<Share>,
+    less: Vec<Share>,
+}
+
 // Puts the paths of the step in the place of its pieces, in every chain that has them, and the registry after it. The
 // answer is the pieces that are new, each with its key. All memory is taken before the first change that stays.
 pub(crate) fn put_paths(
@@ -56,125 +65,139 @@ pub(crate) fn put_paths(
     ensures originals_unchanged { OnErr result (originals.new.items ≡ originals.old.items) }
     ensures registry_unchanged { OnErr result (registry.new ≡ registry.old) }
 {
-    let list = replacements(alloc, originals, registry, step)?;
-    let more = gained_by(alloc, registry, step)?;
-    let less = lost_by(alloc, registry, step)?;
-    let fresh = add_shares(alloc, registry, more.as_slice())?;
-    drop_shares(registry, less.as_slice());
-    install(originals, step, list);
+    let plan = plan_of(alloc, originals, registry, step)?;
+    let fresh = add_shares(alloc, registry, plan.more.as_slice())?;
+    drop_shares(registry, plan.less.as_slice());
+    install(originals, step, plan.chains);
     Ok(fresh)
 }
 
-// The shares that the originals gain by the step.
-fn gained_by(alloc: Global, registry: &Registry, step: &Redrawings) -> Result<Vec<Share>, NoMemory>
-    ensures { IfOk result (λ list. Lists list.items (IsGainedBy registry.now step.now)) }
-{
-    let mut list = Vec::new(alloc);
-    gained(
-        registry,
-        &step.first.piece,
-        step.first.path.points(),
-        &mut list,
-    )?;
-    if let Some(second) = &step.second {
-        gained(registry, &second.piece, second.path.points(), &mut list)?;
-    }
-    Ok(list)
-}
-
-// The shares that the originals lose by the step.
-fn lost_by(alloc: Global, registry: &Registry, step: &Redrawings) -> Result<Vec<Share>, NoMemory>
-    ensures { IfOk result (λ list. Lists list.items (IsLostBy registry.now step.now)) }
-{
-    let mut list = Vec::new(alloc);
-    lost(
-        registry,
-        &step.first.piece,
-        step.first.path.points(),
-        &mut list,
-    )?;
-    if let Some(second) = &step.second {
-        lost(registry, &second.piece, second.path.points(), &mut list)?;
-    }
-    Ok(list)
-}
-
-// The new chains of all originals that own a piece of the step.
-fn replacements(
+// What the step changes.
+fn plan_of(
     alloc: Global,
     originals: &[Original],
     registry: &Registry,
     step: &Redrawings,
-) -> Result<Vec<Replacement>, NoMemory>
-    requires rising { IsAscending originals.now }
-    requires valid { All HasValidChain originals.now }
-    requires owners { HasOwnersOf originals.now registry.now }
+) -> Result<Plan, NoMemory>
+    requires kept { AreKept originals.now registry.now }
     requires step { AreRedrawings step.now }
-    ensures { IfOk result (λ list. AreReplacements step.now originals.now list.items) }
+    ensures chains { IfOk result (λ plan. AreReplacements step.now originals.now plan.chains.items) }
+    ensures more { IfOk result (λ plan. Lists plan.more.items (IsGainedBy registry.now step.now)) }
+    ensures less { IfOk result (λ plan. Lists plan.less.items (IsLostBy registry.now step.now)) }
 {
-    let mut list = Vec::new(alloc);
-    replace_owners(
-        alloc,
-        originals,
-        registry,
-        &step.first.piece,
-        step,
-        &mut list,
-    )?;
+    let mut plan = Plan {
+        chains: Vec::new(alloc),
+        more: Vec::new(alloc),
+        less: Vec::new(alloc),
+    };
+    plan_one(alloc, originals, registry, &step.first, step, &mut plan)?;
     if let Some(second) = &step.second {
-        replace_owners(alloc, originals, registry, &second.piece, step, &mut list)?;
+        plan_one(alloc, originals, registry, second, step, &mut plan)?;
     }
-    Ok(list)
+    Ok(plan)
 }
 
-// Adds the new chains of the owners of `piece`.
-fn replace_owners(
+// What one redrawing of the step changes, for the owners of its piece.
+fn plan_one(
     alloc: Global,
     originals: &[Original],
     registry: &Registry,
-    piece: &Segment,
+    one: &Redrawing,
+    step: &Redrawings,
+    plan: &mut Plan,
+) -> Result<(), NoMemory>
+    requires rising { IsAscending originals.now }
+    requires valid { All HasValidChain originals.now }
+    requires step { AreRedrawings step.now }
+    ensures chains { OnOk result (AddsReplacements step.now originals.now
+        (HasOwner originals.now (owners_of registry.now one.now.piece)) plan.old.chains.items plan.new.chains.items) }
+    ensures more { OnOk result (ListsAlso plan.old.more.items plan.new.more.items
+        (IsGained registry.now (owners_of registry.now one.now.piece) one.now.path)) }
+    ensures less { OnOk result (ListsAlso plan.old.less.items plan.new.less.items
+        (IsLost (owners_of registry.now one.now.piece) one.now.piece one.now.path)) }
+{
+    let owners = shares::owners_of(registry, &one.piece);
+    replace_owners(alloc, originals, owners, step, &mut plan.chains)?;
+    gained(registry, owners, one.path.points(), &mut plan.more)?;
+    lost(owners, &one.piece, one.path.points(), &mut plan.less)?;
+    Ok(())
+}
+
+// Adds the new chains of the owners.
+fn replace_owners(
+    alloc: Global,
+    originals: &[Original],
+    owners: &[u32],
     step: &Redrawings,
     list: &mut Vec<Replacement>,
 ) -> Result<(), NoMemory>
     requires rising { IsAscending originals.now }
     requires valid { All HasValidChain originals.now }
-    requires owners { HasOwnersOf originals.now registry.now }
-    requires ordered { IsBefore piece.now.a piece.now.b }
     requires step { AreRedrawings step.now }
-    ensures { OnOk result
-        (AddsReplacements step.now originals.now piece.now list.old.items list.new.items) }
+    ensures { OnOk result (AddsReplacements step.now originals.now
+        (HasOwner originals.now owners.now) list.old.items list.new.items) }
 {
-    let Some(key) = registry.key(piece) else {
-        return Ok(());
-    };
-    for id in registry.owners(key) {
-        if let Some(place) = place_of(originals, *id) {
-            let chain = redrawn(alloc, originals[place].chain.points(), step)?;
-            list.push(Replacement { place, chain })?;
-        }
+    for id in owners {
+        replace_owner(alloc, originals, *id, step, list)?;
     }
     Ok(())
 }
 
-// The chain with the paths of the step in the place of its pieces.
-fn redrawn(alloc: Global, points: &[Point], step: &Redrawings) -> Result<Chain, NoMemory>
+// Adds the new chain of the original with this id.
+fn replace_owner(
+    alloc: Global,
+    originals: &[Original],
+    id: u32,
+    step: &Redrawings,
+    list: &mut Vec<Replacement>,
+) -> Result<(), NoMemory>
+    requires rising { IsAscending originals.now }
+    requires valid { All HasValidChain originals.now }
+    requires step { AreRedrawings step.now }
+    ensures { OnOk result (AddsReplacements step.now originals.now
+        (λ i. HoldsAt (λ o. o.id ≡ id) originals.now i) list.old.items list.new.items) }
+{
+    match place_of(originals, id) {
+        Some(place) => replace_at(alloc, originals, place, step, list),
+        None => Ok(()),
+    }
+}
+
+// Adds the new chain of the original at this place, unless it stays.
+fn replace_at(
+    alloc: Global,
+    originals: &[Original],
+    place: usize,
+    step: &Redrawings,
+    list: &mut Vec<Replacement>,
+) -> Result<(), NoMemory>
+    requires valid { All HasValidChain originals.now }
+    requires step { AreRedrawings step.now }
+    requires within { place < length originals.now }
+    ensures { OnOk result
+        (AddsReplacements step.now originals.now (λ i. i ≡ place) list.old.items list.new.items) }
+{
+    if let Some(chain) = redrawn(alloc, originals[place].chain.points(), step)? {
+        list.push(Replacement { place, chain })?;
+    }
+    Ok(())
+}
+
+// The chain with the paths of the step in the place of its pieces; none where it has none of them.
+fn redrawn(alloc: Global, points: &[Point], step: &Redrawings) -> Result<Option<Chain>, NoMemory>
     requires chain { IsSomeChain points.now }
     requires step { AreRedrawings step.now }
-    ensures { IfOk result (λ chain. chain ≡ redrawn_by step.now points.now) }
+    ensures { IfOk result (Becomes points.now (redrawn_by step.now points.now)) }
 {
-    let once = redrawn_points(alloc, points, &step.first.piece, step.first.path.points())?;
-    match &step.second {
-        None => Ok(Chain::new(once)),
-        Some(second) => {
-            let twice = redrawn_points(
-                alloc,
-                once.as_slice(),
-                &second.piece,
-                second.path.points(),
-            )?;
-            Ok(Chain::new(twice))
-        }
-    }
+    let once = with_path(alloc, points, &step.first)?;
+    let Some(second) = &step.second else {
+        return Ok(once);
+    };
+    let Some(chain) = once else {
+        return with_path(alloc, points, second);
+    };
+    let twice = with_path(alloc, chain.points(), second)?;
+    Ok(Some(twice.unwrap_or(chain)))
 }
 
 // Puts the new chains in the place of the old ones.

@@ -56,18 +56,17 @@ pub(crate) fn drop_shares(registry: &mut Registry, shares: &[Share])
     }
 }
 
-// Lists the shares that the owners of `piece` gain where the links of `path` replace it: those of
+// Lists the shares that the owners of a piece gain where the links of `path` replace it: those of
 // each link that aren't held yet.
 pub(crate) fn gained(
     registry: &Registry,
-    piece: &Segment,
+    owners: &[u32],
     path: &[Point],
     list: &mut Vec<Share>,
 ) -> Result<(), NoMemory>
     ensures ok { OnOk result
-        (ListsAlso list.old.items list.new.items (IsGained registry.now piece.now path.now)) }
+        (ListsAlso list.old.items list.new.items (IsGained registry.now owners.now path.now)) }
 {
-    let owners = owners_of(registry, piece);
     for i in 1..path.len() {
         gained_between(registry, owners, &path[i - 1], &path[i], list)?;
     }
@@ -77,18 +76,17 @@ pub(crate) fn gained(
 // Lists the shares that the owners of `piece` lose where the links of `path` replace it: those of
 // the piece, unless it is one of the links.
 pub(crate) fn lost(
-    registry: &Registry,
+    owners: &[u32],
     piece: &Segment,
     path: &[Point],
     list: &mut Vec<Share>,
 ) -> Result<(), NoMemory>
     ensures ok { OnOk result
-        (ListsAlso list.old.items list.new.items (IsLost registry.now piece.now path.now)) }
+        (ListsAlso list.old.items list.new.items (IsLost owners.now piece.now path.now)) }
 {
     if has_link(path, piece) {
         return Ok(());
     }
-    let owners = owners_of(registry, piece);
     for id in owners {
         list.push(Share {
             piece: *piece,
@@ -240,7 +238,7 @@ fn drop_share(registry: &mut Registry, share: &Share)
 }
 
 // The owners of the piece, ascending.
-fn owners_of<'a>(registry: &'a Registry, piece: &Segment) -> &'a [u32]
+pub(crate) fn owners_of<'a>(registry: &'a Registry, piece: &Segment) -> &'a [u32]
     ensures owners { result.now ≡ registries.owners_of registry.now piece.now }
     ensures ascending { IsStrictlyIncreasing result.now }
     ensures sound { IsSound registry.now }

@@ -12,22 +12,16 @@ use Rattle.realm_drawing.proofs.StepOwners.{ChangesShares, owners_redrawn}
 use Rattle.realm_drawing.proofs.redrawing.put_paths.Goals as goal
 
 -- the registry has the owners of the list as it was passed
-pub replacements-requires : goal.replacements-requires
-replacements-requires c =
-    let kept = subst (λ (originals : List Original). AreKept originals c.args.registry.now) (sym c.deref.ensures.value)
-    c.requires.kept in
-    record {
-      rising = kept.ids_rise;
-      valid = kept.all_valid;
-      owners = kept.owners;
-      step = c.requires.step;
-    }
+pub plan_of-requires-clause-kept : goal.plan_of-requires-clause-kept
+plan_of-requires-clause-kept c =
+    subst (λ (originals : List Original). AreKept originals c.args.registry.now) (sym c.deref.ensures.value)
+    c.requires.kept
 
 -- what an original gains it doesn't own yet
 pub add_shares-requires : goal.add_shares-requires
 add_shares-requires c =
     let new =
-    gained_are_new c.args.step.now c.args.registry.now c.in_ok-more.more.items c.requires.step c.in_ok-more.ensures in
+    gained_are_new c.args.step.now c.args.registry.now c.in_ok-plan.plan.more.items c.requires.step c.in_ok-plan.ensures.more in
     record {
       sound = c.requires.kept.sound;
       new_shares = subst (All (λ y. Held c.args.registry.now y → ⊥)) (sym c.as_slice.ensures.value) new;
@@ -46,10 +40,10 @@ returns-clause-kept c =
     let mid = c.add_shares.new.registry in
     let new = c.drop_shares.new.registry in
     let changes : ChangesShares step old mid new = record {
-      gained = c.in_ok-more.more.items;
-      lost = c.in_ok-less.less.items;
-      lists_gained = c.in_ok-more.ensures;
-      lists_lost = c.in_ok-less.ensures;
+      gained = c.in_ok-plan.plan.more.items;
+      lost = c.in_ok-plan.plan.less.items;
+      lists_gained = c.in_ok-plan.ensures.more;
+      lists_lost = c.in_ok-plan.ensures.less;
       more = subst (HasMore old mid) c.as_slice.ensures.value c.in_ok-fresh.ensures.owners;
       less = subst (HasFewer mid new) c.as_slice-2.ensures.value c.drop_shares.ensures.owners;
     } in
@@ -70,8 +64,8 @@ returns-clause-keys c =
 -- what was listed as new stays, since only pieces that were there lose owners
 pub returns-clause-fresh : goal.returns-clause-fresh
 returns-clause-fresh c =
-    let gone = lost_were_pieces c.args.step.now c.args.registry.now c.in_ok-less.less.items c.requires.step
-    c.in_ok-less.ensures in
+    let gone = lost_were_pieces c.args.step.now c.args.registry.now c.in_ok-plan.plan.less.items c.requires.step
+    c.in_ok-plan.ensures.less in
     fresh_left c.args.registry.now c.add_shares.new.registry c.drop_shares.new.registry c.as_slice-2.result.now _
     c.in_ok-fresh.ensures.sound c.drop_shares.ensures.sound
     (subst (All (λ y. IsPiece c.args.registry.now y.piece)) (sym c.as_slice-2.ensures.value) gone)

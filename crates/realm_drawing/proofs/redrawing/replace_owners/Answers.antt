@@ -1,52 +1,27 @@
-use Rattle.std.proofs.Common.{◌+◌, List, get_or, refl, sym, ap, subst, ◌∙◌}
-use Rattle.realm_drawing.specs.declared.redrawing.Replacement.{Replacement}
-use Rattle.realm_drawing.specs.Redraws.{redrawn_by}
-use Rattle.realm_drawing.proofs.Owners.{AddsFirst, none_added, none_more, replacement_at, one_more, all_owners, no_owners}
+use Rattle.std.proofs.Common.{get_or, take_all}
+use Rattle.std.proofs.lemmas.List.{get_or_default}
+use Rattle.realm_drawing.proofs.Elements.{Contains-nil}
+use Rattle.realm_drawing.proofs.Owners.{an_element, none_added, owners_next}
 use Rattle.realm_drawing.proofs.redrawing.replace_owners.Goals as goal
-use Rattle.realm_drawing.proofs.redrawing.replace_owners.Goals.{in-Some-place_of+in_ok-chain+in_ok-push}
-use Rattle.realm_drawing.proofs.redrawing.replace_owners.Goals.{in_default-place_of}
 
--- a piece without a key has no owners
-pub returns-in_default : goal.returns-in_default
-returns-in_default c =
-    no_owners c.args.step.now c.args.originals.now c.args.registry.now c.args.piece.now c.args.list.now.items
-    c.requires.owners c.requires.ordered c.in_default.ensures.key
-
--- no owner has been asked for
+-- no owner yet
 pub loop-id-init : goal.loop-id-init
-loop-id-init c = none_added c.args.step.now c.args.originals.now c.owners-id-items.result.now c.args.list.now.items
+loop-id-init c =
+    let originals = c.args.originals.now in
+    none_added c.args.step.now originals _ c.args.list.now.items
+    (λ i within has. let d = an_element originals i within in Contains-nil (get_or originals i d).id (has d))
 
--- the original with the id has its new chain, and where there is none nothing is asked
+-- one owner more
 pub loop-id-preserved : goal.loop-id-preserved
 loop-id-preserved c =
-    let step = c.args.step.now in
-    let originals = c.args.originals.now in
-    let ids = c.owners-id-items.result.now in
-    let n = c.loop-id.id-index in
-    let old = c.args.list.now.items in
-    let list = c.loop-id.list.items in
-    let Adds = λ (new : List Replacement). AddsFirst step originals ids (n + 1) old new in
-    elim c.match-place_of.branch [
-      | in-Some-place_of+in_ok-chain+in_ok-push w ↦
-          let place = w.in-Some-place_of.ensures in
-          let chain_is = w.in_ok-chain.ensures ∙ ap (redrawn_by step) w.points.ensures in
-          let right =
-          replacement_at step originals w.in-Some-place_of.place w.index-originals-place.result w.in_ok-chain.chain
-          place.within chain_is in
-          subst Adds (sym (ap (λ v. v.items) w.list-is ∙ w.in_ok-push.ensures.items))
-          (one_more step originals ids n (get_or ids n 0) old list
-          (record { place = w.in-Some-place_of.place; chain = w.in_ok-chain.chain })
-          c.requires.rising c.loop-id.invariant refl
-          place right)
-      | in_default-place_of w ↦
-          subst Adds (sym (ap (λ v. v.items) w.list-is))
-          (none_more step originals ids n (get_or ids n 0) old list c.loop-id.invariant refl w.in_default-place_of.ensures)
-    ]
+    let ids = c.args.owners.now in
+    let i = c.loop-id.id-index in
+    let id = get_or ids i 0 in
+    owners_next c.args.step.now c.args.originals.now ids i id _ _ _ c.loop-id-test.true
+    (get_or_default ids i 0 id c.loop-id-test.true) c.loop-id.invariant c.in_ok-replace_owner.ensures
 
--- all of them are gone through
+-- at the end all of them
 pub returns : goal.returns
 returns c =
-    let owners_are = c.owners-id-items.ensures.owners c.args.piece.now (sym c.in-Some.ensures.key) in
-    all_owners c.args.step.now c.args.originals.now c.args.registry.now c.args.piece.now c.owners-id-items.result.now
-    c.loop-id.id-index c.args.list.now.items c.loop-id.list.items c.requires.owners c.requires.ordered owners_are
-    c.loop-id-test.false c.loop-id.invariant
+    let past = c.loop-id-test.false in
+    rw take_all at c.loop-id.invariant

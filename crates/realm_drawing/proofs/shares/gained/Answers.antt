@@ -1,4 +1,4 @@
-use Rattle.component_registry.specs.Registry.{Owns}
+use Rattle.std.proofs.Common.{Contains}
 use Rattle.realm_drawing.specs.Shares.{Held}
 use Rattle.realm_drawing.proofs.LinkShares.{lists_next_link, lists_gained}
 use Rattle.realm_drawing.proofs.shares.gained.Goals as goal
@@ -9,12 +9,11 @@ loop-i-preserved c =
     let r = c.args.registry.now in
     let v = c.index-path-i in
     let w = c.index-path-i-in-loop-i in
-    let more = rw c.owners_of-owners.ensures.owners at c.in_ok-gained_between.ensures.ok in
-    lists_next_link (λ y. Owns r c.args.piece.now y.id × ¬ Held r y) _ _ _ c.args.path.now c.loop-i.i v.result w.result
-    c.loop-i.auto.i c.loop-i-test.true v.is w.is c.loop-i.invariant more
+    lists_next_link (λ y. Contains c.args.owners.now y.id × ¬ Held r y) _ _ _ c.args.path.now c.loop-i.i v.result w.result
+    c.loop-i.auto.i c.loop-i-test.true v.is w.is c.loop-i.invariant c.in_ok-gained_between.ensures.ok
 
 -- at the end of all links
 pub returns : goal.returns
 returns c = record {
-  ok = lists_gained _ c.args.piece.now c.args.path.now c.loop-i.i _ _ c.loop-i-test.false c.loop-i.invariant;
+  ok = lists_gained _ c.args.owners.now c.args.path.now c.loop-i.i _ _ c.loop-i-test.false c.loop-i.invariant;
 }

@@ -12,7 +12,7 @@ pub loop-id-preserved : goal.loop-id-preserved
 loop-id-preserved c =
     let piece = c.args.piece.now in
     let path = c.args.path.now in
-    let ids = c.owners_of-owners.result.now in
+    let ids = c.args.owners.now in
     let i = c.loop-id.id-index in
     let x = get_or ids i 0 in
     let gone : ¬ HasLink path piece = λ link. false≢true (sym c.if-has_link.false ∙ c.has_link.ensures.1 link) in
@@ -23,6 +23,5 @@ loop-id-preserved c =
 -- at the end those of all owners
 pub returns : goal.returns
 returns c = record {
-  ok = lists_lost _ _ c.args.path.now c.owners_of-owners.result.now c.loop-id.id-index _ _ c.loop-id-test.false
-      c.owners_of-owners.ensures.owners c.loop-id.invariant;
+  ok = lists_lost c.args.owners.now _ c.args.path.now c.loop-id.id-index _ _ c.loop-id-test.false c.loop-id.invariant;
 }
