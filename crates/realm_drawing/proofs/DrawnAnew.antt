@@ -1,7 +1,8 @@
 -- This file shows that the pieces that the registry comes to have with a step are those that the step draws anew.
-use Rattle.std.proofs.Common.{◌≡◌, List, map, AllPairs, Result, Ok, Err, IfOk, OnOk, Vec, Global, sym, subst, inl, inr}
+use Rattle.std.proofs.Common.{◌≡◌, ◌⊎◌, List, map, Any, Contains, AllPairs, Result, Ok, Err, IfOk, OnOk, Vec, Global, sym, subst, inl, inr}
 use Rattle.grid_base.specs.Point.{GridPoint, IsBefore}
-use Rattle.grid_base.specs.Drawing.{Drawing}
+use Rattle.grid_base.specs.Segment.{GridSegment}
+use Rattle.grid_base.specs.Drawing.{Drawing, HasLink, IsPiece, IsPoint}
 use Rattle.grid_base.specs.declared.original.Original.{Original}
 use Rattle.grid_base.specs.declared.kinds.Step.{Step}
 use Rattle.component_registry.specs.Registry.{Holdings}
@@ -9,14 +10,53 @@ use Rattle.realm_drawing.specs.Draws.{DrawsAnew}
 use Rattle.realm_drawing.specs.Fresh.{ListsFresh}
 use Rattle.realm_drawing.specs.Kept.{drawn, AreKept, IsKept}
 use Rattle.realm_drawing.specs.Keyed.{KeyedPiece, keyed}
-use Rattle.realm_drawing.specs.Mending.{IsRedrawingsOf}
-use Rattle.realm_drawing.specs.Redraws.{redrawn_original_by}
+use Rattle.realm_drawing.specs.Mending.{IsRedrawingsOf, redrawn_drawing}
+use Rattle.realm_drawing.specs.Redraws.{AreRedrawings, IsRedrawn, redrawn_original_by}
 use Rattle.realm_drawing.specs.declared.redrawing.Redrawings.{Redrawings}
-use Rattle.realm_drawing.proofs.DrawnPieces.{piece_stays, point_stays}
+use Rattle.realm_drawing.proofs.Elements.{Any-weaker, Any-map}
 use Rattle.realm_drawing.proofs.KeptKeys.{key_from_piece}
 use Rattle.realm_drawing.proofs.KeptPieces.{key_is_listed, piece_of_registry}
+use Rattle.realm_drawing.proofs.StepChains.{ArePaths, link_stays, vertex_stays}
 use Rattle.realm_drawing.proofs.Vertices.{vertices_are_ends}
 
+-- R holds of some element, or else Q holds
+Any-or : {X : Type 0} (P R : X → Type 0) (Q : Type 0) → ((x : X) → P x → R x ⊎ Q) → (xs : List X) → Any P xs
+    → Any R xs ⊎ Q
+Any-or P R Q step xs (k, x, within, is, p) =
+    elim (step x p) [ inl holds ↦ inl (k, x, within, is, holds) | inr instead ↦ inr instead ]
+
+-- ---- what stays
+abbrev HasPiece : GridSegment → Original → Type 0
+HasPiece s o = HasLink o.chain s
+
+abbrev HasVertex : GridPoint → Original → Type 0
+HasVertex p o = Contains o.chain p
+
+paths_of : (r : Redrawings) → AreRedrawings r → ArePaths r.first r.second
+paths_of r sound = (sound.first, sound.second)
+
+-- a piece stays unless it is redrawn
+piece_stays : (r : Redrawings) (d : Drawing) (s : GridSegment) → AreRedrawings r → IsPiece d s
+    → IsPiece (redrawn_drawing r d) s ⊎ IsRedrawn r s
+piece_stays r d s sound piece =
+    let Then = λ (o : Original). HasPiece s (redrawn_original_by r o) in
+    let stays = λ (o : Original). link_stays r.first r.second o.chain s (paths_of r sound) piece.0 in
+    elim (Any-or (HasPiece s) Then (IsRedrawn r s) stays d.originals piece.1) [
+      | inl has ↦ inl (piece.0, Any-map (HasPiece s) (redrawn_original_by r) d.originals has)
+      | inr instead ↦ inr instead
+    ]
+
+-- and a point stays
+point_stays : (r : Redrawings) (d : Drawing) (p : GridPoint) → AreRedrawings r → IsPoint d p
+    → IsPoint (redrawn_drawing r d) p
+point_stays r d p sound (inl explicit) = inl explicit
+point_stays r d p sound (inr vertex) =
+    let Then = λ (o : Original). HasVertex p (redrawn_original_by r o) in
+    let stays = λ (o : Original). vertex_stays r.first r.second o.chain p (paths_of r sound) in
+    let some = Any-weaker (HasVertex p) Then stays d.originals vertex in
+    inr (Any-map (HasVertex p) (redrawn_original_by r) d.originals some)
+
+-- ---- what is new
 -- with explicit points that ascend the drawing is kept
 pub kept_with_points : (points : List GridPoint) (originals : List Original) (r : Holdings) → AllPairs IsBefore points
     → AreKept originals r → IsKept points originals r

@@ -1,7 +1,6 @@
--- This file shows which elements the lists have that `map`, `flat_map` and `++` make.
-use Rattle.std.proofs.Common.{◌≡◌, ◌⊎◌, ◌↔◌, zero, suc, List, [], ◌∷◌, ◌++◌, map, flat_map, All, Any, Contains}
+-- This file shows which elements the lists have that `map` and `++` make.
+use Rattle.std.proofs.Common.{◌≡◌, ◌⊎◌, ◌↔◌, zero, suc, List, [], ◌∷◌, ◌++◌, map, All, Any, Contains}
 use Rattle.std.proofs.Common.{refl, sym, subst, inl, inr, arith}
-use Rattle.std.proofs.lemmas.List.Elements.{Contains-append_left, Contains-append_right, Contains-append_cases}
 
 -- ---- some element
 pub Any-head : {X : Type 0} (P : X → Type 0) (x : X) (xs : List X) → P x → Any P (x ∷ xs)
@@ -81,22 +80,5 @@ Contains-map {X} f (x ∷ xs) y =
       λ h. elim (Any-cons_cases P x xs h) [
         | inl first ↦ Contains-head (f x) (map f xs) y first
         | inr later ↦ Contains-later (f x) (map f xs) y (rest.1 later)
-      ],
-    )
-
--- the elements of `flat_map f xs` are those of each list that f gives
-pub Contains-flat_map : {X Y : Type 0} (f : X → List Y) (xs : List X) (y : Y)
-    → Contains (flat_map f xs) y ↔ Any (λ x. Contains (f x) y) xs
-Contains-flat_map {X} f [] y = (λ h. absurd (Contains-nil y h), λ h. absurd (Any-nil (λ x. Contains (f x) y) h))
-Contains-flat_map {X} f (x ∷ xs) y =
-    let rest = Contains-flat_map f xs y in
-    let P = λ (x : X). Contains (f x) y in (
-      λ h. elim (Contains-append_cases (f x) (flat_map f xs) y h) [
-        | inl first ↦ Any-head P x xs first
-        | inr later ↦ Any-later P x xs (rest.0 later)
-      ],
-      λ h. elim (Any-cons_cases P x xs h) [
-        | inl first ↦ Contains-append_left (f x) (flat_map f xs) y first
-        | inr later ↦ Contains-append_right (f x) (flat_map f xs) y (rest.1 later)
       ],
     )

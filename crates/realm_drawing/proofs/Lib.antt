@@ -112,16 +112,12 @@ pub mod LinkSearches
 pub mod FoundSteps
 -- what permitted steps lead to
 pub mod StepOutcomes
--- lists of the links of a path
-pub mod LinkLists
 -- the vertices of redrawn chains
 pub mod RedrawnVertices
 -- the vertices of a path as ends of its links
 mod PathEnds
 -- a chain with the paths of a step
 mod StepChains
--- the pieces and points that steps draw
-pub mod DrawnPieces
 -- the pieces of a drawing that is kept, and their keys
 mod KeptPieces
 -- the vertices of a drawing that is kept

@@ -1,28 +1,18 @@
--- This file shows which links and vertices a chain has once the paths of a step are drawn in it.
-use Rattle.std.proofs.Common.{◌≡◌, ◌≢◌, ◌⊎◌, Option, Some, None, MatchOption, List, Contains, inl, inr}
+-- This file shows which links and vertices of a chain stay where the paths of a step are drawn in it.
+use Rattle.std.proofs.Common.{◌≡◌, ◌⊎◌, Option, Some, None, MatchOption, List, Contains, inl, inr}
 use Rattle.grid_base.specs.Point.{GridPoint, IsBefore}
 use Rattle.grid_base.specs.Segment.{GridSegment}
 use Rattle.grid_base.specs.Drawing.{HasLink}
 use Rattle.component_registry.proofs.Lookups.{this_segment_or_other}
 use Rattle.hook_chain.specs.Redrawing.{redrawn}
-use Rattle.realm_drawing.specs.DrawnLinks.{IsRedrawn, IsDrawn, IsPassed}
-use Rattle.realm_drawing.specs.Redraws.{IsPathFor, AreApart, redrawn_by}
+use Rattle.realm_drawing.specs.Redraws.{IsPathFor, AreApart, IsRedrawn, redrawn_by}
 use Rattle.realm_drawing.specs.declared.redrawing.Redrawing.{Redrawing}
 use Rattle.realm_drawing.specs.declared.redrawing.Redrawings.{Redrawings}
 use Rattle.realm_drawing.proofs.RedrawnLinks.{redrawn_links}
-use Rattle.realm_drawing.proofs.RedrawnVertices.{vertex_of_redrawn}
+use Rattle.realm_drawing.proofs.RedrawnVertices.{stays_in_redrawn}
 
 -- ---- one path
--- a link of the redrawn chain was one and isn't redrawn, or is a link of the path
-link_was_before : (r : Redrawing) (chain : List GridPoint) (s : GridSegment) → IsPathFor r → IsBefore s.a s.b
-    → HasLink (redrawn r.piece r.path chain) s → (HasLink chain s × (s ≢ r.piece)) ⊎ HasLink r.path s
-link_was_before r chain s path ordered link =
-    elim ((redrawn_links r.piece r.path chain s path.ordered path.leads ordered).0 link) [
-      | inl stays ↦ inl stays
-      | inr drawn ↦ inr drawn.1
-    ]
-
--- and a link stays unless it is redrawn
+-- a link stays unless it is redrawn
 link_stays_after : (r : Redrawing) (chain : List GridPoint) (s : GridSegment) → IsPathFor r → IsBefore s.a s.b
     → HasLink chain s → HasLink (redrawn r.piece r.path chain) s ⊎ (s ≡ r.piece)
 link_stays_after r chain s path ordered link = elim (this_segment_or_other r.piece s) [
@@ -40,24 +30,7 @@ both first second = record { first = first; second = second }
 abbrev pub ArePaths : Redrawing → Option Redrawing → Type 0
 ArePaths first second = IsPathFor first × MatchOption second (Unit {0}) (λ r. IsPathFor r × AreApart first r)
 
--- a link of the redrawn chain was one and isn't redrawn, or is drawn
-pub link_was : (first : Redrawing) (second : Option Redrawing) (chain : List GridPoint) (s : GridSegment)
-    → ArePaths first second → IsBefore s.a s.b → HasLink (redrawn_by (both first second) chain) s
-    → (HasLink chain s × (IsRedrawn (both first second) s → ⊥)) ⊎ IsDrawn (both first second) s
-link_was first None chain s paths ordered link = elim (link_was_before first chain s paths.0 ordered link) [
-  | inl was ↦ inl (was.0, λ is. elim is [ inl same ↦ was.1 same | inr never ↦ never ])
-  | inr drawn ↦ inr (inl drawn)
-]
-link_was first (Some r) chain s paths ordered link =
-    elim (link_was_before r (redrawn first.piece first.path chain) s paths.1.0 ordered link) [
-      | inl still ↦ elim (link_was_before first chain s paths.0 ordered still.0) [
-        | inl was ↦ inl (was.0, λ is. elim is [ inl same ↦ was.1 same | inr same ↦ still.1 same ])
-        | inr on_first ↦ inr (inl on_first)
-      ]
-      | inr on_second ↦ inr (inr on_second)
-    ]
-
--- and a link stays unless it is redrawn
+-- a link stays unless it is redrawn
 pub link_stays : (first : Redrawing) (second : Option Redrawing) (chain : List GridPoint) (s : GridSegment)
     → ArePaths first second → IsBefore s.a s.b → HasLink chain s
     → HasLink (redrawn_by (both first second) chain) s ⊎ IsRedrawn (both first second) s
@@ -73,30 +46,11 @@ link_stays first (Some r) chain s paths ordered link = elim (link_stays_after fi
   | inr same ↦ inr (inl same)
 ]
 
--- a vertex of the redrawn chain was one, or a path passes it
-pub vertex_was : (first : Redrawing) (second : Option Redrawing) (chain : List GridPoint) (p : GridPoint)
-    → ArePaths first second → Contains (redrawn_by (both first second) chain) p
-    → Contains chain p ⊎ IsPassed (both first second) p
-vertex_was first None chain p paths there =
-    elim ((vertex_of_redrawn first.piece first.path chain p paths.0.leads).0 there) [
-      | inl was ↦ inl was
-      | inr passed ↦ inr (inl passed)
-    ]
-vertex_was first (Some r) chain p paths there =
-    let once = redrawn first.piece first.path chain in
-    elim ((vertex_of_redrawn r.piece r.path once p paths.1.0.leads).0 there) [
-      | inl still ↦ elim ((vertex_of_redrawn first.piece first.path chain p paths.0.leads).0 still) [
-        | inl was ↦ inl was
-        | inr on_first ↦ inr (inl on_first)
-      ]
-      | inr on_second ↦ inr (inr on_second)
-    ]
-
 -- and a vertex stays
 pub vertex_stays : (first : Redrawing) (second : Option Redrawing) (chain : List GridPoint) (p : GridPoint)
     → ArePaths first second → Contains chain p → Contains (redrawn_by (both first second) chain) p
-vertex_stays first None chain p paths there = (vertex_of_redrawn first.piece first.path chain p paths.0.leads).1 there
+vertex_stays first None chain p paths there = stays_in_redrawn first.piece first.path chain p paths.0.leads there
 vertex_stays first (Some r) chain p paths there =
     let once = redrawn first.piece first.path chain in
-    let there_once = (vertex_of_redrawn first.piece first.path chain p paths.0.leads).1 there in
-    (vertex_of_redrawn r.piece r.path once p paths.1.0.leads).1 there_once
+    let there_once = stays_in_redrawn first.piece first.path chain p paths.0.leads there in
+    stays_in_redrawn r.piece r.path once p paths.1.0.leads there_once

@@ -1,14 +1,12 @@
 -- This file shows what stands for a link of a chain once a path is drawn in the place of a piece.
-use Rattle.std.proofs.Common.{◌≡◌, ◌≢◌, ◌⊎◌, ◌-◌, ◌≤◌, ◌&&◌, if◌then◌else◌, Bool, true, false}
-use Rattle.std.proofs.Common.{List, [], ◌∷◌, length, reverse, Contains, refl, sym, ap, ap₂, subst, ◌∙◌, inl, inr, arith}
-use Rattle.std.proofs.lemmas.List.{reverse-append, length-reverse}
-use Rattle.std.proofs.lemmas.List.Elements.{Contains-append_cases}
+use Rattle.std.proofs.Common.{◌≡◌, ◌≢◌, ◌-◌, ◌≤◌, ◌&&◌, if◌then◌else◌, Bool, true, false}
+use Rattle.std.proofs.Common.{List, [], ◌∷◌, length, reverse, refl, sym, ap₂, ◌∙◌, inl, inr, arith}
+use Rattle.std.proofs.lemmas.List.{length-reverse}
 use Rattle.std.proofs.lemmas.Bool.Decides.{nat_tests}
 use Rattle.grid_base.specs.Point.{GridPoint, point_at, is_point}
 use Rattle.grid_base.specs.Segment.{GridSegment}
 use Rattle.grid_base.specs.Drawing.{IsLink}
 use Rattle.hook_chain.specs.Redrawing.{front}
-use Rattle.realm_drawing.proofs.Elements.{Contains-head, Contains-later, Contains-cons_cases, Contains-nil}
 
 -- the points that stand for the link from v to w, but the last
 abbrev pub stretch : GridSegment → List GridPoint → GridPoint → GridPoint → List GridPoint
@@ -104,41 +102,3 @@ stretch_is_long t path v w long link = by_case (stretch t path v w) (drawn t pat
     by_case way (Forth v_is w_is is) = rw is (omega (arith, length-front path))
     by_case way (Back not_forth v_is w_is is) = rw is (omega (arith, length-front (reverse path), length-reverse path))
     by_case way (Other not_link is) = absurd (not_link link)
-
--- ---- which points stand for a link
--- a path without its last point, and a path back, have no other points
-front_has : (path : List GridPoint) (p : GridPoint) → Contains (front path) p → Contains path p
-front_has [] p there = there
-front_has (v ∷ []) p there = absurd (Contains-nil p there)
-front_has (v ∷ w ∷ path) p there = elim (Contains-cons_cases v (front (w ∷ path)) p there) [
-  | inl here ↦ Contains-head v (w ∷ path) p here
-  | inr later ↦ Contains-later v (w ∷ path) p (front_has (w ∷ path) p later)
-]
-
-reverse_has : (path : List GridPoint) (p : GridPoint) → Contains (reverse path) p → Contains path p
-reverse_has [] p there = there
-reverse_has (v ∷ path) p there =
-    let parts = subst (λ (l : List GridPoint). Contains l p) (reverse-append (v ∷ []) path) there in
-    elim (Contains-append_cases (reverse path) (v ∷ []) p parts) [
-      | inl later ↦ Contains-later v path p (reverse_has path p later)
-      | inr last ↦ elim (Contains-cons_cases v [] p last) [
-        | inl here ↦ Contains-head v path p here
-        | inr none_left ↦ absurd (Contains-nil p none_left)
-      ]
-    ]
-
--- points of the path, or v alone
-pub stretch_has : (t : GridSegment) (path : List GridPoint) (v w p : GridPoint) → Contains (stretch t path v w) p
-    → (v ≡ p) ⊎ Contains path p
-stretch_has t path v w p = by_case (stretch t path v w) (drawn t path v w)
-  where
-    by_case : (way : List GridPoint) → Drawn t path v w way → Contains way p → (v ≡ p) ⊎ Contains path p
-    by_case way (Forth v_is w_is is) there =
-        inr (front_has path p (subst (λ (l : List GridPoint). Contains l p) is there))
-    by_case way (Back not_forth v_is w_is is) there =
-        inr (reverse_has path p (front_has (reverse path) p (subst (λ (l : List GridPoint). Contains l p) is there)))
-    by_case way (Other not_link is) there =
-        elim (Contains-cons_cases v [] p (subst (λ (l : List GridPoint). Contains l p) is there)) [
-          | inl here ↦ inl here
-          | inr none_left ↦ absurd (Contains-nil p none_left)
-        ]

@@ -32,7 +32,5 @@ pub mod StepShares
 pub mod Found
 -- what a step draws
 pub mod Draws
--- the links of the paths of a step, for this crate's own proofs
-pub mod DrawnLinks
 -- registries that lose shares, for this crate's own proofs
 pub mod Leaving

@@ -41,6 +41,10 @@ pub record AreRedrawings (step : Redrawings) : Type 0 where
   pub first : IsPathFor step.first
   pub second : MatchOption step.second (Unit {0}) (λ r. IsPathFor r × AreApart step.first r)
 
+-- s is a piece of the step
+abbrev pub IsRedrawn : Redrawings → GridSegment → Type 0
+IsRedrawn step s = (s ≡ step.first.piece) ⊎ MatchOption step.second ⊥ (λ r. s ≡ r.piece)
+
 -- what comes of a chain that is to become the other: none where it stays
 abbrev pub Becomes : List GridPoint → List GridPoint → Option (List GridPoint) → Type 0
 Becomes chain after found = MatchOption found (after ≡ chain) (λ new. new ≡ after)

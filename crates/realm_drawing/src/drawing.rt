@@ -327,9 +327,8 @@ impl Drawing {
         ensures exact { IfOk result (λ v. (p : GridPoint) → Contains v.items p ↔ IsPoint self.now.drawing p) }
     {
         let mut points = self.explicit.list()?;
-        for original in &self.originals {
-            points.extend_from_slice(original.chain.points())?;
-        }
+        let vertices = self.registry.vertices()?;
+        points.extend_from_slice(&vertices)?;
         points.sort_unstable();
         points.dedup();
         Ok(points)

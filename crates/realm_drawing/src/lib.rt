@@ -4,7 +4,6 @@
 
 mod courses;
 mod drawing;
-mod drawn;
 mod errors;
 mod explicit;
 mod ids;
@@ -22,7 +21,6 @@ mod tests;
 mod violations;
 
 pub use drawing::Drawing;
-pub use drawn::drawn_pieces;
 pub use errors::{ChainError, StepError};
 pub use keyed::KeyedPiece;
 pub use laws::{step_keeps_chains, step_mends, steps_end, valid_chain_stands};

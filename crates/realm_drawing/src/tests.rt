@@ -1,5 +1,5 @@
 //! Worked cases, read off squared paper.
-use crate::{ChainError, Drawing, StepError, crossing_step, drawn_pieces};
+use crate::{ChainError, Drawing, StepError, crossing_step};
 use grid_base::{Point, Segment, Step};
 use std::alloc::Global;
 use std::process::Abort;
@@ -113,20 +113,29 @@ fn chains_once_no_violation_is_left(rt: HostRuntime) -> Result<(), Fail> {
     Ok(())
 }
 
-// The step of two pieces that cross, whichever is named first, and the pieces that it draws.
-fn compare_crossing(
-    rt: &impl Abort,
-    alloc: Global,
-    t: Segment,
-    u: Segment,
-    want: &[[u64; 4]],
-) -> Result<Step, Fail> {
+// The step of two pieces that cross, whichever is named first.
+fn compare_crossing(rt: &impl Abort, t: Segment, u: Segment) -> Result<Step, Fail> {
     let step = crossing_step(&t, &u).ok_or("apart")?;
     assert_eq!(rt; crossing_step(&u, &t), Some(step), "exchanged");
-    let mut drawn = drawn_pieces(alloc, &step)?;
+    Ok(step)
+}
+
+// Takes the step, which draws these pieces anew, each with the key that it has from then on.
+fn compare_redrawn(
+    rt: &impl Abort,
+    alloc: Global,
+    drawing: &mut Drawing,
+    step: &Step,
+    want: &[[u64; 4]],
+) -> Result<(), Fail> {
+    let mut drawn = Vec::new(alloc);
+    for fresh in drawing.redraw(step)? {
+        assert_eq!(rt; drawing.key(&fresh.piece), Some(fresh.key), "{fresh:?}");
+        drawn.push(fresh.piece)?;
+    }
     drawn.sort_unstable();
     assert!(rt; are_pieces(&drawn, want), "{drawn:?}");
-    Ok(step)
+    Ok(())
 }
 
 #[test]
@@ -134,7 +143,7 @@ fn points_and_pieces_of_a_crossing(rt: HostRuntime) -> Result<(), Fail> {
     let mut drawing = placed(rt.alloc(), &[[0, 0, 10, 4], [0, 4, 10, 0]])?;
     let (t, u) = (segment([0, 0, 10, 4])?, segment([0, 4, 10, 0])?);
     let want = [[0, 0, 5, 2], [0, 4, 5, 2], [5, 2, 10, 0], [5, 2, 10, 4]];
-    let step = compare_crossing(&rt, rt.alloc(), t, u, &want)?;
+    let step = compare_crossing(&rt, t, u)?;
     assert_eq!(rt;
         step,
         Step::Meet {
@@ -144,7 +153,7 @@ fn points_and_pieces_of_a_crossing(rt: HostRuntime) -> Result<(), Fail> {
         }
     );
     assert_eq!(rt; drawing.first_violation(), Some(step));
-    drawing.apply(&step)?;
+    compare_redrawn(&rt, rt.alloc(), &mut drawing, &step, &want)?;
     assert_eq!(rt; drawing.first_violation(), None);
     assert!(rt; are_pieces(&drawing.pieces()?, &want), "pieces");
     let vertices = [[0, 0], [0, 4], [5, 2], [10, 0], [10, 4]];

@@ -1,4 +1,3 @@
-use Rattle.std.proofs.Common.{◌≤◌, length}
 use Rattle.std.proofs.lemmas.List.Filters.{dedup_is}
 use Rattle.grid_base.proofs.Orders.{points_ascend}
 use Rattle.realm_drawing.proofs.Listings.{points_are_listed}
@@ -10,13 +9,12 @@ returns-clause-ascending c =
     let sorted = c.sort_unstable.new.self.items in
     rw (dedup_is _ _ _ c.dedup.ensures.filtered) (points_ascend sorted c.sort_unstable.ensures.sorted)
 
--- at the end of the loop it had all points
+-- the points that are used are the vertices
 pub returns-clause-exact : goal.returns-clause-exact
 returns-clause-exact c =
-    let originals = c.self.inside.originals.items in
+    let inside = c.self.inside in
     let sorted = c.sort_unstable.new.self.items in
-    let i = c.loop-original.original-index in
-    let past : length originals ≤ i = rw (← c.deref-original-items.ensures.value) c.loop-original-test.false in
-    let all = rw (← c.self.view_is) at c.loop-original.invariant in
+    let whole = rw (c.in_ok-points.ensures, c.deref.ensures.value) at c.in_ok-extend_from_slice.ensures.items in
     rw (dedup_is _ _ _ c.dedup.ensures.filtered, ← c.self.view_is)
-    (points_are_listed c.self.inside.explicit originals i _ sorted past all c.sort_unstable.ensures.permutation)
+    (points_are_listed inside.explicit inside.originals.items _ c.self.invariant c.in_ok-vertices.vertices.items _ sorted
+    c.in_ok-vertices.ensures.exact whole c.sort_unstable.ensures.permutation)
