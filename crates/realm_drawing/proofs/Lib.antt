@@ -126,6 +126,8 @@ mod Vertices
 mod StandingChains
 -- what a step draws anew, with keys
 mod DrawnAnew
+-- searches for a point inside a segment
+mod ColumnSearches
 -- the list of all points
 mod Listings
 -- one more explicit point

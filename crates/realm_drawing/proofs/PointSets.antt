@@ -139,7 +139,7 @@ abbrev pub is_between_corners : GridPoint → GridPoint → GridPoint → Bool
 is_between_corners v w p = range_contains point_cmp (Included (least_corner v w)) (Included (greatest_corner v w)) p
 
 -- the box lies between its least and its greatest corner
-box_between_corners : (v w p : GridPoint) → v.x ≤ w.x → InBox v w p → is_between_corners v w p ≡ true
+pub box_between_corners : (v w p : GridPoint) → v.x ≤ w.x → InBox v w p → is_between_corners v w p ≡ true
 box_between_corners v w p across inside =
     let from_least : is_gt (point_cmp (least_corner v w) p) ≡ false = grind (arith, nat_tests) in
     let to_greatest : is_gt (point_cmp p (greatest_corner v w)) ≡ false = grind (arith, nat_tests) in

@@ -1,9 +1,10 @@
 //! The drawing: its explicit points in a set, its originals in a list by rising id, and a registry that knows which
 //! originals own each piece. A call that takes memory takes it all before it changes anything.
-ghost use Rattle.std.specs.Prelude.{◌≡◌, ◌⊎◌, ◌↔◌, ℕ, false, IsTrue, AllPairs, Contains, Some, Err};
+ghost use Rattle.std.specs.Prelude.{◌≡◌, ◌⊎◌, ◌↔◌, ℕ, false, IsTrue, All, AllPairs, Contains, Some, Err};
 ghost use Rattle.std.specs.Prelude.{OnOk, OnErr, IfOk, IsNone, IsSome, IfSome};
 ghost use Rattle.grid_base.specs.Point.{GridPoint, InBox, IsBefore};
 ghost use Rattle.grid_base.specs.Segment.{GridSegment, IsSegmentBefore};
+ghost use Rattle.grid_base.specs.Crossing.{Inside};
 ghost use Rattle.grid_base.specs.Drawing.{Drawing as Drawn, IsPoint, IsPiece, HasViolation};
 ghost use Rattle.hook_chain.specs.ValidChain.{ValidChain};
 ghost use Rattle.realm_drawing.specs.Steps.{Permitted};
@@ -310,6 +311,14 @@ impl Drawing {
         ensures ascending { IfOk result (λ v. AllPairs IsBefore v.items) }
     {
         self.explicit.in_box_of(s)
+    }
+
+    /// An explicit point inside `s`; none where there is none. Takes no memory.
+    pub fn explicit_inside(&self, s: &Segment) -> Option<Point>
+        ensures none { IsNone result ↔ All (λ p. Inside p s.now → ⊥) self.now.drawing.points }
+        ensures inside { IfSome result (λ p. Contains self.now.drawing.points p × Inside p s.now) }
+    {
+        self.explicit.first_inside(s)
     }
 
     /// A step that mends a violation, and may be taken; none where there is no violation. Takes no memory, and compares

@@ -86,12 +86,16 @@ impl ExplicitPoints {
         Ok(list)
     }
 
-    // The first that is inside `s`.
+    // The first that is inside `s`. Only the columns of its box are read.
     pub(crate) fn first_inside(&self, s: &Segment) -> Option<Point>
         ensures { MatchOption result (All (λ p. Inside p s.now → ⊥) self.now)
             (λ p. Contains self.now p × Inside p s.now) }
     {
-        self.set.iter().find(|p| in_side(s, p)).copied()
+        let (least, greatest) = corners_of(s);
+        self.set
+            .range(least..=greatest)
+            .find(|p| in_side(s, p))
+            .copied()
     }
 }
 
