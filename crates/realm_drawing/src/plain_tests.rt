@@ -2,12 +2,11 @@
 //! and have ends inside one another, steps are taken in both until no violation is left, and all chains are compared
 //! after each.
 use crate::Drawing;
-use crate::tests::placed;
+use crate::tests::{placed, point};
 use grid_base::{Point, Segment, Step};
 use hook_chain::hook;
 use std::alloc::Global;
 use std::process::Abort;
-use std::test::Fail;
 
 // A number below 9, the next of a fixed series that looks like chance.
 fn drawn(last: &mut u64) -> u64 {
@@ -17,45 +16,63 @@ fn drawn(last: &mut u64) -> u64 {
     (*last >> 33) % 9
 }
 
-// Ten segments, without those that would have equal ends.
-fn drawn_segments(alloc: Global, last: &mut u64) -> Result<Vec<[u64; 4]>, Fail> {
+// The ends of ten segments, without those that would have equal ends.
+fn drawn_segments(rt: &impl Abort, alloc: Global, last: &mut u64) -> Vec<[u64; 4]> {
     let mut list = Vec::new(alloc);
     for _ in 0..10 {
         let [x, y, u, v] = [drawn(last), drawn(last), drawn(last), drawn(last)];
         if [x, y] != [u, v] {
-            list.push([x, y, u, v])?;
+            list.push([x, y, u, v]).expect(rt, "memory");
         }
     }
-    Ok(list)
+    list
 }
 
-// A piece, and the points from its lesser end to its greater that are to stand in its place.
-#[derive(Drop)]
-struct Way {
-    piece: Segment,
-    path: Vec<Point>,
+// The chain with the path, from the lesser end of the piece to its greater, in the place of each link that is the piece.
+fn replaced(
+    rt: &impl Abort,
+    alloc: Global,
+    chain: &[Point],
+    piece: &Segment,
+    path: &[Point],
+) -> Vec<Point> {
+    let (a, b) = (piece.a(), piece.b());
+    let mut list = Vec::new(alloc);
+    for i in 1..chain.len() {
+        let link = [chain[i - 1], chain[i]];
+        if link == [a, b] {
+            list.extend_from_slice(path).expect(rt, "memory");
+            list.pop();
+        } else if link == [b, a] {
+            for p in path.iter().rev() {
+                list.push(*p).expect(rt, "memory");
+            }
+            list.pop();
+        } else {
+            list.push(chain[i - 1]).expect(rt, "memory");
+        }
+    }
+    if let Some(last) = chain.last() {
+        list.push(*last).expect(rt, "memory");
+    }
+    list
 }
 
-// The piece led by its hook.
-fn hooked(alloc: Global, piece: &Segment, x: &Point) -> Result<Way, Fail> {
-    let mut path = Vec::new(alloc);
-    path.extend_from_slice(hook(alloc, piece, *x)?.points())?;
-    Ok(Way {
-        piece: *piece,
-        path,
-    })
+fn replace(
+    rt: &impl Abort,
+    alloc: Global,
+    chains: &mut [Vec<Point>],
+    piece: &Segment,
+    path: &[Point],
+) {
+    for chain in chains {
+        *chain = replaced(rt, alloc, chain, piece, path);
+    }
 }
 
-// The piece led by these points, the first or last of which may be its end.
-fn led(alloc: Global, piece: &Segment, by: &[Point]) -> Result<Way, Fail> {
-    let mut path = vec![in alloc; piece.a()]?;
-    path.extend_from_slice(by)?;
-    path.push(piece.b())?;
-    path.dedup();
-    Ok(Way {
-        piece: *piece,
-        path,
-    })
+fn lead(rt: &impl Abort, alloc: Global, chains: &mut [Vec<Point>], piece: &Segment, x: Point) {
+    let path = hook(alloc, piece, x).expect(rt, "a hook");
+    replace(rt, alloc, chains, piece, path.points());
 }
 
 // The lower left corner of the cell at whose centre a rising diagonal and a falling one cross. Along the first the
@@ -70,125 +87,91 @@ fn corner(rising: &Segment, falling: &Segment) -> [u64; 2] {
     ]
 }
 
-// What the step puts in the place of its pieces.
-fn ways(alloc: Global, step: &Step) -> Result<Vec<Way>, Fail> {
-    match step {
-        Step::Split { p, t } => Ok(vec![in alloc; hooked(alloc, t, p)?]?),
-        Step::Meet { t, u, x } => Ok(vec![in alloc; hooked(alloc, t, x)?, hooked(alloc, u, x)?]?),
-        Step::Corner { t, u } => {
-            let [x, y] = corner(t, u);
-            let z = Point::new(x, y)?;
-            let above = Point::new(x, y.wrapping_add(1))?;
-            let beside = Point::new(x.wrapping_add(1), y)?;
-            Ok(vec![in alloc; led(alloc, t, &[z])?, led(alloc, u, &[above, z, beside])?]?)
-        }
+// The falling diagonal goes round the corner, where the first and the last of these points may be one with its ends.
+fn round(
+    rt: &impl Abort,
+    alloc: Global,
+    chains: &mut [Vec<Point>],
+    piece: &Segment,
+    [x, y]: [u64; 2],
+) {
+    let mut path = Vec::new(alloc);
+    path.push(piece.a()).expect(rt, "memory");
+    for at in [[x, y.wrapping_add(1)], [x, y], [x.wrapping_add(1), y]] {
+        path.push(point(rt, at)).expect(rt, "memory");
     }
+    path.push(piece.b()).expect(rt, "memory");
+    path.dedup();
+    replace(rt, alloc, chains, piece, &path);
 }
 
-// The chain with the way in the place of each link that is its piece.
-fn replaced(alloc: Global, chain: &[Point], way: &Way) -> Result<Vec<Point>, Fail> {
-    let (a, b) = (way.piece.a(), way.piece.b());
-    let mut list = Vec::new(alloc);
-    for i in 1..chain.len() {
-        let link = [chain[i - 1], chain[i]];
-        if link == [a, b] {
-            list.extend_from_slice(&way.path)?;
-            list.pop();
-        } else if link == [b, a] {
-            for p in way.path.iter().rev() {
-                list.push(*p)?;
-            }
-            list.pop();
-        } else {
-            list.push(chain[i - 1])?;
+// Puts the paths of the step in the place of its pieces, and answers its kind.
+fn take(rt: &impl Abort, alloc: Global, chains: &mut [Vec<Point>], step: &Step) -> usize {
+    match step {
+        Step::Split { p, t } => {
+            lead(rt, alloc, chains, t, *p);
+            0
+        }
+        Step::Meet { t, u, x } => {
+            lead(rt, alloc, chains, t, *x);
+            lead(rt, alloc, chains, u, *x);
+            1
+        }
+        Step::Corner { t, u } => {
+            let z = corner(t, u);
+            lead(rt, alloc, chains, t, point(rt, z));
+            round(rt, alloc, chains, u, z);
+            2
         }
     }
-    if let Some(last) = chain.last() {
-        list.push(*last)?;
-    }
-    Ok(list)
 }
 
 // The chains before the first step.
-fn straight(alloc: Global, segments: &[[u64; 4]]) -> Result<Vec<Vec<Point>>, Fail> {
+fn straight(rt: &impl Abort, alloc: Global, segments: &[[u64; 4]]) -> Vec<Vec<Point>> {
     let mut chains = Vec::new(alloc);
     for [x, y, u, v] in segments {
-        let mut chain = vec![in alloc; Point::new(*x, *y)?, Point::new(*u, *v)?]?;
+        let mut chain = Vec::new(alloc);
+        chain.push(point(rt, [*x, *y])).expect(rt, "memory");
+        chain.push(point(rt, [*u, *v])).expect(rt, "memory");
         chain.sort_unstable();
-        chains.push(chain)?;
+        chains.push(chain).expect(rt, "memory");
     }
-    Ok(chains)
+    chains
 }
 
 // Whether the chain of each original is the one of the list.
-fn compare(rt: &impl Abort, drawing: &Drawing, chains: &[Vec<Point>]) -> Result<(), Fail> {
+fn compare(rt: &impl Abort, drawing: &Drawing, chains: &[Vec<Point>]) {
     let mut id: u32 = 0;
     for chain in chains {
         id = id.wrapping_add(1);
         assert_eq!(rt; drawing.chain(id), Some(chain.as_slice()), "{id}");
     }
-    Ok(())
 }
 
-// How many steps of each kind were taken.
-#[derive(Clone, Copy, Debug)]
-struct Taken {
-    splits: u64,
-    meets: u64,
-    corners: u64,
-}
-
-impl Taken {
-    fn count(&mut self, step: &Step) {
-        let kind = match step {
-            Step::Split { .. } => &mut self.splits,
-            Step::Meet { .. } => &mut self.meets,
-            Step::Corner { .. } => &mut self.corners,
-        };
-        *kind = kind.wrapping_add(1);
-    }
-}
-
-// Takes steps in both until no violation is left.
-fn replay(
-    rt: &impl Abort,
-    alloc: Global,
-    segments: &[[u64; 4]],
-    taken: &mut Taken,
-) -> Result<(), Fail> {
-    let mut drawing = placed(alloc, segments)?;
-    let mut chains = straight(alloc, segments)?;
+// Takes steps in both until no violation is left, and counts them by kind.
+fn replay(rt: &impl Abort, alloc: Global, segments: &[[u64; 4]], taken: &mut [u64; 3]) {
+    let mut drawing = placed(alloc, segments).expect(rt, "originals");
+    let mut chains = straight(rt, alloc, segments);
     for _ in 0..1000 {
-        compare(rt, &drawing, &chains)?;
+        compare(rt, &drawing, &chains);
         let Some(step) = drawing.first_violation() else {
-            return Ok(());
+            return;
         };
-        taken.count(&step);
-        drawing.apply(&step)?;
-        for way in &ways(alloc, &step)? {
-            for chain in &mut chains {
-                *chain = replaced(alloc, chain, way)?;
-            }
-        }
+        let kind = take(rt, alloc, &mut chains, &step);
+        taken[kind % 3] = taken[kind % 3].wrapping_add(1);
+        drawing.apply(&step).expect(rt, "memory");
     }
-    Err(Fail::new("steps without end"))
+    assert_eq!(rt; drawing.first_violation(), None, "steps without end");
 }
 
 #[test]
-fn chains_follow_lists_of_points(rt: HostRuntime) -> Result<(), Fail> {
+fn chains_follow_lists_of_points(rt: HostRuntime) {
     let mut last = 1;
-    let mut taken = Taken {
-        splits: 0,
-        meets: 0,
-        corners: 0,
-    };
+    let mut taken = [0, 0, 0];
     for _ in 0..100 {
-        let segments = drawn_segments(rt.alloc(), &mut last)?;
-        replay(&rt, rt.alloc(), &segments, &mut taken)?;
+        let segments = drawn_segments(&rt, rt.alloc(), &mut last);
+        replay(&rt, rt.alloc(), &segments, &mut taken);
     }
-    assert!(rt;
-        taken.splits > 200 && taken.meets > 500 && taken.corners > 10,
-        "{taken:?}"
-    );
-    Ok(())
+    let [splits, meets, corners] = taken;
+    assert!(rt; splits > 200 && meets > 500 && corners > 10, "{taken:?}");
 }
