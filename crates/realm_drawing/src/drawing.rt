@@ -198,22 +198,17 @@ impl Drawing {
 
     // Takes a step that is permitted.
     fn take(&mut self, step: &Step) -> Result<Vec<KeyedPiece>, NoMemory>
-        requires parts { HasParts self.old.drawing step.now }
-        requires mending { IsMending step.now }
+        requires permitted { IsPermitted self.old.drawing step.now }
         ensures ok { OnOk result (Permitted self.old.drawing step.now self.new.drawing) }
         ensures anew { IfOk result (λ list. DrawsAnew step.now self.old self.new list.items) }
-        ensures permitted { IsPermitted self.old.drawing step.now }
         ensures stand { AllStand self.new.drawing }
         ensures keyed { AreKeyed self.new }
         ensures keys { KeepsKeys self.old self.new }
         ensures unchanged { OnErr result (self.new ≡ self.old) }
     {
-        self.promises();
         let alloc = *self.originals.allocator();
         let redrawings = redrawings_of(alloc, step)?;
-        let fresh = put_paths(alloc, &mut self.originals, &mut self.registry, &redrawings);
-        self.promises();
-        fresh
+        put_paths(alloc, &mut self.originals, &mut self.registry, &redrawings)
     }
 
     // What is true of a drawing at any time.
@@ -227,8 +222,7 @@ impl Drawing {
 
     // Whether the step may be taken.
     fn permits(&self, step: &Step) -> bool
-        ensures permitted { IsTrue result ↔ (HasParts self.now.drawing step.now × IsMending step.now) }
-        ensures refused { result ≡ false → IsPermitted self.now.drawing step.now → ⊥ }
+        ensures permitted { IsTrue result ↔ IsPermitted self.now.drawing step.now }
         ensures stand { AllStand self.now.drawing }
         ensures keyed { AreKeyed self.now }
         ensures keys { KeepsKeys self.now self.now }

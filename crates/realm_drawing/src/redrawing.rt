@@ -62,8 +62,8 @@ pub(crate) fn put_paths(
     ensures fresh { IfOk result (λ list. ListsFresh registry.old registry.new list.items) }
     ensures kept { AreKept originals.new.items registry.new }
     ensures keys { KeepsKeys registry.old registry.new }
-    ensures originals_unchanged { OnErr result (originals.new.items ≡ originals.old.items) }
-    ensures registry_unchanged { OnErr result (registry.new ≡ registry.old) }
+    ensures unchanged { OnErr result
+        ((originals.new.items ≡ originals.old.items) × (registry.new ≡ registry.old)) }
 {
     let plan = plan_of(alloc, originals, registry, step)?;
     let fresh = add_shares(alloc, registry, plan.more.as_slice())?;
