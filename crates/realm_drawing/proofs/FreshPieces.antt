@@ -6,13 +6,13 @@ use Rattle.std.proofs.lemmas.List.Elements.{All-contains, Contains-push, Contain
 use Rattle.std.proofs.lemmas.List.Quantifiers.{all_pairs_push}
 use Rattle.std.proofs.lemmas.Option.{same_Some}
 use Rattle.grid_base.specs.Segment.{GridSegment}
+use Rattle.grid_base.proofs.Elements.{Contains-nil}
 use Rattle.component_registry.specs.Registry.{Holdings, IsPiece, key_of, IsSound}
 use Rattle.component_registry.proofs.Lookups.{this_segment_or_other}
 use Rattle.realm_drawing.specs.declared.shares.Share.{Share}
 use Rattle.realm_drawing.specs.Fresh.{ListsFresh, ListsIfNew}
 use Rattle.realm_drawing.specs.Keyed.{KeyedPiece, keyed}
 use Rattle.realm_drawing.specs.Shares.{share_of, KeepsKeys, HasMore, HasFewer}
-use Rattle.realm_drawing.proofs.Elements.{Contains-nil}
 use Rattle.realm_drawing.proofs.KeptKeys.{piece_from_key, key_from_piece, piece_with_owners}
 use Rattle.realm_drawing.proofs.ShareChanges.{Contains-single}
 

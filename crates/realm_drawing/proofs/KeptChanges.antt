@@ -12,6 +12,7 @@ use Rattle.grid_base.specs.Point.{GridPoint}
 use Rattle.grid_base.specs.Segment.{GridSegment}
 use Rattle.grid_base.specs.Drawing.{HasLink}
 use Rattle.grid_base.specs.declared.original.Original.{Original}
+use Rattle.grid_base.proofs.Elements.{Contains-nil}
 use Rattle.hook_chain.specs.ValidChain.{ValidChain}
 use Rattle.component_registry.specs.Registry.{Holdings, IsSound}
 use Rattle.realm_drawing.specs.declared.shares.Share.{Share}
@@ -21,7 +22,7 @@ use Rattle.realm_drawing.specs.Kept.{IsKept}
 use Rattle.realm_drawing.specs.Shares.{share_of, Held, HasMore, ListsAlso, IsOfChain}
 use Rattle.realm_drawing.specs.Leaving.{LosesShares}
 use Rattle.realm_drawing.proofs.Elements.{Any-head, Any-later, Any-nil, Any-single, Any-cons_cases, Any-append_cases}
-use Rattle.realm_drawing.proofs.Elements.{Any-append_left, Any-append_right, All-of_some, Contains-nil}
+use Rattle.realm_drawing.proofs.Elements.{Any-append_left, Any-append_right, All-of_some}
 
 -- ---- one chain more
 -- the original with this chain

@@ -10,6 +10,7 @@ use Rattle.grid_base.specs.Segment.{GridSegment, segment_cmp}
 use Rattle.grid_base.specs.Drawing.{HasLink, IsPiece}
 use Rattle.grid_base.specs.declared.original.Original.{Original}
 use Rattle.grid_base.specs.declared.segment.Segment.{Segment}
+use Rattle.grid_base.proofs.Elements.{Contains-nil}
 use Rattle.component_registry.specs.Registry as registries
 use Rattle.component_registry.specs.Registry.{Holding, Holdings, key_of, owners_of, Owns}
 use Rattle.component_registry.proofs.Registries.{piece_from_owner}
@@ -18,7 +19,7 @@ use Rattle.realm_drawing.specs.Keyed as keyed_drawings
 use Rattle.realm_drawing.specs.Keyed.{KeyedPiece, KeyedDrawing, AreKeyed, keyed, empty_drawing, HasKey}
 use Rattle.realm_drawing.specs.Kept.{drawn, IsKept}
 use Rattle.realm_drawing.specs.Shares.{KeepsKeys}
-use Rattle.realm_drawing.proofs.Elements.{Any-weaker, Any-nil, Contains-nil}
+use Rattle.realm_drawing.proofs.Elements.{Any-weaker, Any-nil}
 use Rattle.realm_drawing.proofs.Keys.{has_key}
 
 -- ---- the empty drawing

@@ -9,11 +9,12 @@ use Rattle.std.proofs.lemmas.Option.{same_Some, none-some}
 use Rattle.std.proofs.lemmas.Cmp.{tied_itself}
 use Rattle.grid_base.specs.Segment.{GridSegment, segment_cmp}
 use Rattle.grid_base.proofs.Orders.{segment_cmp-total}
+use Rattle.grid_base.proofs.Elements.{Contains-later, Contains-cases, Contains-nil}
 use Rattle.component_registry.specs.Registry.{Holding, Holdings, key_of}
 use Rattle.component_registry.proofs.Lookups.{this_segment_or_other, other_segment_passed}
 use Rattle.realm_drawing.specs.Keyed.{KeyedPiece, keyed}
 use Rattle.realm_drawing.specs.Kept.{keys_in}
-use Rattle.realm_drawing.proofs.Elements.{Contains-map, Contains-head, Contains-later, Contains-cons_cases, Contains-nil}
+use Rattle.realm_drawing.proofs.Elements.{Contains-map, Contains-head}
 
 abbrev Entry : Type 0
 Entry = GridSegment × Holding
@@ -51,7 +52,7 @@ found_is_there s h (e ∷ es) is = elim (this_segment_or_other s e.0) [
 -- each key of a list of keys that rise from x on comes after x
 comes_later : (x s : GridSegment) (h : Holding) (es : List Entry) → T (below_all segment_cmp x es) → Contains es (s, h) → s ≢ x
 comes_later x s h [] below there = absurd (Contains-nil (s, h) there)
-comes_later x s h (e ∷ es) below there = elim (Contains-cons_cases e es (s, h) there) [
+comes_later x s h (e ∷ es) below there = elim (Contains-cases e es (s, h) there) [
   | inl first ↦ λ same.
       let less = subst (λ (t : GridSegment). T (is_lt (segment_cmp x t))) (ap (λ (f : Entry). f.0) first ∙ same) (first_of _ _ below) in
       absurd (subst (λ o. T (is_lt o)) (tied_itself segment_cmp-total x) less)
@@ -62,7 +63,7 @@ comes_later x s h (e ∷ es) below there = elim (Contains-cons_cases e es (s, h)
 there_is_found : (s : GridSegment) (h : Holding) (es : List Entry) → T (is_sorted segment_cmp es) → Contains es (s, h)
     → find segment_cmp s es ≡ Some h
 there_is_found s h [] sorted there = absurd (Contains-nil (s, h) there)
-there_is_found s h (e ∷ es) sorted there = elim (Contains-cons_cases e es (s, h) there) [
+there_is_found s h (e ∷ es) sorted there = elim (Contains-cases e es (s, h) there) [
   | inl first ↦ subst (λ (f : Entry). find segment_cmp f.0 (e ∷ es) ≡ Some f.1) first (first_is_found e es)
   | inr later ↦
       let other : e.0 ≢ s = λ same. comes_later e.0 s h es (first_of _ _ sorted) later (sym same) in

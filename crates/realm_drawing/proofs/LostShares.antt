@@ -6,11 +6,12 @@ use Rattle.std.specs.Option.{IsNone}
 use Rattle.std.proofs.lemmas.Option.{same_Some}
 use Rattle.grid_base.specs.Point.{GridPoint}
 use Rattle.grid_base.specs.Segment.{GridSegment, segment_of}
+use Rattle.grid_base.proofs.Elements.{Contains-cases, Contains-nil}
 use Rattle.component_registry.specs.Registry.{Holdings, IsSound}
 use Rattle.realm_drawing.specs.declared.shares.Share.{Share}
 use Rattle.realm_drawing.specs.Shares.{share_of, KeepsKeys, HasFewer, IsBetween, IsOfChain}
 use Rattle.realm_drawing.specs.Leaving.{LosesShares}
-use Rattle.realm_drawing.proofs.Elements.{Contains-head, Contains-cons_cases, Contains-nil}
+use Rattle.realm_drawing.proofs.Elements.{Contains-head}
 use Rattle.realm_drawing.proofs.PathLinks.{no_link_at_first, made_between}
 use Rattle.realm_drawing.proofs.LinkShares.{IsAmong, next_among, of_chain}
 use Rattle.realm_drawing.proofs.KeptKeys.{KeepsKeys-trans, piece_with_owners}
@@ -75,7 +76,7 @@ loses_between r t s id v w none is less =
     loses_same r t (Contains (share_of s id ∷ [])) (λ y. (y.id ≡ id) × IsBetween y.piece v w)
     (λ y.
     let made = made_between s y.piece v w none is in (
-      λ there. elim (Contains-cons_cases (share_of s id) [] y there) [
+      λ there. elim (Contains-cases (share_of s id) [] y there) [
         | inl here ↦ (ap (λ z. z.id) (sym here), made.1 (ap (λ z. z.piece) (sym here)))
         | inr later ↦ absurd (Contains-nil y later)
       ],

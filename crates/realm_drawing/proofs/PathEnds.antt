@@ -4,9 +4,10 @@ use Rattle.grid_base.specs.Point.{GridPoint, IsBefore}
 use Rattle.grid_base.specs.Segment.{GridSegment, IsEnd, segment_of}
 use Rattle.grid_base.specs.Drawing.{IsLink, HasLink}
 use Rattle.grid_base.proofs.Ends.{not_before_itself}
+use Rattle.grid_base.proofs.Elements.{Contains-cases, Contains-nil}
 use Rattle.component_registry.proofs.Lookups.{this_point_or_other}
 use Rattle.hook_chain.specs.Chains.{Leads}
-use Rattle.realm_drawing.proofs.Elements.{Contains-head, Contains-cons_cases, Contains-nil}
+use Rattle.realm_drawing.proofs.Elements.{Contains-head}
 use Rattle.realm_drawing.proofs.PathLinks.{segment_of-between}
 
 -- s is a link of the path, its lesser end first, and p is an end of it
@@ -51,11 +52,11 @@ IsAlone a b path p = ((a ≡ p) × (b ≡ p)) ⊎ ((s : GridSegment) × IsLinkEn
 alone_or_at_link : (a b : GridPoint) (path : List GridPoint) (p : GridPoint) → Leads a b path → Contains path p
     → IsAlone a b path p
 alone_or_at_link a b [] p leads there = absurd leads
-alone_or_at_link a b (v ∷ []) p leads there = elim (Contains-cons_cases v [] p there) [
+alone_or_at_link a b (v ∷ []) p leads there = elim (Contains-cases v [] p there) [
   | inl here ↦ inl (sym leads.0 ∙ here, sym leads.1 ∙ here)
   | inr none_left ↦ absurd (Contains-nil p none_left)
 ]
-alone_or_at_link a b (v ∷ w ∷ path) p leads there = elim (Contains-cons_cases v (w ∷ path) p there) [
+alone_or_at_link a b (v ∷ w ∷ path) p leads there = elim (Contains-cases v (w ∷ path) p there) [
   | inl here ↦ elim (this_point_or_other p w) [
     | inl same ↦ elim (alone_or_at_link w b (w ∷ path) p leads.1 (Contains-head w path p same)) [
       | inl alone ↦ inl (sym leads.0 ∙ here, alone.1)

@@ -14,8 +14,9 @@ use Rattle.std.proofs.lemmas.Map.Keys.{Less-from_sorted}
 use Rattle.std.proofs.lemmas.Map.Views.{range_contains-from_IsInRange, btree_set_contains_iff}
 use Rattle.grid_base.specs.Point.{GridPoint, point_at, InBox, IsBefore, point_cmp}
 use Rattle.grid_base.proofs.Orders.{point_cmp-total, point_cmp-Less}
+use Rattle.grid_base.proofs.Elements.{Contains-later, Contains-cases, Contains-nil}
 use Rattle.component_registry.proofs.Lookups.{point_exact, this_point_or_other, other_point_passed}
-use Rattle.realm_drawing.proofs.Elements.{Contains-head, Contains-later, Contains-cons_cases, Contains-nil}
+use Rattle.realm_drawing.proofs.Elements.{Contains-head}
 
 -- ---- the list of a set
 -- it ascends
@@ -78,18 +79,18 @@ filter_more : {X : Type 0} (test : X → Bool) (y : X) (xs : List X) (x : X) (pa
     → Contains (filter test xs) x ↔ (Contains xs x × IsTrue (test x))
     → Contains (cond passes (y ∷ filter test xs) (filter test xs)) x ↔ (Contains (y ∷ xs) x × IsTrue (test x))
 filter_more test y xs x true is rest = (
-  λ there. elim (Contains-cons_cases y (filter test xs) x there) [
+  λ there. elim (Contains-cases y (filter test xs) x there) [
     | inl first ↦ (Contains-head y xs x first, subst (λ z. IsTrue (test z)) first is)
     | inr later ↦ (Contains-later y xs x (rest.0 later).0, (rest.0 later).1)
   ],
-  λ both. elim (Contains-cons_cases y xs x both.0) [
+  λ both. elim (Contains-cases y xs x both.0) [
     | inl first ↦ Contains-head y (filter test xs) x first
     | inr later ↦ Contains-later y (filter test xs) x (rest.1 (later, both.1))
   ],
 )
 filter_more test y xs x false is rest = (
   λ there. (Contains-later y xs x (rest.0 there).0, (rest.0 there).1),
-  λ both. elim (Contains-cons_cases y xs x both.0) [
+  λ both. elim (Contains-cases y xs x both.0) [
     | inl first ↦ absurd (true≢false (sym both.1 ∙ subst (λ z. test z ≡ false) first is))
     | inr later ↦ rest.1 (later, both.1)
   ],

@@ -3,9 +3,10 @@ use Rattle.std.proofs.Common.{List, [], ◌∷◌, Contains, subst, inl, inr}
 use Rattle.std.proofs.lemmas.List.Elements.{Contains-append_right}
 use Rattle.grid_base.specs.Point.{GridPoint}
 use Rattle.grid_base.specs.Segment.{GridSegment}
+use Rattle.grid_base.proofs.Elements.{Contains-cases}
 use Rattle.hook_chain.specs.Chains.{Leads}
 use Rattle.hook_chain.specs.Redrawing.{redrawn}
-use Rattle.realm_drawing.proofs.Elements.{Contains-head, Contains-cons_cases}
+use Rattle.realm_drawing.proofs.Elements.{Contains-head}
 use Rattle.realm_drawing.proofs.JoinedLinks.{BeginsWith}
 use Rattle.realm_drawing.proofs.RedrawnLinks.{redrawn_begins}
 use Rattle.realm_drawing.proofs.Stretches.{stretch}
@@ -21,7 +22,7 @@ stays_in_redrawn t path [] p leads there = there
 stays_in_redrawn t path (v ∷ []) p leads there = there
 stays_in_redrawn t path (v ∷ w ∷ chain) p leads there =
     let whole = redrawn t path (v ∷ w ∷ chain) in
-    elim (Contains-cons_cases v (w ∷ chain) p there) [
+    elim (Contains-cases v (w ∷ chain) p there) [
       | inl here ↦
           let first = first_is_there v whole (redrawn_begins t path v (w ∷ chain) leads) in
           subst (λ q. Contains whole q) here first

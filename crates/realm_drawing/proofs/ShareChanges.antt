@@ -8,12 +8,13 @@ use Rattle.std.proofs.lemmas.Bool.{false≢true}
 use Rattle.std.proofs.lemmas.List.{take_more, take-append-drop}
 use Rattle.std.proofs.lemmas.List.Elements.{Contains-append_left, Contains-append_right, Contains-append_cases}
 use Rattle.grid_base.specs.Segment.{GridSegment}
+use Rattle.grid_base.proofs.Elements.{Contains-cases, Contains-nil}
 use Rattle.component_registry.specs.Registry.{Holding, Holdings, Owns, IsSound, AddsOwner, DropsOwner}
 use Rattle.component_registry.proofs.Lookups.{this_segment_or_other}
 use Rattle.component_registry.proofs.Registries.{same_from_owners}
 use Rattle.realm_drawing.specs.declared.shares.Share.{Share}
 use Rattle.realm_drawing.specs.Shares.{share_of, Held, KeepsKeys, HasMore, HasFewer}
-use Rattle.realm_drawing.proofs.Elements.{Contains-head, Contains-cons_cases, Contains-nil}
+use Rattle.realm_drawing.proofs.Elements.{Contains-head}
 use Rattle.realm_drawing.proofs.KeptKeys.{piece_with_owners, same_key, kept_with_more}
 
 -- ---- one share
@@ -22,7 +23,7 @@ owners_in o = unwrap_or (option_map (λ h. h.owners) o) []
 
 pub Contains-single : (y z : Share) → Contains (y ∷ []) z → y ≡ z
 Contains-single y z there =
-    elim (Contains-cons_cases y [] z there) [ inl here ↦ here | inr later ↦ absurd (Contains-nil z later) ]
+    elim (Contains-cases y [] z there) [ inl here ↦ here | inr later ↦ absurd (Contains-nil z later) ]
 
 -- the registry has one share more
 pub added_one : (old new : Holdings) (y : Share) (k : ℕ) → AddsOwner old new y.piece y.id k → HasMore old new (y ∷ [])

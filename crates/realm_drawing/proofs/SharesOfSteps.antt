@@ -3,6 +3,7 @@ use Rattle.std.proofs.Common.{◌≡◌, Option, Some, None, List, [], All, Cont
 use Rattle.std.proofs.Common.{sym, subst, inl, inr}
 use Rattle.std.specs.Prelude.{IsSomeAnd}
 use Rattle.std.proofs.lemmas.List.Elements.{All-contains_itself, All-weaker}
+use Rattle.grid_base.proofs.Elements.{Contains-nil}
 use Rattle.component_registry.specs.Registry.{Holdings, owners_of}
 use Rattle.realm_drawing.specs.declared.redrawing.Redrawing.{Redrawing}
 use Rattle.realm_drawing.specs.declared.redrawing.Redrawings.{Redrawings}
@@ -10,7 +11,6 @@ use Rattle.realm_drawing.specs.declared.shares.Share.{Share}
 use Rattle.realm_drawing.specs.Redraws.{AreRedrawings}
 use Rattle.realm_drawing.specs.Shares.{Held, ListsAlso, IsGained}
 use Rattle.realm_drawing.specs.StepShares.{AnyOf, IsGainedBy, Lists}
-use Rattle.realm_drawing.proofs.Elements.{Contains-nil}
 use Rattle.realm_drawing.proofs.StepLinks.{AnyOf-weaker, AnyOf-constant}
 
 -- the list has the shares with P by one redrawing, where there is no other

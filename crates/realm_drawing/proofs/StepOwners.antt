@@ -6,6 +6,7 @@ use Rattle.grid_base.specs.Point.{IsBefore}
 use Rattle.grid_base.specs.Segment.{GridSegment}
 use Rattle.grid_base.specs.Drawing.{HasLink}
 use Rattle.grid_base.specs.declared.original.Original.{Original}
+use Rattle.grid_base.proofs.Elements.{Contains-cases, Contains-nil, Contains-later}
 use Rattle.component_registry.specs.Registry.{Holdings, owners_of, Owns}
 use Rattle.component_registry.proofs.Lookups.{this_segment_or_other}
 use Rattle.realm_drawing.specs.declared.redrawing.Redrawings.{Redrawings}
@@ -16,7 +17,7 @@ use Rattle.realm_drawing.specs.Redraws.{redrawn_by, redrawn_original_by, AreRedr
 use Rattle.realm_drawing.specs.Shares.{share_of, HasMore, HasFewer, IsGained, IsLost}
 use Rattle.realm_drawing.specs.StepShares.{AnyOf, IsGainedBy, IsLostBy, Lists}
 use Rattle.realm_drawing.proofs.Elements.{Any-weaker, Any-head, Any-later, Any-cons_cases, Any-nil}
-use Rattle.realm_drawing.proofs.Elements.{Contains-cons_cases, Contains-nil, Contains-head, Contains-later}
+use Rattle.realm_drawing.proofs.Elements.{Contains-head}
 use Rattle.realm_drawing.proofs.RedrawnLinks.{has_link_or_not}
 use Rattle.realm_drawing.proofs.StepLinks.{AnyOf-weaker, AnyOf-constant, AnyOf-cases, AnyOf-decided, AnyOf-of_some}
 use Rattle.realm_drawing.proofs.StepLinks.{links_after, path_is_kept}
@@ -28,7 +29,7 @@ in_list_or_not (id ∷ ids) x = elim (cases_eq id x) [
   | inl here ↦ inl (Contains-head id ids x here)
   | inr not_here ↦ elim (in_list_or_not ids x) [
     | inl there ↦ inl (Contains-later id ids x there)
-    | inr nowhere ↦ inr (λ h. elim (Contains-cons_cases id ids x h) [
+    | inr nowhere ↦ inr (λ h. elim (Contains-cases id ids x h) [
       | inl here ↦ not_here here
       | inr there ↦ nowhere there
     ])

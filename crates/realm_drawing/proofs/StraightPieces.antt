@@ -6,8 +6,8 @@ use Rattle.grid_base.specs.Segment.{GridSegment, IsEnd}
 use Rattle.grid_base.specs.Drawing.{HasLink}
 use Rattle.grid_base.specs.declared.original.Original.{Original}
 use Rattle.grid_base.proofs.Orders.{IsBefore-asym, segment_between}
+use Rattle.grid_base.proofs.Elements.{Contains-cases, Contains-nil}
 use Rattle.realm_drawing.specs.Straight.{IsStraight, along}
-use Rattle.realm_drawing.proofs.Elements.{Contains-cons_cases, Contains-nil}
 
 -- ---- one original
 -- the link of an original, turned round, is no segment whose lesser end comes first
@@ -30,9 +30,9 @@ link_is_along o t ordered line link =
 pub vertex_is_end : (o : Original) (p : GridPoint) → IsStraight o → Contains o.chain p → IsEnd p (along o)
 vertex_is_end o p line vertex =
     let one : Contains (o.a ∷ o.b ∷ []) p = subst (λ chain. Contains chain p) line.two_ends vertex in
-    elim (Contains-cons_cases o.a (o.b ∷ []) p one) [
+    elim (Contains-cases o.a (o.b ∷ []) p one) [
       | inl a_is ↦ inl (sym a_is)
-      | inr rest ↦ elim (Contains-cons_cases o.b [] p rest) [
+      | inr rest ↦ elim (Contains-cases o.b [] p rest) [
         | inl b_is ↦ inr (sym b_is)
         | inr none ↦ absurd (Contains-nil p none)
       ]

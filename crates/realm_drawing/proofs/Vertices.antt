@@ -7,11 +7,12 @@ use Rattle.grid_base.specs.Point.{GridPoint, IsBefore}
 use Rattle.grid_base.specs.Segment.{GridSegment, IsEnd}
 use Rattle.grid_base.specs.Drawing.{HasLink, IsPoint}
 use Rattle.grid_base.specs.declared.original.Original.{Original}
+use Rattle.grid_base.proofs.Elements.{Contains-later, Contains-cases, Contains-nil}
 use Rattle.component_registry.specs.Registry as registries
 use Rattle.component_registry.specs.Registry.{Holdings}
 use Rattle.realm_drawing.specs.Chains.{HasValidChain}
 use Rattle.realm_drawing.specs.Kept.{IsKept}
-use Rattle.realm_drawing.proofs.Elements.{Contains-head, Contains-later, Contains-cons_cases, Contains-nil}
+use Rattle.realm_drawing.proofs.Elements.{Contains-head}
 use Rattle.realm_drawing.proofs.KeptPieces.{piece_of_registry}
 use Rattle.realm_drawing.proofs.PathEnds.{vertex_is_link_end}
 

@@ -10,7 +10,7 @@ use std::collections::BTreeSet;
 use std::marker::Model;
 
 /// Points, ascending, each once. Contracts see the list.
-#[derive(Debug, Drop)]
+#[derive(Drop)]
 pub(crate) struct ExplicitPoints {
     set: BTreeSet<Point>,
     alloc: Global,

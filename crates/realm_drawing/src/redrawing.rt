@@ -20,21 +20,21 @@ use grid_base::{Chain, NoMemory, Original, Point, Segment};
 use std::alloc::Global;
 
 /// A piece, and the path that is to stand in its place, from its lesser end to its greater.
-#[derive(Debug, Drop)]
+#[derive(Drop)]
 pub(crate) struct Redrawing {
     pub(crate) piece: Segment,
     pub(crate) path: Chain,
 }
 
 /// The one or two redrawings of a step, the second after the first.
-#[derive(Debug, Drop)]
+#[derive(Drop)]
 pub(crate) struct Redrawings {
     pub(crate) first: Redrawing,
     pub(crate) second: Option<Redrawing>,
 }
 
 /// A chain that is to stand for the original at this place of the list.
-#[derive(Debug, Drop)]
+#[derive(Drop)]
 pub(crate) struct Replacement {
     place: usize,
     chain: Chain,

@@ -14,7 +14,7 @@ use grid_base::{NoMemory, Point, Segment};
 use std::alloc::Global;
 
 // A piece, and the id of an original that owns it or is to own it.
-#[derive(Clone, Copy, Debug, PartialEq, Eq)]
+#[derive(Clone, Copy)]
 pub(crate) struct Share {
     pub(crate) piece: Segment,
     pub(crate) id: u32,

@@ -1,6 +1,6 @@
 use Rattle.std.proofs.Common.{get_or, take_all}
 use Rattle.std.proofs.lemmas.List.{get_or_default}
-use Rattle.realm_drawing.proofs.Elements.{Contains-nil}
+use Rattle.grid_base.proofs.Elements.{Contains-nil}
 use Rattle.realm_drawing.proofs.Owners.{an_element, none_added, owners_next}
 use Rattle.realm_drawing.proofs.redrawing.replace_owners.Goals as goal
 

@@ -1,9 +1,9 @@
 use Rattle.std.proofs.Common.{◌≡◌, true, false, Result, Ok, Err, OnOk, OnErr, [], take, take_all, sym, subst, inl, inr}
 use Rattle.std.specs.Result.{is_err}
+use Rattle.grid_base.proofs.Elements.{Contains-nil}
 use Rattle.component_registry.specs.Registry.{Holdings}
 use Rattle.realm_drawing.specs.Fresh.{ListsFresh}
 use Rattle.realm_drawing.specs.Shares.{share_of, KeepsKeys, HasMore, HasFewer}
-use Rattle.realm_drawing.proofs.Elements.{Contains-nil}
 use Rattle.realm_drawing.proofs.FreshPieces.{fresh_none, fresh_next}
 use Rattle.realm_drawing.proofs.KeptKeys.{kept_with_more}
 use Rattle.realm_drawing.proofs.LostShares.{KeepsKeys-itself}
