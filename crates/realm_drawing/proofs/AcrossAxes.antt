@@ -1,6 +1,6 @@
 -- This file shows that a hook of a piece that is close to an original is close to the original.
-use Rattle.std.proofs.Common.{◌≡◌, ℕ, ◌+◌, ◌*◌, ◌<◌, ◌≤◌, Bool, true, false, List}
-use Rattle.std.proofs.Common.{refl, sym, ap, subst, ◌∙◌, arith, inl, inr}
+use Rattle.std.proofs.Common.{◌≡◌, ◌<◌, Bool, true, false, List}
+use Rattle.std.proofs.Common.{refl, sym, subst, ◌∙◌, arith, inl, inr}
 use Rattle.grid_base.specs.Point.{GridPoint, gap, IsBefore, InBox}
 use Rattle.grid_base.specs.Segment.{GridSegment, width, height, is_flat, exchanged, exchanged_point}
 use Rattle.grid_base.specs.Crossing.{IsOn}

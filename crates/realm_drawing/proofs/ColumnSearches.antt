@@ -1,6 +1,6 @@
 -- This file shows that a search of the points between the corners of a segment's box finds what is inside the segment.
 use Rattle.std.proofs.Common.{◌≡◌, ◌≤◌, ◌<◌, ℕ, Option, Some, None, MatchOption, List, filter, length, get_or, All, Contains, HoldsAt}
-use Rattle.std.proofs.Common.{subst, Bor}
+use Rattle.std.proofs.Common.{Bor}
 use Rattle.std.specs.List.{AllWithin}
 use Rattle.std.specs.Option.{option_map}
 use Rattle.std.proofs.lemmas.List.Elements.{All-contains, All-from_all_within, Contains-from_at, Contains-get_or}

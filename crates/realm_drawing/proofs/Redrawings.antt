@@ -1,5 +1,5 @@
 -- This file shows how many points a chain has that is redrawn.
-use Rattle.std.proofs.Common.{◌⊎◌, ◌<◌, ◌≤◌, List, [], ◌∷◌, length, arith, inl, inr, length-append}
+use Rattle.std.proofs.Common.{◌<◌, ◌≤◌, List, [], ◌∷◌, length, arith, inl, inr, length-append}
 use Rattle.grid_base.specs.Point.{GridPoint}
 use Rattle.grid_base.specs.Segment.{GridSegment}
 use Rattle.grid_base.specs.Drawing.{HasLink}

@@ -1,6 +1,6 @@
 -- This file shows what the vertices and the links of straight originals are.
 use Rattle.std.proofs.Common.{◌≡◌, [], ◌∷◌, Contains}
-use Rattle.std.proofs.Common.{sym, ap, ap₂, subst, inl, inr}
+use Rattle.std.proofs.Common.{sym, ap₂, subst, inl, inr}
 use Rattle.grid_base.specs.Point.{GridPoint, IsBefore}
 use Rattle.grid_base.specs.Segment.{GridSegment, IsEnd}
 use Rattle.grid_base.specs.Drawing.{HasLink}

@@ -1,13 +1,13 @@
 -- This file shows that the vertices of the chains of a drawing that is kept are the ends of its pieces.
-use Rattle.std.proofs.Common.{◌≡◌, ◌≢◌, ◌↔◌, List, [], ◌∷◌, Contains, Any, refl, sym, subst, ◌∙◌, inl, inr}
+use Rattle.std.proofs.Common.{◌≡◌, ◌↔◌, List, [], ◌∷◌, Contains, Any, sym, subst, ◌∙◌, inl, inr}
 use Rattle.std.proofs.Common.{ℕ, ◌<◌, Bool, false, IsTrue, true≢false}
 use Rattle.std.proofs.Math.Dec.{ltb}
 use Rattle.std.proofs.lemmas.Bool.{ltb-true, lt-ltb}
-use Rattle.grid_base.specs.Point.{GridPoint, IsBefore}
+use Rattle.grid_base.specs.Point.{GridPoint}
 use Rattle.grid_base.specs.Segment.{GridSegment, IsEnd}
 use Rattle.grid_base.specs.Drawing.{HasLink, IsPoint}
 use Rattle.grid_base.specs.declared.original.Original.{Original}
-use Rattle.grid_base.proofs.Elements.{Contains-later, Contains-cases, Contains-nil}
+use Rattle.grid_base.proofs.Elements.{Contains-later}
 use Rattle.component_registry.specs.Registry as registries
 use Rattle.component_registry.specs.Registry.{Holdings}
 use Rattle.realm_drawing.specs.Chains.{HasValidChain}

@@ -1,4 +1,4 @@
-use Rattle.std.proofs.Common.{◌≡◌, ◌∙◌, ap₂, filter, refl, rules, All, Contains, MatchOption, Option, Some, None}
+use Rattle.std.proofs.Common.{◌≡◌, ◌∙◌, ap₂, filter, rules}
 use Rattle.std.specs.BTreeMap.Range.{range_contains}
 use Rattle.std.specs.declared.ops.Bound.TheVariants.{Included}
 use Rattle.std.proofs.lemmas.Iterator.{first_from_find}
