@@ -30,7 +30,7 @@ fn settle(rt: &impl Abort, drawing: &mut Drawing) {
             drawing.apply(&step).expect(rt, "memory");
         }
     }
-    assert_eq!(rt; drawing.first_violation(), None, "steps without end");
+    assert!(rt; drawing.first_violation().is_none(), "steps without end");
 }
 
 // Whether the points have these coordinates.
@@ -61,7 +61,7 @@ fn compare(
     for want in chains {
         id = id.wrapping_add(1);
         let chain = drawing.chain(id).expect(rt, "a chain");
-        assert!(rt; are_at(chain, want), "{id} of {segments:?}");
+        assert!(rt; are_at(chain, want), "chain {id}");
     }
 }
 
@@ -135,9 +135,9 @@ fn a_drawing_lists_what_it_has(rt: HostRuntime) {
         segment(ends[1]).expect(&rt, "a segment"),
     );
     let mut drawing = placed(rt.alloc(), &ends).expect(&rt, "originals");
-    assert_eq!(rt; crossing_step(&u, &t), drawing.first_violation());
-    assert_eq!(rt; drawn_anew(&rt, &mut drawing), 4);
-    assert_eq!(rt; drawing.pieces().expect(&rt, "memory").len(), 4);
+    assert!(rt; crossing_step(&u, &t) == drawing.first_violation());
+    assert!(rt; drawn_anew(&rt, &mut drawing) == 4);
+    assert!(rt; drawing.pieces().expect(&rt, "memory").len() == 4);
     assert!(rt; drawing.add_point(point(&rt, [10, 4])).expect(&rt, "memory"));
     let all = [[0, 0], [0, 4], [5, 2], [10, 0], [10, 4]];
     assert!(rt; lists(&rt, &drawing, &u, &all, &[[10, 4]]));
@@ -148,5 +148,5 @@ fn a_list_that_may_be_a_chain_is_taken(rt: HostRuntime) {
     let chain = [point(&rt, [0, 0]), point(&rt, [3, 1]), point(&rt, [9, 3])];
     let mut drawing = Drawing::new(rt.alloc());
     drawing.place_chain(7, &chain).expect(&rt, "a chain");
-    assert_eq!(rt; drawing.chain(7), Some(chain.as_slice()));
+    assert!(rt; drawing.chain(7) == Some(chain.as_slice()));
 }
