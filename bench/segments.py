@@ -4,42 +4,79 @@ import argparse
 import re
 import shutil
 import subprocess
-import sys
 import tempfile
 import time
 
 MULTIPLIER = 6364136223846793005
 INCREMENT = 1442695040888963407
-FIELDS = {"sparse": 65536, "dense": 4096}
 
 
-def segments(count, start, side):
-    """Yields `count` segments on a field with `side` columns and rows, each at most 256 wide and 255 high."""
+def draws(start):
+    """Yields numbers below 2^31."""
     state = start
+    while True:
+        state = (state * MULTIPLIER + INCREMENT) % 2**64
+        yield state >> 33
+
+
+def scattered(side):
+    """Segments on a field with `side` columns and rows, each at most 256 wide and 255 high."""
+
+    def segments(count, drawn):
+        for _ in range(count):
+            x, y = next(drawn) % side, next(drawn) % side
+            yield x, y, x + 1 + next(drawn) % 256, y + next(drawn) % 256
+
+    return segments
+
+
+def long(count, drawn):
+    """Segments from the first of 65,536 columns to the last."""
     for _ in range(count):
-        draws = []
-        for _ in range(4):
-            state = (state * MULTIPLIER + INCREMENT) % 2**64
-            draws.append(state >> 33)
-        x, y = draws[0] % side, draws[1] % side
-        yield x, y, x + 1 + draws[2] % 256, y + draws[3] % 256
+        yield 0, next(drawn) % 65536, 65535, next(drawn) % 65536
 
 
-def write_input(count, start, side):
+def fence(count, _drawn):
+    """Upright segments side by side, and at last one across all of them."""
+    for i in range(count):
+        yield 3 * i, 0, 3 * i + 1, 100
+    yield 0, 50, 3 * count, 57
+
+
+def shared(count, _drawn):
+    """One line drawn again and again, and at last 200 short segments across it."""
+    for _ in range(count):
+        yield 0, 0, 60000, 7
+    for i in range(200):
+        yield 300 * i + 5, 0, 300 * i + 6, 20
+
+
+# name, how it is drawn, and for how many segments
+FIELDS = [
+    ("sparse", scattered(65536), [1000, 2000, 5000, 10000, 20000, 50000, 100000]),
+    ("dense", scattered(4096), [1000, 2000, 5000, 10000]),
+    ("long", long, [50, 100, 200]),
+    ("fence", fence, [1000, 2000, 5000, 10000]),
+    ("shared", shared, [100, 200, 400]),
+]
+
+
+def write_input(segments):
     """A file with the lines of the segments, and a last line that asks for the realm."""
-    lines = ["segment %d %d %d %d\n" % s for s in segments(count, start, side)]
     file = tempfile.NamedTemporaryFile("w", suffix=".txt")
-    file.write("".join(lines) + "realm\n")
+    file.write("".join("segment %d %d %d %d\n" % s for s in segments) + "realm\n")
     file.flush()
     return file
 
 
 def run(program, file):
-    """The output of the program on the file, and how long it took."""
-    with open(file.name, "rb") as source:
+    """The output of the program on the file, how long it took, and its greatest memory in bytes."""
+    with open(file.name, "rb") as source, tempfile.NamedTemporaryFile("r") as told:
+        # A process that starts others counts its own memory in, so a small one stands between.
+        command = ["/usr/bin/time", "-o", told.name, "-f", "%M", program, "run"]
         began = time.perf_counter()
-        done = subprocess.run([program, "run"], stdin=source, stdout=subprocess.PIPE, check=True)
-        return done.stdout, time.perf_counter() - began
+        done = subprocess.run(command, stdin=source, stdout=subprocess.PIPE, check=True)
+        return done.stdout, time.perf_counter() - began, int(told.read()) * 1024
 
 
 def instructions(program, file):
@@ -53,33 +90,41 @@ def instructions(program, file):
     return int(found.group(1)) if found else None
 
 
-def measure(program, field, count, start, counting):
-    file = write_input(count, start, FIELDS[field])
-    output, seconds = run(program, file)
+def measure(program, name, file, before, counting):
+    """Prints a row, and answers its microseconds per piece, with which the next row is compared."""
+    output, seconds, memory = run(program, file)
     pieces = int(re.search(rb"^realm \d+ (\d+)$", output, re.M).group(1))
+    drawn = len(re.findall(rb"^ok ", output, re.M))
     steps = sum(int(n) for n in re.findall(rb"^ok \d+ steps (\d+) ", output, re.M))
-    counted = instructions(program, file) if counting else None
-    per_piece = "%10.0f" % (counted / pieces) if counted else "         -"
-    print(
-        "%-6s %8d %8d %8d %9.2f %11.0f %12.2f  %s"
-        % (field, count, pieces, steps, seconds, count / seconds, 1e6 * seconds / pieces, per_piece),
-        flush=True,
+    each = 1e6 * seconds / pieces
+    growth = "%7.2f" % (each / before) if before else "      -"
+    row = "%-7s %8d %8d %8d %9.2f %9.2f %s %7.1f %8.0f" % (
+        name, drawn, pieces, steps, seconds, each, growth, memory / 1e6, memory / pieces,
     )
+    if counting:
+        counted = instructions(program, file)
+        row += "%12.0f" % (counted / pieces) if counted else "           -"
+    print(row, flush=True)
+    return each
 
 
 def main():
     reader = argparse.ArgumentParser(description=__doc__)
-    reader.add_argument("program", help="the built program, as crates/rose/out/rose")
+    reader.add_argument("programs", nargs="+", help="built programs, as crates/rose/out/rose")
     reader.add_argument("--start", type=int, default=7, help="where the draws begin")
-    reader.add_argument("--counts", type=int, nargs="+", default=[1000, 2000, 5000])
+    reader.add_argument("--most", type=int, default=100000, help="leaves out rows with more segments")
+    reader.add_argument("--fields", nargs="+", default=[name for name, _, _ in FIELDS], help="which fields")
     reader.add_argument("--instructions", action="store_true", help="count instructions too, which is slow")
     chosen = reader.parse_args()
-    print("field  segments   pieces    steps   seconds  segments/s  us per piece  instructions per piece")
-    for field in FIELDS:
-        for count in chosen.counts:
-            measure(chosen.program, field, count, chosen.start, chosen.instructions)
-    return 0
+    for program in chosen.programs:
+        print(program)
+        print("field   segments   pieces    steps   seconds  us/piece  growth      MB  B/piece")
+        for name, field, counts in FIELDS:
+            before = None
+            for count in counts:
+                if name in chosen.fields and count <= chosen.most:
+                    with write_input(field(count, draws(chosen.start))) as file:
+                        before = measure(program, name, file, before, chosen.instructions)
 
 
-if __name__ == "__main__":
-    sys.exit(main())
+main()

@@ -115,7 +115,7 @@ pub mod StepOutcomes
 -- the vertices of redrawn chains
 pub mod RedrawnVertices
 -- the vertices of a path as ends of its links
-mod PathEnds
+pub mod PathEnds
 -- a chain with the paths of a step
 mod StepChains
 -- the pieces of a drawing that is kept, and their keys

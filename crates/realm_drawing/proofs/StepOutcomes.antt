@@ -1,6 +1,6 @@
 -- This file shows that a permitted step leads to one drawing, with the ids that there were, and from a drawing with a
 -- violation.
-use Rattle.std.proofs.Common.{◌≡◌, ℕ, ◌+◌, ◌*◌, ◌<◌, List, sym, ap, subst, ◌∙◌, arith}
+use Rattle.std.proofs.Common.{◌≡◌, ℕ, ◌+◌, ◌*◌, ◌<◌, List, All, sym, ap, subst, ◌∙◌, arith}
 use Rattle.std.proofs.lemmas.List.Elements.{All-map}
 use Rattle.grid_base.specs.Point.{GridPoint}
 use Rattle.grid_base.specs.MeetPoint.{IsCell, crossing_of}
@@ -14,7 +14,6 @@ use Rattle.grid_rational.proofs.Crossings.{crossing_is_place}
 use Rattle.hook_chain.specs.Redrawing.{redraw, round_corner, cut_at}
 use Rattle.hook_chain.proofs.HookLaw.{one_hook}
 use Rattle.realm_drawing.specs.Steps.{Permitted}
-use Rattle.realm_drawing.specs.Straight.{AllBelow}
 use Rattle.realm_drawing.specs.Redraws.{redrawn_original_by}
 use Rattle.realm_drawing.proofs.Mendings.{permitted_mends, mending_is_violation}
 use Rattle.realm_drawing.proofs.StepPaths.{step_paths}
@@ -44,11 +43,13 @@ permitted_is_one d e f (Corner t u) (piece_t, piece_u, cross, diagonal_t, rises,
     let one = one_cell (crossing_of t u) z y real cell in_cell in
     is ∙ ap (λ (c : GridPoint). redraw u (round_corner u c) (redraw t (cut_at t c) d)) one ∙ sym same
 
--- a step changes the chains alone: each id that is greater than all is so still
-pub ids_stay : (d e : Drawing) (step : Step) → Permitted d step e → (id : ℕ) → AllBelow id d → AllBelow id e
-ids_stay d e step permitted id below =
+-- a step changes the chains alone: what holds of all ids holds of them still
+pub ids_stay : (P : ℕ → Type 0) (d e : Drawing) (step : Step) → Permitted d step e → All (λ o. P o.id) d.originals
+    → All (λ o. P o.id) e.originals
+ids_stay P d e step permitted all =
     let drawn = step_paths d e step permitted in
-    subst (AllBelow id) (sym drawn.leads) (All-map (λ o. o.id < id) (redrawn_original_by drawn.paths) d.originals below)
+    subst (λ (f : Drawing). All (λ o. P o.id) f.originals) (sym drawn.leads)
+    (All-map (λ o. P o.id) (redrawn_original_by drawn.paths) d.originals all)
 
 -- ---- where a step is permitted
 pub no_violation_no_step : (d e : Drawing) (step : Step) → Permitted d step e → HasViolation d

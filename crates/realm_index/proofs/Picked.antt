@@ -1,5 +1,5 @@
 -- This file shows that the keys picked from the entries of a tree by a test are those of its map, ascending.
-use Rattle.std.proofs.Common.{◌≡◌, ◌⊎◌, ◌↔◌, ℕ, zero, suc, ◌+◌, Bool, true, false, cond, IsTrue, refl, ap, subst, ⊎_elim, inl, inr, arith}
+use Rattle.std.proofs.Common.{◌≡◌, ◌⊎◌, ◌↔◌, ℕ, ◌+◌, Bool, true, false, cond, IsTrue, refl, ap, subst, ⊎_elim, inl, inr, arith}
 use Rattle.std.proofs.Common.{List, [], ◌∷◌, length, Ordering, Less, Equal, Greater, Contains, Option, Some, None, IsSomeAnd, sym, ◌∙◌}
 use Rattle.std.specs.List.{sum_by, AllByRecursion}
 use Rattle.std.specs.List.Sorted.{IsStrictlySortedBy}
@@ -11,19 +11,9 @@ use Rattle.std.proofs.lemmas.Cmp.{nat_cmp_total, eq_by_cmp_equiv}
 use Rattle.std.proofs.lemmas.Map.Views.{Contains-from_lookup, lookup-from_Contains}
 use Rattle.std.proofs.lemmas.Map.Keys.{sorted_head, sorted_tail, IsStrictlyIncreasing-from_sorted, IsDistinct-from_sorted}
 use Rattle.grid_base.specs.Segment.{GridSegment}
+use Rattle.grid_base.proofs.Elements.{Contains-here, Contains-later, Contains-cases}
 use Rattle.realm_index.specs.Index.{HasKeysWhere}
 use Rattle.realm_index.proofs.TreeMaps.{find-lookup}
-
--- ---- members of a list
-pub contains_here : {A : Type 0} (x : A) (xs : List A) → Contains (x ∷ xs) x
-contains_here x xs = (0, omega arith, refl)
-
-pub contains_later : {A : Type 0} (x y : A) (xs : List A) → Contains xs x → Contains (y ∷ xs) x
-contains_later x y xs (k, within, is) = (suc k, omega (arith, within), is)
-
-pub contains_cases : {A : Type 0} (x y : A) (xs : List A) → Contains (y ∷ xs) x → (y ≡ x) ⊎ Contains xs x
-contains_cases x y xs (zero, within, is) = inl is
-contains_cases x y xs (suc k, within, is) = inr (k, omega (arith, within), is)
 
 -- ---- picking
 -- the keys of the entries that pass the test
@@ -86,11 +76,11 @@ module _ (p : ℕ × GridSegment → Bool) where
   picked_step true k e es is rest there = ⊎_elim
       (λ (here : e.0 ≡ k).
       let same : e ≡ (k, e.1) = λ i. (here i, e.1) in
-      (e.1, subst (Contains (e ∷ es)) same (contains_here e es), subst (λ x. IsTrue (p x)) same is))
-      (λ later. let found = rest later in (found.0, contains_later (k, found.0) e es found.1, found.2))
-      (contains_cases k e.0 (picks p es) there)
+      (e.1, subst (Contains (e ∷ es)) same (Contains-here e es), subst (λ x. IsTrue (p x)) same is))
+      (λ later. let found = rest later in (found.0, Contains-later e es (k, found.0) found.1, found.2))
+      (Contains-cases e.0 (picks p es) k there)
   picked_step false k e es is rest there =
-      let found = rest there in (found.0, contains_later (k, found.0) e es found.1, found.2)
+      let found = rest there in (found.0, Contains-later e es (k, found.0) found.1, found.2)
 
   pub picked_has : (k : ℕ) (es : List (ℕ × GridSegment)) → Contains (picks p es) k
       → (s : GridSegment) × Contains es (k, s) × IsTrue (p (k, s))
@@ -100,8 +90,8 @@ module _ (p : ℕ × GridSegment → Bool) where
   has_step : (t : Bool) (k : ℕ) (s : GridSegment) (e : ℕ × GridSegment) (ks : List ℕ) → p e ≡ t → IsTrue (p (k, s))
       → (e ≡ (k, s)) ⊎ Contains ks k → Contains (cond t (e.0 ∷ ks) ks) k
   has_step true k s e ks is pass found = ⊎_elim
-      (λ (here : e ≡ (k, s)). subst (Contains (e.0 ∷ ks)) (ap (λ x. x.0) here) (contains_here e.0 ks))
-      (λ later. contains_later k e.0 ks later) found
+      (λ (here : e ≡ (k, s)). subst (Contains (e.0 ∷ ks)) (ap (λ x. x.0) here) (Contains-here e.0 ks))
+      (λ later. Contains-later e.0 ks k later) found
   has_step false k s e ks is pass found = ⊎_elim
       (λ (here : e ≡ (k, s)). absurd (cc (ap p here, is, pass)))
       (λ later. later) found
@@ -110,7 +100,7 @@ module _ (p : ℕ × GridSegment → Bool) where
       → Contains (picks p es) k
   has_picked k s [] there pass = absurd (omega (arith, there.1))
   has_picked k s (e ∷ es) there pass = has_step (p e) k s e (picks p es) refl pass
-      (⊎_elim (λ here. inl here) (λ later. inr (has_picked k s es later pass)) (contains_cases (k, s) e es there))
+      (⊎_elim (λ here. inl here) (λ later. inr (has_picked k s es later pass)) (Contains-cases e es (k, s) there))
 
 -- ---- the keys of a map
 pub tied : (o : Ordering) → is_eq o ≡ true → o ≡ Equal

@@ -90,6 +90,13 @@ impl Index {
         }
     }
 
+    /// The segment under `key`.
+    pub fn segment(&self, key: usize) -> Option<Segment>
+        ensures { result ≡ map.get self.now key }
+    {
+        self.segments.get(&key).copied()
+    }
+
     /// The keys of the segments whose boxes meet that of `s`, rims included, ascending. A step is a
     /// test of one box.
     pub fn meeting<L: Ledger>(

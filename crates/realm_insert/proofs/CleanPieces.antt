@@ -1,15 +1,17 @@
 -- This file shows that the search round a segment comes to all pieces that a violation there may have.
-use Rattle.std.proofs.Common.{◌≡◌, ℕ, ◌+◌, ◌<◌, List, [], ◌∷◌, ◌++◌, length, take, get_or, Contains, IsSomeAnd}
+use Rattle.std.proofs.Common.{◌≡◌, ℕ, ◌+◌, ◌<◌, List, [], ◌∷◌, ◌++◌, length, take, drop, get_or, Contains, IsSomeAnd}
 use Rattle.std.proofs.Common.{sym, ap, subst, ◌∙◌, inl, inr}
-use Rattle.std.proofs.lemmas.List.{take_more}
-use Rattle.std.proofs.lemmas.List.Elements.{Contains-push_cases}
+use Rattle.std.proofs.lemmas.List.{take_more, take-append-drop}
+use Rattle.std.proofs.lemmas.List.Elements.{Contains-push_cases, Contains-append_cases}
+use Rattle.grid_base.specs.Point.{GridPoint}
 use Rattle.grid_base.specs.Segment.{GridSegment, BoxesMeet}
-use Rattle.grid_base.specs.Drawing.{IsPiece}
+use Rattle.grid_base.specs.Crossing.{Inside}
+use Rattle.grid_base.specs.Drawing.{Drawing, IsPoint, IsPiece}
 use Rattle.realm_drawing.specs.Chains.{AllValid}
 use Rattle.realm_drawing.specs.Keyed.{KeyedDrawing, HasKey, AreKeyed}
 use Rattle.realm_index.specs.Index.{Entries, HasKeysWhere}
 use Rattle.realm_insert.specs.Kept.{IsIndexed}
-use Rattle.realm_insert.specs.Clashes.{HasNoneInside, NoClash}
+use Rattle.realm_insert.specs.Clashes.{HasNoneInside, IsInsideNone, NoClash, HasNoClashAmong}
 use Rattle.realm_insert.specs.Work.{IsClean}
 use Rattle.realm_insert.proofs.CommonBoxes.{boxes_meet_at_end, boxes_meet_inside, boxes_meet_crossing}
 use Rattle.realm_insert.proofs.Vertices.{explicit_or_end}
@@ -38,20 +40,40 @@ module _ (P : GridSegment → Type 0) (d : KeyedDrawing) (index : Entries) (keys
       → (t : GridSegment) → IsPiece d.drawing t → P t → Q t
   of_listed Q each t piece is = let found = listed_key t piece is in each found.0 found.1.0 t found.1.1
 
--- no violation is left at s where no explicit point is inside it, and no piece whose box meets its box clashes with it
+-- no violation is left at the piece s where no explicit point is inside it, and no piece whose box meets its box clashes
+-- with it
 pub clean_by : (d : KeyedDrawing) (index : Entries) (keys : List ℕ) (s : GridSegment) → AllValid d.drawing
-    → IsIndexed d index → AreKeyed d → HasKeysWhere (BoxesMeet s) index keys
-    → (IsPiece d.drawing s → HasNoneInside d.drawing s)
-    → ((k : ℕ) → Contains keys k → (t : GridSegment) → HasKey d t k → NoClash d.drawing s t) → IsClean d.drawing s
+    → IsIndexed d index → AreKeyed d → HasKeysWhere (BoxesMeet s) index keys → HasNoneInside d.drawing s
+    → HasNoClashAmong d s keys → IsClean d.drawing s
 clean_by d index keys s valid indexed keyed listed explicit each =
     let clear = of_listed (BoxesMeet s) d index keys indexed keyed listed (NoClash d.drawing s) each in
     record {
       nothing_inside = λ p point piece inside. elim (explicit_or_end d.drawing p valid point) [
-        | inl there ↦ explicit piece p there inside
+        | inl there ↦ explicit p there inside
         | inr (t, (is_piece, end)) ↦
-            (clear t is_piece (boxes_meet_inside s t p end inside)).no_end_of_t piece p end point inside
+            (clear t is_piece (boxes_meet_inside s t p end inside)).no_end_of_t p end point inside
       ];
       no_end_inside = λ p t end point piece inside.
           (clear t piece (boxes_meet_at_end s t p end inside)).no_end_of_s p end point inside;
-      no_crossing = λ t piece other cross. (clear t other (boxes_meet_crossing s t cross)).no_crossing piece cross;
+      no_crossing = λ t piece other cross. (clear t other (boxes_meet_crossing s t cross)).no_crossing cross;
     }
+
+-- nor is one at s where it is no piece and neither end is inside a piece
+pub clean_by_ends : (d : Drawing) (s : GridSegment) → (IsPiece d s → ⊥) → IsInsideNone d s.a → IsInsideNone d s.b → IsClean d s
+clean_by_ends d s no_piece at_a at_b = record {
+  nothing_inside = λ p point piece inside. no_piece piece;
+  no_end_inside = λ p t end point piece inside. elim end [
+    | inl first ↦ at_a t (subst (IsPoint d) first point) piece (subst (λ (q : GridPoint). Inside q t) first inside)
+    | inr last ↦ at_b t (subst (IsPoint d) last point) piece (subst (λ (q : GridPoint). Inside q t) last inside)
+  ];
+  no_crossing = λ t piece other cross. no_piece piece;
+}
+
+-- what holds of the keys before a place and from it on holds of all
+pub no_clash_in_parts : (d : KeyedDrawing) (s : GridSegment) (keys : List ℕ) (n : ℕ) → HasNoClashAmong d s (take n keys)
+    → HasNoClashAmong d s (drop n keys) → HasNoClashAmong d s keys
+no_clash_in_parts d s keys n before behind k there =
+    elim (Contains-append_cases (take n keys) (drop n keys) k (subst (λ l. Contains l k) (sym (take-append-drop n keys)) there)) [
+      | inl first ↦ before k first
+      | inr last ↦ behind k last
+    ]

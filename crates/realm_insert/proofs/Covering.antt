@@ -1,5 +1,5 @@
 -- This file shows which violations the pieces that are still to be looked at cover.
-use Rattle.std.proofs.Common.{◌≡◌, ◌-◌, Option, Some, None, List, [], ◌∷◌, ◌++◌, length, Any, inl, inr}
+use Rattle.std.proofs.Common.{◌≡◌, ◌⊎◌, ◌-◌, Option, Some, None, List, [], ◌∷◌, ◌++◌, length, map, Any, Contains, inl, inr}
 use Rattle.std.proofs.Common.{refl, ap, subst, sym, ◌∙◌, arith}
 use Rattle.std.specs.Option.{option_to_list}
 use Rattle.std.specs.List.{slice_get}
@@ -12,10 +12,11 @@ use Rattle.grid_base.specs.Realm.{PointInside, TwoCross}
 use Rattle.grid_base.specs.Drawing.{Drawing, IsPiece, HasViolation}
 use Rattle.grid_base.specs.declared.kinds.Step.{Step}
 use Rattle.grid_base.proofs.Crossings.{Cross-swap}
-use Rattle.realm_drawing.specs.Steps.{Permitted}
-use Rattle.realm_drawing.specs.Draws.{DrawsPieces}
+use Rattle.realm_drawing.specs.Draws.{DrawsAnew}
+use Rattle.realm_drawing.specs.Keyed.{KeyedDrawing, AreKeyed, keyed as keyed_with}
+use Rattle.realm_drawing.specs.declared.keyed.KeyedPiece.{KeyedPiece}
 use Rattle.realm_drawing.proofs.Elements.{Any-nil, Any-single, Any-append_cases, Any-append_left, Any-append_right}
-use Rattle.realm_drawing.proofs.Elements.{Contains-nil}
+use Rattle.realm_drawing.proofs.Elements.{Any-map, Contains-map, Contains-nil}
 use Rattle.realm_insert.specs.Work.{IsCoveredBy, IsClean}
 
 -- p is an end of some piece of the list
@@ -23,34 +24,45 @@ abbrev HasEnd : GridPoint → List GridSegment → Type 0
 HasEnd p list = Any (λ s. IsEnd p s) list
 
 -- ---- after a step
--- A violation with a piece that wasn't there has a piece that the step draws, and one with a point that wasn't there an
--- end of such a piece. All others were there before.
-pub covered_after : (d e : Drawing) (step : Step) (fresh drawn : List GridSegment) → IsCoveredBy d fresh
-    → Permitted d step e → DrawsPieces step drawn → IsCoveredBy e (fresh ++ drawn)
-covered_after d e step fresh drawn covered permitted draws =
-    let was = draws.all_pieces d e permitted in
-    record {
-      points = λ p t point piece inside. elim (was t piece) [
-        | inr listed ↦ inl (Contains-append_right fresh drawn t listed)
-        | inl old ↦ elim (draws.all_points d e permitted p point) [
-          | inr end ↦ inr (Any-append_right (λ s. IsEnd p s) fresh drawn end)
-          | inl old_point ↦ elim (covered.points p t old_point old.0 inside) [
-            | inl listed ↦ inl (Contains-append_left fresh drawn t listed)
-            | inr end ↦ inr (Any-append_left (λ s. IsEnd p s) fresh drawn end)
-          ]
+-- A violation with a piece that wasn't there has a piece that the step draws anew, and one with a point that wasn't there
+-- an end of such a piece. All others were there before.
+pub covered_after : (old new : KeyedDrawing) (step : Step) (fresh : List GridSegment) (drawn : List KeyedPiece) → AreKeyed new
+    → IsCoveredBy old.drawing fresh → DrawsAnew step old new drawn → IsCoveredBy new.drawing (fresh ++ map (λ f. f.piece) drawn)
+covered_after old new step fresh drawn keyed covered draws = record {
+  points = λ p t point piece inside. elim (was t piece) [
+    | inr listed ↦ inl (Contains-append_right fresh pieces t listed)
+    | inl old_piece ↦ elim (draws.ends p point) [
+      | inr end ↦
+          inr (Any-append_right (λ s. IsEnd p s) fresh pieces (Any-map (λ s. IsEnd p s) (λ (f : KeyedPiece). f.piece) drawn end))
+      | inl old_point ↦ elim (covered.points p t old_point old_piece inside) [
+        | inl listed ↦ inl (Contains-append_left fresh pieces t listed)
+        | inr end ↦ inr (Any-append_left (λ s. IsEnd p s) fresh pieces end)
+      ]
+    ]
+  ];
+  crossings = λ t u piece_t piece_u cross. elim (was t piece_t) [
+    | inr listed ↦ inl (Contains-append_right fresh pieces t listed)
+    | inl old_t ↦ elim (was u piece_u) [
+      | inr listed ↦ inr (Contains-append_right fresh pieces u listed)
+      | inl old_u ↦ elim (covered.crossings t u old_t old_u cross) [
+        | inl listed ↦ inl (Contains-append_left fresh pieces t listed)
+        | inr listed ↦ inr (Contains-append_left fresh pieces u listed)
+      ]
+    ]
+  ];
+}
+  where
+    pieces : List GridSegment
+    pieces = map (λ f. f.piece) drawn
+
+    was : (t : GridSegment) → IsPiece new.drawing t → IsPiece old.drawing t ⊎ Contains pieces t
+    was t piece =
+        let key = keyed.some_key t piece in
+        elim (draws.all_pieces t key.0 key.1) [
+          | inl old_piece ↦ inl old_piece
+          | inr (i, within, is) ↦
+              inr ((Contains-map (λ (f : KeyedPiece). f.piece) drawn t).1 (i, keyed_with t key.0, within, is, refl))
         ]
-      ];
-      crossings = λ t u piece_t piece_u cross. elim (was t piece_t) [
-        | inr listed ↦ inl (Contains-append_right fresh drawn t listed)
-        | inl old_t ↦ elim (was u piece_u) [
-          | inr listed ↦ inr (Contains-append_right fresh drawn u listed)
-          | inl old_u ↦ elim (covered.crossings t u old_t.0 old_u.0 cross) [
-            | inl listed ↦ inl (Contains-append_left fresh drawn t listed)
-            | inr listed ↦ inr (Contains-append_left fresh drawn u listed)
-          ]
-        ]
-      ];
-    }
 
 -- ---- after a look at a piece
 -- a clean piece has no part in a violation, so the list does without it

@@ -1,5 +1,5 @@
 -- This file shows that an engine may begin with the empty drawing.
-use Rattle.std.proofs.Common.{◌≡◌, ℕ, ◌<◌, None, Some, List, [], length, ap, sym, subst, ◌∙◌, arith}
+use Rattle.std.proofs.Common.{◌≡◌, ℕ, ◌<◌, ◌≤◌, None, Some, List, [], refl, ap, sym, subst, ◌∙◌, arith}
 use Rattle.std.specs.FinMap as map
 use Rattle.std.specs.Ordering.{nat_cmp}
 use Rattle.std.proofs.lemmas.List.Elements.{All-nil}
@@ -9,11 +9,10 @@ use Rattle.grid_base.specs.Drawing.{HasViolation, HasLink}
 use Rattle.grid_base.specs.declared.original.Original.{Original}
 use Rattle.realm_drawing.specs.Chains.{HasValidChain}
 use Rattle.realm_drawing.specs.Keyed.{KeyedDrawing, empty_drawing, keyed}
-use Rattle.realm_drawing.specs.Straight.{AllBelow}
 use Rattle.realm_drawing.proofs.Elements.{Any-nil, Contains-nil}
 use Rattle.realm_index.specs.Index.{Entries}
 use Rattle.realm_insert.specs.Kept.{IsAtRest, IsSettled}
-use Rattle.realm_insert.specs.State.{KeptTrace}
+use Rattle.realm_insert.specs.State.{KeptTrace, HasIdsBelow, AreLatest}
 
 -- nothing is drawn, so nothing is violated
 empty_settled : HasViolation empty_drawing.drawing → ⊥
@@ -44,8 +43,10 @@ pub empty_is_settled : (d : KeyedDrawing) (index : Entries) (traces : List KeptT
     → index ≡ map.empty → traces ≡ [] → IsSettled d index 1 0 traces
 empty_is_settled d index traces is_d is_index is_traces = record {
   rest = subst (λ (e : KeyedDrawing). IsAtRest e index) (sym is_d) (empty_at_rest index is_index);
-  ids_below = subst (λ (e : KeyedDrawing). AllBelow 1 e.drawing) (sym is_d) (All-nil (λ (o : Original). o.id < 1));
+  ids = subst (λ (e : KeyedDrawing). HasIdsBelow 1 e.drawing) (sym is_d)
+      (All-nil (λ (o : Original). (1 ≤ o.id) × (o.id < 1)));
+  first_id = omega arith;
   most_ids = omega arith;
   most_changes = omega arith;
-  few_traces = omega (arith, ap (λ (l : List KeptTrace). length l) is_traces);
+  latest = subst (AreLatest 0) (sym is_traces) (record { count = refl; numbers = λ i other within. absurd (omega (arith, within)) });
 }

@@ -1,43 +1,73 @@
--- This file shows which pieces an index has once the keys of some are taken out.
-use Rattle.std.proofs.Common.{◌≡◌, ◌≢◌, ◌⊎◌, ℕ, Some, refl, sym, subst, ◌∙◌, inl, inr}
-use Rattle.std.specs.FinMap as map
-use Rattle.grid_base.specs.Segment.{GridSegment}
-use Rattle.realm_drawing.specs.Keyed.{KeyedDrawing, HasKey, AreKeyed}
+-- This file shows which entries an index keeps once those that are gone are taken out, one by one.
+use Rattle.std.proofs.Common.{◌≡◌, ◌≢◌, ℕ, ◌+◌, ◌<◌, List, [], ◌∷◌, ◌++◌, length, take, get_or, Contains}
+use Rattle.std.proofs.Common.{sym, ap, subst, ◌∙◌, inl, inr}
+use Rattle.std.proofs.lemmas.List.{take_more}
+use Rattle.std.proofs.lemmas.List.Elements.{Contains-append_left, Contains-append_right, Contains-append_cases}
+use Rattle.grid_base.specs.Drawing.{Drawing, IsPiece}
+use Rattle.realm_drawing.specs.Keyed.{keyed}
+use Rattle.realm_drawing.specs.declared.keyed.KeyedPiece.{KeyedPiece}
+use Rattle.realm_drawing.proofs.Elements.{Contains-nil, Contains-head, Contains-cons_cases}
 use Rattle.realm_index.specs.Index.{Entries}
-use Rattle.realm_insert.specs.Indexing.{ForgetsPieces}
+use Rattle.realm_insert.specs.Indexing.{ForgetsGone}
 use Rattle.realm_insert.proofs.IndexKeys.{IsTakenOut}
 
--- the key of the piece is taken out
-pub forgets_by : (d : KeyedDrawing) (piece : GridSegment) (key : ℕ) (old new : Entries) → AreKeyed d → HasKey d piece key
-    → IsTakenOut old new key → ForgetsPieces d (λ s. s ≡ piece) old new
-forgets_by d piece key old new keyed has taken = λ s k. (
+-- nothing is forgotten
+pub forgets_none : (d : Drawing) (index : Entries) → ForgetsGone d [] index index
+forgets_none d index = λ s k. (
+  λ is. (is, λ t there. absurd (Contains-nil (keyed t k) there)),
+  λ stays. stays.0,
+)
+
+-- ---- one piece
+only_one : (x y : KeyedPiece) → Contains (x ∷ []) y → x ≡ y
+only_one x y there = elim (Contains-cons_cases x [] y there) [ inl same ↦ same | inr none ↦ absurd (Contains-nil y none) ]
+
+-- what is a piece still stays
+pub forgets_no_piece : (d : Drawing) (x : KeyedPiece) (index : Entries) → IsPiece d x.piece → ForgetsGone d (x ∷ []) index index
+forgets_no_piece d x index piece = λ s k. (
+  λ is. (is, λ t there. subst (IsPiece d) (ap (λ (f : KeyedPiece). f.piece) (only_one x (keyed t k) there)) piece),
+  λ stays. stays.0,
+)
+
+-- what is under the key of another goes
+pub forgets_one : (d : Drawing) (x : KeyedPiece) (old new : Entries) → (IsPiece d x.piece → ⊥) → IsTakenOut old new x.key
+    → ForgetsGone d (x ∷ []) old new
+forgets_one d x old new no_piece taken = λ s k. (
   λ is.
-      let differ : k ≢ key = λ same. let gone = taken.gone in cc in (
+      let differ : k ≢ x.key = λ same. let gone = taken.gone in cc in (
         sym (taken.others k differ) ∙ is,
-        λ t same has_k. differ (keyed.one_key piece k key (subst (λ r. HasKey d r k) same has_k) has),
+        λ t there. absurd (differ (sym (ap (λ (f : KeyedPiece). f.key) (only_one x (keyed t k) there)))),
       ),
-  λ (was, other).
-      let differ : k ≢ key = λ same. other piece refl (subst (HasKey d piece) (sym same) has) in
-      taken.others k differ ∙ was,
+  λ stays.
+      let differ : k ≢ x.key = λ same.
+      no_piece (stays.1 x.piece (Contains-head x [] (keyed x.piece k) (ap (keyed x.piece) (sym same)))) in
+      taken.others k differ ∙ stays.0,
 )
 
--- what has no key is forgotten where nothing changes
-pub forgets_unkeyed : (d : KeyedDrawing) (piece : GridSegment) (old new : Entries) → ((k : ℕ) → HasKey d piece k → ⊥)
-    → new ≡ old → ForgetsPieces d (λ s. s ≡ piece) old new
-forgets_unkeyed d piece old new none same = λ s k. (
-  λ is. (subst (λ m. map.get m k ≡ Some s) same is, λ t is_piece has. none k (subst (λ r. HasKey d r k) is_piece has)),
-  λ (was, other). subst (λ m. map.get m k ≡ Some s) (sym same) was,
-)
-
--- first those as P says are forgotten, and then those as Q says
-pub forgets_both : (d : KeyedDrawing) (P Q : GridSegment → Type 0) (old mid new : Entries) → ForgetsPieces d P old mid
-    → ForgetsPieces d Q mid new → ForgetsPieces d (λ s. P s ⊎ Q s) old new
-forgets_both d P Q old mid new first second = λ s k. (
+-- ---- a list of pieces
+-- first those of one list are forgotten, and then those of another
+pub forgets_both : (d : Drawing) (xs ys : List KeyedPiece) (old mid new : Entries) → ForgetsGone d xs old mid
+    → ForgetsGone d ys mid new → ForgetsGone d (xs ++ ys) old new
+forgets_both d xs ys old mid new first second = λ s k. (
   λ is.
-      let (in_mid, no_second) = (second s k).0 is in
-      let (was, no_first) = (first s k).0 in_mid in
-      (was, λ t either has. elim either [ inl p ↦ no_first t p has | inr q ↦ no_second t q has ]),
-  λ (was, other).
-      let in_mid = (first s k).1 (was, λ t p. other t (inl p)) in
-      (second s k).1 (in_mid, λ t q. other t (inr q)),
+      let later = (second s k).0 is in
+      let earlier = (first s k).0 later.0 in (
+        earlier.0,
+        λ t there. elim (Contains-append_cases xs ys (keyed t k) there) [
+          | inl in_xs ↦ earlier.1 t in_xs
+          | inr in_ys ↦ later.1 t in_ys
+        ],
+      ),
+  λ stays. (second s k).1 (
+    (first s k).1 (stays.0, λ t there. stays.1 t (Contains-append_left xs ys (keyed t k) there)),
+    λ t there. stays.1 t (Contains-append_right xs ys (keyed t k) there),
+  ),
 )
+
+-- the next of a list comes after those before it
+pub forgets_next : (d : Drawing) (list : List KeyedPiece) (i : ℕ) (x : KeyedPiece) (old mid new : Entries) → i < length list
+    → x ≡ get_or list i x → ForgetsGone d (take i list) old mid → ForgetsGone d (x ∷ []) mid new
+    → ForgetsGone d (take (i + 1) list) old new
+forgets_next d list i x old mid new within is first second =
+    let next = take_more list i x within ∙ ap (λ z. take i list ++ z ∷ []) (sym is) in
+    subst (λ l. ForgetsGone d l old new) (sym next) (forgets_both d (take i list) (x ∷ []) old mid new first second)

@@ -37,8 +37,8 @@ pub crossing_found : (d : Drawing) (s t : GridSegment) (found : Option Step) →
     → MatchOption found (NoClash d s t) (IsPermitted d)
 crossing_found d s t None is_piece other no_end_of_s no_end_of_t apart mends = record {
   no_end_of_s = no_end_of_s;
-  no_end_of_t = λ piece. no_end_of_t;
-  no_crossing = λ piece cross. apart.0 refl cross;
+  no_end_of_t = no_end_of_t;
+  no_crossing = λ cross. apart.0 refl cross;
 }
 crossing_found d s t (Some step) is_piece other no_end_of_s no_end_of_t apart mends =
     mending_is_permitted d step mends.mending (mends.parts d is_piece other)

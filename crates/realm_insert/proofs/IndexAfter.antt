@@ -1,122 +1,111 @@
 -- This file shows that the index has the pieces again once a change is made in it too.
-use Rattle.std.proofs.Common.{◌≡◌, ◌⊎◌, ℕ, List, [], ◌∷◌, Contains, sym, subst, inl, inr}
+use Rattle.std.proofs.Common.{◌≡◌, ◌⊎◌, ℕ, Some, None, List, All, get_or, sym, subst, inl, inr}
+use Rattle.std.specs.FinMap as map
+use Rattle.std.proofs.lemmas.List.Elements.{Contains-get_or}
 use Rattle.grid_base.specs.Point.{IsBefore}
 use Rattle.grid_base.specs.Segment.{GridSegment}
 use Rattle.grid_base.specs.Drawing.{Drawing, IsPiece}
 use Rattle.grid_base.specs.declared.kinds.Step.{Step}
-use Rattle.realm_drawing.specs.Steps.{Permitted}
-use Rattle.realm_drawing.specs.Draws.{DrawsPieces, IsPieceOf}
+use Rattle.realm_drawing.specs.Draws.{DrawsAnew, IsPieceOf}
 use Rattle.realm_drawing.specs.Keyed.{KeyedDrawing, HasKey, KeepsKeys, AreKeyed}
+use Rattle.realm_drawing.specs.declared.keyed.KeyedPiece.{KeyedPiece}
 use Rattle.realm_drawing.specs.Straight.{placed}
 use Rattle.realm_drawing.proofs.Additions.{piece_is_old_or_new, piece_stays}
-use Rattle.realm_drawing.proofs.Elements.{Contains-nil, Contains-head, Contains-later, Contains-cons_cases}
 use Rattle.realm_index.specs.Index.{Entries}
-use Rattle.realm_insert.specs.Indexing.{PutsInIndex, ForgetsPieces}
+use Rattle.realm_insert.specs.Indexing.{ListsKeyed, ForgetsGone, AddsEntries, HasPiecesOnly, AddsPiece}
 use Rattle.realm_insert.specs.Kept.{IsIndexed}
-use Rattle.realm_insert.proofs.SameSegments.{one_or_not}
+use Rattle.realm_insert.proofs.IndexKeys.{none_unless}
 
--- ---- whether a list has a piece
-listed_or_not : (list : List GridSegment) (s : GridSegment) → Contains list s ⊎ (Contains list s → ⊥)
-listed_or_not [] s = inr (λ listed. Contains-nil s listed)
-listed_or_not (t ∷ list) s = elim (one_or_not t s) [
-  | inl same ↦ inl (Contains-head t list s same)
-  | inr differ ↦ elim (listed_or_not list s) [
-    | inl later ↦ inl (Contains-later t list s later)
-    | inr not_later ↦ inr (λ listed. elim (Contains-cons_cases t list s listed) [
-      | inl same ↦ differ same
-      | inr later ↦ not_later later
-    ])
-  ]
-]
+-- ---- keys before and after
+module _ (old new : KeyedDrawing) (keeps : KeepsKeys old new) (was_keyed : AreKeyed old) (keyed : AreKeyed new) where
+  -- a piece that stays has its key
+  pub has_still : (s : GridSegment) (k : ℕ) → HasKey old s k → IsPiece new.drawing s → HasKey new s k
+  has_still s k had piece =
+      let key = keyed.some_key s piece in
+      subst (HasKey new s) (keeps s k key.0 had key.1) key.1
 
--- ---- the index after a change
--- after the change a piece is an old one that isn't gone, or is drawn, and each piece has one key all the time
-pub record IsChanged (old new : KeyedDrawing) (Gone : GridSegment → Type 0) (drawn : List GridSegment) : Type 0 where
-  pub all_pieces : (s : GridSegment) → IsPiece new.drawing s → (IsPiece old.drawing s × (Gone s → ⊥)) ⊎ Contains drawn s
-  pub others_stay : (s : GridSegment) → IsPiece old.drawing s → IsPiece new.drawing s ⊎ Gone s
-  pub keeps : KeepsKeys old new
-  pub was_keyed : AreKeyed old
-  pub keyed : AreKeyed new
+  -- and a piece that was there had it
+  pub had_key : (s : GridSegment) (k : ℕ) → HasKey new s k → IsPiece old.drawing s → HasKey old s k
+  had_key s k has piece =
+      let key = was_keyed.some_key s piece in
+      subst (HasKey old s) (sym (keeps s key.0 k key.1 has)) key.1
 
--- a piece that isn't gone keeps its key
-stays_keyed : (old new : KeyedDrawing) (Gone : GridSegment → Type 0) (drawn : List GridSegment)
-    → IsChanged old new Gone drawn → (s : GridSegment) (k : ℕ) → HasKey old s k → (Gone s → ⊥) → HasKey new s k
-stays_keyed old new Gone drawn changed s k has not_gone =
-    elim (changed.others_stay s (changed.was_keyed.of_pieces s k has)) [
-      | inr gone ↦ absurd (not_gone gone)
-      | inl piece ↦
-          let key = changed.keyed.some_key s piece in
-          subst (HasKey new s) (changed.keeps s k key.0 has key.1) key.1
-    ]
+  -- ---- after a step
+  module _ (step : Step) (drawn replaced : List KeyedPiece) (index rest : Entries) (draws : DrawsAnew step old new drawn)
+      (indexed : IsIndexed old index) (noted : ListsKeyed old (IsPieceOf step) replaced)
+      (forgets : ForgetsGone new.drawing replaced index rest) where
+    -- what is left in the index was a piece and is one still
+    left_is_piece : (s : GridSegment) (k : ℕ) → map.get rest k ≡ Some s → HasKey old s k × IsPiece new.drawing s
+    left_is_piece s k is =
+        let stays = (forgets s k).0 is in
+        let had = (indexed s k).0 stays.0 in (
+          had,
+          elim (draws.others_stay s (was_keyed.of_pieces s k had)) [
+            | inl piece ↦ piece
+            | inr of_step ↦ stays.1 s ((noted s k).1 (of_step, had))
+          ],
+        )
 
--- and a piece that was there had the key that it has
-had_key : (old new : KeyedDrawing) (Gone : GridSegment → Type 0) (drawn : List GridSegment)
-    → IsChanged old new Gone drawn → (s : GridSegment) (k : ℕ) → HasKey new s k → IsPiece old.drawing s → HasKey old s k
-had_key old new Gone drawn changed s k has piece =
-    let key = changed.was_keyed.some_key s piece in
-    subst (HasKey old s) (sym (changed.keeps s key.0 k key.1 has)) key.1
+    -- so nothing is under the keys of what is drawn anew
+    pub keys_are_new : All (λ f. map.get rest f.key ≡ None) drawn
+    keys_are_new i d within =
+        let listed = Contains-get_or drawn i d within in
+        free (get_or drawn i d) (draws.fresh (get_or drawn i d).piece (get_or drawn i d).key listed)
+      where
+        free : (f : KeyedPiece) → HasKey new f.piece f.key × (IsPiece old.drawing f.piece → ⊥) → map.get rest f.key ≡ None
+        free f fresh = none_unless (map.get rest f.key) (λ s is.
+            let was = left_is_piece s f.key is in
+            let same = keyed.one_piece s f.piece f.key (has_still s f.key was.0 was.1) fresh.0 in
+            fresh.1 (subst (IsPiece old.drawing) same (was_keyed.of_pieces s f.key was.0)))
 
--- what is gone is forgotten, what is drawn is put in, and all other pieces keep their keys
-indexed_anew : (old new : KeyedDrawing) (Gone : GridSegment → Type 0) (drawn : List GridSegment)
-    (index rest after : Entries) → IsChanged old new Gone drawn → IsIndexed old index
-    → ForgetsPieces old Gone index rest → PutsInIndex new drawn rest after → IsIndexed new after
-indexed_anew old new Gone drawn index rest after changed indexed forgets puts s k = (
-  λ found. elim ((puts s k).0 found) [
-    | inl listed ↦ listed.1
-    | inr stays ↦
-        let stood = (forgets s k).0 stays.0 in
-        let had = (indexed s k).0 stood.0 in
-        stays_keyed old new Gone drawn changed s k had (λ gone. stood.1 s gone had)
-  ],
-  λ has. elim (listed_or_not drawn s) [
-    | inl listed ↦ (puts s k).1 (inl (listed, has))
-    | inr not_listed ↦ elim (changed.all_pieces s (changed.keyed.of_pieces s k has)) [
-      | inr listed ↦ absurd (not_listed listed)
-      | inl old_piece ↦
-          let had = had_key old new Gone drawn changed s k has old_piece.0 in
-          let stood = (forgets s k).1 (
-            (indexed s k).1 had,
-            λ t gone key. old_piece.1 (subst Gone (changed.was_keyed.one_piece t s k key had) gone),
-          ) in
-          (puts s k).1 (inr (
-            stood,
-            λ t listed key. not_listed (subst (Contains drawn) (changed.keyed.one_piece t s k key has) listed),
-          ))
-    ]
-  ],
-)
+    -- what is gone is forgotten, what is drawn anew is put in, and all other pieces keep their keys
+    pub indexed_after : (after : Entries) → AddsEntries drawn rest after → IsIndexed new after
+    indexed_after after adds s k = (
+      λ found. elim ((adds s k).0 found) [
+        | inl listed ↦ (draws.fresh s k listed).0
+        | inr left ↦ let was = left_is_piece s k left in has_still s k was.0 was.1
+      ],
+      λ has. elim (draws.all_pieces s k has) [
+        | inr listed ↦ (adds s k).1 (inl listed)
+        | inl old_piece ↦
+            let had = had_key s k has old_piece in
+            (adds s k).1 (inr ((forgets s k).1 (
+              (indexed s k).1 had,
+              λ t noted_t.
+                  let same = was_keyed.one_piece s t k had ((noted t k).0 noted_t).1 in
+                  subst (IsPiece new.drawing) same (keyed.of_pieces s k has),
+            )))
+      ],
+    )
 
--- ---- the changes
--- after a step whose pieces are forgotten
-pub indexed_after : (old new : KeyedDrawing) (step : Step) (drawn : List GridSegment) (index rest after : Entries)
-    → Permitted old.drawing step new.drawing → DrawsPieces step drawn → KeepsKeys old new → AreKeyed old → AreKeyed new
-    → IsIndexed old index → ForgetsPieces old (IsPieceOf step) index rest → PutsInIndex new drawn rest after
-    → IsIndexed new after
-indexed_after old new step drawn index rest after permitted draws keeps was_keyed keyed =
-    indexed_anew old new (IsPieceOf step) drawn index rest after (record {
-      all_pieces = draws.all_pieces old.drawing new.drawing permitted;
-      others_stay = draws.others_stay old.drawing new.drawing permitted;
-      keeps = keeps;
-      was_keyed = was_keyed;
-      keyed = keyed;
-    })
+  -- ---- after a straight original is placed, when no piece is gone
+  module _ (id : ℕ) (s : GridSegment) (index : Entries) (ordered : IsBefore s.a s.b) (is : new.drawing ≡ placed old.drawing id s)
+      (indexed : IsIndexed old index) where
+    -- what is in the index is a piece still
+    pub entries_stay : HasPiecesOnly new index
+    entries_stay t k found =
+        let had = (indexed t k).0 found in
+        let piece = piece_stays old.drawing id s t (was_keyed.of_pieces t k had) in
+        has_still t k had (subst (λ (d : Drawing). IsPiece d t) (sym is) piece)
 
--- and after a straight original is placed, when no piece is gone
-pub indexed_placed : (old new : KeyedDrawing) (id : ℕ) (s : GridSegment) (index after : Entries) → IsBefore s.a s.b
-    → new.drawing ≡ placed old.drawing id s → KeepsKeys old new → AreKeyed old → AreKeyed new → IsIndexed old index
-    → PutsInIndex new (s ∷ []) index after → IsIndexed new after
-indexed_placed old new id s index after ordered is keeps was_keyed keyed indexed =
-    indexed_anew old new (λ t. ⊥) (s ∷ []) index index after
-    (record {
-      all_pieces = λ t piece.
-          elim (piece_is_old_or_new old.drawing id s t ordered (subst (λ (d : Drawing). IsPiece d t) is piece)) [
-            | inl old_piece ↦ inl (old_piece, λ gone. gone)
-            | inr same ↦ inr (Contains-head s [] t same)
-          ];
-      others_stay = λ t piece.
-          inl (subst (λ (d : Drawing). IsPiece d t) (sym is) (piece_stays old.drawing id s t piece));
-      keeps = keeps;
-      was_keyed = was_keyed;
-      keyed = keyed;
-    })
-    indexed (λ t k. (λ found. (found, λ u gone key. gone), λ stood. stood.0))
+    -- and each other piece is the new one
+    old_or_new : (t : GridSegment) (k : ℕ) → HasKey new t k → (map.get index k ≡ Some t) ⊎ (s ≡ t)
+    old_or_new t k has =
+        let piece = subst (λ (d : Drawing). IsPiece d t) is (keyed.of_pieces t k has) in
+        elim (piece_is_old_or_new old.drawing id s t ordered piece) [
+          | inl was ↦ inl ((indexed t k).1 (had_key t k has was))
+          | inr same ↦ inr same
+        ]
+
+    -- and it is put in unless the index has it
+    pub indexed_placed : (after : Entries) → AddsPiece new s index after → IsIndexed new after
+    indexed_placed after adds t k = (
+      λ found. elim ((adds t k).0 found) [
+        | inl was ↦ entries_stay t k was
+        | inr (same, has) ↦ subst (λ (r : GridSegment). HasKey new r k) (sym same) has
+      ],
+      λ has. elim (old_or_new t k has) [
+        | inl found ↦ (adds t k).1 (inl found)
+        | inr same ↦ (adds t k).1 (inr (sym same, subst (λ (r : GridSegment). HasKey new r k) (sym same) has))
+      ],
+    )

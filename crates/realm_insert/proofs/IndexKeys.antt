@@ -1,5 +1,5 @@
 -- This file shows what an index answers once a key is taken out or put in.
-use Rattle.std.proofs.Common.{◌≡◌, ◌≢◌, ◌↔◌, ℕ, Bool, true, false, IsTrue, IsSome, Option, Some, None, cond}
+use Rattle.std.proofs.Common.{◌≡◌, ◌≢◌, ◌↔◌, ℕ, Bool, true, false, IsTrue, IsSome, is_some, Option, Some, None, cond}
 use Rattle.std.proofs.Common.{refl, sym, ap, subst, ◌∙◌, eq-eqb, true≢false}
 use Rattle.std.specs.Bool.{OnTrue, OnFalse}
 use Rattle.std.specs.Cmp.{unsigned_tied}
@@ -19,6 +19,20 @@ pub record IsPutIn (old new : Entries) (key : ℕ) (s : GridSegment) : Type 0 wh
   pub here : map.get new key ≡ Some s
   pub others : (k : ℕ) → k ≢ key → map.get new k ≡ map.get old k
 
+-- what isn't anything is nothing
+pub none_unless : (o : Option GridSegment) → ((s : GridSegment) → o ≡ Some s → ⊥) → o ≡ None
+none_unless None never = refl
+none_unless (Some s) never = absurd (never s refl)
+
+-- what a test for something tells
+pub none_where_not : (o : Option GridSegment) → is_some o ≡ false → o ≡ None
+none_where_not None is = refl
+none_where_not (Some s) is = absurd (cc)
+
+pub some_where : (o : Option GridSegment) → is_some o ≡ true → (s : GridSegment) × (o ≡ Some s)
+some_where None is = absurd (cc)
+some_where (Some s) is = (s, refl)
+
 -- what `remove` leaves, whether or not the key was there
 pub taken_out : (old new : Entries) (key : ℕ) (found : Bool) → (IsTrue found ↔ IsSome (map.get old key))
     → OnTrue found (new ≡ map.remove old key) → OnFalse found (new ≡ old) → IsTakenOut old new key
@@ -31,26 +45,16 @@ taken_out old new key true says removed unchanged =
           ∙ ap (λ b. cond b None (map.get old k)) (unsigned_tied k key ∙ ne_eqb k key differ);
     }
 taken_out old new key false says removed unchanged = record {
-  gone = ap (λ m. map.get m key) unchanged ∙ none_where_none (map.get old key) (λ some. true≢false (sym (says.1 some)));
+  gone = ap (λ m. map.get m key) unchanged
+      ∙ none_unless (map.get old key) (λ s some. true≢false (sym (says.1 (rw some refl))));
   others = λ k differ. ap (λ m. map.get m k) unchanged;
 }
-  where
-    none_where_none : (o : Option GridSegment) → (IsSome o → ⊥) → o ≡ None
-    none_where_none None none = refl
-    none_where_none (Some s) none = absurd (none refl)
 
 -- what `insert` leaves
-put_in : (old : Entries) (key : ℕ) (s : GridSegment) → IsPutIn old (map.insert old key s) key s
+pub put_in : (old : Entries) (key : ℕ) (s : GridSegment) → IsPutIn old (map.insert old key s) key s
 put_in old key s =
     let got = map.get-insert nat_cmp_total old key s in
     record {
       here = got key ∙ ap (λ b. cond b (Some s) (map.get old key)) (unsigned_tied key key ∙ eq-eqb key key refl);
       others = λ k differ. got k ∙ ap (λ b. cond b (Some s) (map.get old k)) (unsigned_tied k key ∙ ne_eqb k key differ);
     }
-
--- a key that is taken out and put in again
-pub taken_and_put : (old mid new : Entries) (key : ℕ) (s : GridSegment) → IsTakenOut old mid key
-    → new ≡ map.insert mid key s → IsPutIn old new key s
-taken_and_put old mid new key s taken put =
-    let now = subst (λ m. IsPutIn mid m key s) (sym put) (put_in mid key s) in
-    record { here = now.here; others = λ k differ. now.others k differ ∙ taken.others k differ }

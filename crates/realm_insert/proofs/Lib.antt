@@ -1,11 +1,13 @@
 -- indexes with a key less or a key more
 pub mod IndexKeys
--- segments are one or two
-mod SameSegments
 -- indexes in which the pieces of a list are put
 pub mod PutPieces
+-- pieces that are noted with their keys
+pub mod NotedPieces
 -- indexes in which pieces are forgotten
 pub mod ForgottenPieces
+-- indexes with a piece that they may have lacked
+pub mod MissingPieces
 -- boxes that meet
 pub mod CommonBoxes
 -- points that are explicit or ends of pieces
@@ -24,5 +26,7 @@ pub mod StepsTaken
 pub mod PlacedOriginals
 -- a drawing with one more explicit point
 pub mod MarkedPoints
+-- the latest traces
+pub mod LatestTraces
 -- the empty drawing, with which an engine begins
 pub mod EmptyDrawing

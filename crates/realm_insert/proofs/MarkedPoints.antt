@@ -1,15 +1,16 @@
 -- This file shows what one more explicit point makes of a drawing without a violation.
-use Rattle.std.proofs.Common.{◌≡◌, ◌⊎◌, ℕ, ◌<◌, List, Contains, All, Any, inl, inr, sym, subst}
+use Rattle.std.proofs.Common.{◌≡◌, ◌⊎◌, ℕ, ◌<◌, ◌≤◌, List, Contains, All, Any, inl, inr, sym, subst}
 use Rattle.grid_base.specs.Point.{GridPoint}
 use Rattle.grid_base.specs.Segment.{GridSegment}
 use Rattle.grid_base.specs.Crossing.{Inside}
 use Rattle.grid_base.specs.Realm.{PointInside, TwoCross}
 use Rattle.grid_base.specs.Drawing.{HasLink, IsPoint, IsPiece, HasViolation}
 use Rattle.grid_base.specs.declared.original.Original.{Original}
-use Rattle.realm_drawing.specs.Straight.{AllBelow}
-use Rattle.realm_drawing.specs.Keyed.{KeyedPiece, KeyedDrawing, HasKey, keyed, AddsPoint, AreKeyed}
+use Rattle.realm_drawing.specs.Keyed.{KeyedDrawing, HasKey, keyed, AddsPoint, AreKeyed}
+use Rattle.realm_drawing.specs.declared.keyed.KeyedPiece.{KeyedPiece}
 use Rattle.realm_index.specs.Index.{Entries}
 use Rattle.realm_insert.specs.Kept.{IsIndexed}
+use Rattle.realm_insert.specs.State.{HasIdsBelow}
 use Rattle.realm_insert.specs.Work.{IsCoveredBy}
 
 -- the pieces and their keys are as they were
@@ -46,9 +47,10 @@ indexed_marked old new p index adds indexed s k = (
   λ has. (indexed s k).1 (marked_key old new p adds s k has),
 )
 
-pub below_marked : (old new : KeyedDrawing) (p : GridPoint) (id : ℕ) → AddsPoint old new p → AllBelow id old.drawing
-    → AllBelow id new.drawing
-below_marked old new p id adds below = subst (λ (l : List Original). All (λ o. o.id < id) l) (sym adds.originals) below
+pub below_marked : (old new : KeyedDrawing) (p : GridPoint) (n : ℕ) → AddsPoint old new p → HasIdsBelow n old.drawing
+    → HasIdsBelow n new.drawing
+below_marked old new p n adds below =
+    subst (λ (l : List Original). All (λ o. (1 ≤ o.id) × (o.id < n)) l) (sym adds.originals) below
 
 -- a point afterwards is p or was one before
 marked_point : (old new : KeyedDrawing) (p : GridPoint) → AddsPoint old new p → (q : GridPoint) → IsPoint new.drawing q

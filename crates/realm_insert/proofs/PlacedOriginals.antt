@@ -1,5 +1,5 @@
 -- This file shows what one more straight original makes of a drawing without a violation.
-use Rattle.std.proofs.Common.{ℕ, ◌+◌, ◌<◌, [], ◌∷◌, ◌++◌, inl, inr, arith}
+use Rattle.std.proofs.Common.{ℕ, ◌+◌, ◌<◌, ◌≤◌, [], ◌∷◌, ◌++◌, inl, inr, arith}
 use Rattle.std.proofs.lemmas.List.Elements.{All-push, All-weaker, All-contains, Contains-push}
 use Rattle.grid_base.specs.Point.{IsBefore}
 use Rattle.grid_base.specs.Segment.{GridSegment, IsEnd}
@@ -9,6 +9,7 @@ use Rattle.realm_drawing.specs.Straight.{straight, along, placed, AllBelow}
 use Rattle.realm_drawing.specs.Chains.{StandsFor, AllStand}
 use Rattle.realm_drawing.proofs.Additions.{piece_is_old_or_new, point_is_old_or_end}
 use Rattle.realm_drawing.proofs.Elements.{Any-head, Contains-head}
+use Rattle.realm_insert.specs.State.{HasIdsBelow}
 use Rattle.realm_insert.specs.Work.{IsCoveredBy}
 
 -- its ends are in order, since its chain stands for it
@@ -42,7 +43,14 @@ covered_placed d id s ordered settled =
     }
 
 -- the next id is greater than all ids again
-pub placed_below : (d : Drawing) (id : ℕ) (s : GridSegment) → AllBelow id d → AllBelow (id + 1) (placed d id s)
-placed_below d id s below =
-    All-push (λ o. o.id < id + 1) d.originals (straight id s)
-    (All-weaker (λ o. o.id < id) (λ o. o.id < id + 1) (λ o less. omega arith) d.originals below) (omega arith)
+pub placed_below : (d : Drawing) (id : ℕ) (s : GridSegment) → 1 ≤ id → HasIdsBelow id d → HasIdsBelow (id + 1) (placed d id s)
+placed_below d id s first below =
+    All-push (λ o. (1 ≤ o.id) × (o.id < id + 1)) d.originals (straight id s)
+    (All-weaker (λ o. (1 ≤ o.id) × (o.id < id)) (λ o. (1 ≤ o.id) × (o.id < id + 1))
+    (λ o bounds. (bounds.0, omega (arith, bounds.1))) d.originals below)
+    (first, omega arith)
+
+-- so it may have this id
+pub id_is_above : (d : Drawing) (id : ℕ) → HasIdsBelow id d → AllBelow id d
+id_is_above d id below =
+    All-weaker (λ o. (1 ≤ o.id) × (o.id < id)) (λ o. o.id < id) (λ o bounds. bounds.1) d.originals below

@@ -1,5 +1,5 @@
 -- This file shows what steps make of a drawing when they are taken one after the other.
-use Rattle.std.proofs.Common.{◌≡◌, ℕ, ◌-◌, ◌<◌, List, [], ◌∷◌, ◌++◌, refl, sym, subst, arith}
+use Rattle.std.proofs.Common.{◌≡◌, ℕ, ◌-◌, ◌<◌, ◌≤◌, List, [], ◌∷◌, ◌++◌, refl, sym, subst, arith}
 use Rattle.grid_base.specs.Point.{GridPoint}
 use Rattle.grid_base.specs.Drawing.{Drawing, HasViolation}
 use Rattle.grid_base.specs.declared.kinds.Step.{Step}
@@ -7,12 +7,11 @@ use Rattle.realm_drawing.specs.Steps.{Permitted, Settles}
 use Rattle.realm_drawing.specs.Chains.{AllValid}
 use Rattle.realm_drawing.specs.Keyed.{KeyedDrawing, AreKeyed}
 use Rattle.realm_drawing.specs.Measure.{links_of, most_links_of}
-use Rattle.realm_drawing.specs.Straight.{AllBelow}
 use Rattle.realm_drawing.proofs.StepOutcomes.{ids_stay, no_violation_no_step}
 use Rattle.realm_drawing.proofs.StepsAdd.{step_adds_link, step_keeps_most, links_are_few}
 use Rattle.realm_index.specs.Index.{Entries}
 use Rattle.realm_insert.specs.Kept.{IsIndexed, IsAtRest}
-use Rattle.realm_insert.specs.State.{HasPointToo}
+use Rattle.realm_insert.specs.State.{HasPointToo, HasIdsBelow}
 use Rattle.realm_insert.specs.Work.{LeadsBy}
 
 -- one more step may come at the end
@@ -58,10 +57,10 @@ unmoved old d e p trace with_point settles settled =
     (none, subst (λ (f : Drawing). HasPointToo old f p) (sym same) with_point)
 
 -- ids stay as they are
-pub ids_below : (d e : Drawing) (trace : List Step) (id : ℕ) → Settles d trace e → AllBelow id d → AllBelow id e
-ids_below d e [] id settles below = subst (AllBelow id) settles.0 below
-ids_below d e (step ∷ trace) id settles below =
-    ids_below settles.0 e trace id settles.2 (ids_stay d settles.0 step settles.1 id below)
+pub ids_below : (d e : Drawing) (trace : List Step) (n : ℕ) → Settles d trace e → HasIdsBelow n d → HasIdsBelow n e
+ids_below d e [] n settles below = subst (HasIdsBelow n) settles.0 below
+ids_below d e (step ∷ trace) n settles below =
+    ids_below settles.0 e trace n settles.2 (ids_stay (λ id. (1 ≤ id) × (id < n)) d settles.0 step settles.1 below)
 
 -- each step leaves room for fewer links
 pub room_shrinks : (d e : Drawing) (step : Step) → AllValid d → AllValid e → Permitted d step e

@@ -1,20 +1,29 @@
--- What the search round one piece looks for. No public clause cites this file.
-use Rattle.std.specs.Prelude.{Contains}
+-- What the search round one segment looks for. No public clause cites this file.
+use Rattle.std.specs.Prelude.{ℕ, List, Contains}
 use Rattle.grid_base.specs.Point.{GridPoint}
 use Rattle.grid_base.specs.Segment.{GridSegment, IsEnd}
 use Rattle.grid_base.specs.Crossing.{Inside, Cross}
 use Rattle.grid_base.specs.Drawing.{Drawing, IsPoint, IsPiece}
+use Rattle.realm_drawing.specs.Keyed.{KeyedDrawing, HasKey}
 
 -- no explicit point is inside s
 abbrev pub HasNoneInside : Drawing → GridSegment → Type 0
 HasNoneInside d s = (p : GridPoint) → Contains d.points p → Inside p s → ⊥
 
+-- p is no point, or it is inside no piece
+abbrev pub IsInsideNone : Drawing → GridPoint → Type 0
+IsInsideNone d p = (t : GridSegment) → IsPoint d p → IsPiece d t → Inside p t → ⊥
+
 -- no end of s that is a point is inside t
 abbrev pub HasNoEndInside : Drawing → GridSegment → GridSegment → Type 0
 HasNoEndInside d s t = (p : GridPoint) → IsEnd p s → IsPoint d p → Inside p t → ⊥
 
--- s and the piece t make no violation
+-- the pieces s and t make no violation
 pub record NoClash (d : Drawing) (s t : GridSegment) : Type 0 where
   pub no_end_of_s : HasNoEndInside d s t
-  pub no_end_of_t : IsPiece d s → HasNoEndInside d t s
-  pub no_crossing : IsPiece d s → Cross s t → ⊥
+  pub no_end_of_t : HasNoEndInside d t s
+  pub no_crossing : Cross s t → ⊥
+
+-- nor do s and any piece with one of the keys
+abbrev pub HasNoClashAmong : KeyedDrawing → GridSegment → List ℕ → Type 0
+HasNoClashAmong d s keys = (k : ℕ) → Contains keys k → (t : GridSegment) → HasKey d t k → NoClash d.drawing s t

@@ -1,13 +1,12 @@
 -- What every engine that isn't spent is like.
-use Rattle.std.specs.Prelude.{◌≡◌, ◌↔◌, ℕ, ◌≤◌, ◌^◌, Bool, false, Some, List, length}
+use Rattle.std.specs.Prelude.{◌≡◌, ◌↔◌, ℕ, ◌≤◌, ◌^◌, Bool, false, Some, List}
 use Rattle.std.specs.FinMap as map
 use Rattle.grid_base.specs.Segment.{GridSegment}
 use Rattle.grid_base.specs.Drawing.{HasViolation}
-use Rattle.realm_drawing.specs.Straight.{AllBelow}
 use Rattle.realm_drawing.specs.Chains.{AllValid}
 use Rattle.realm_drawing.specs.Keyed.{KeyedDrawing, HasKey, AreKeyed}
 use Rattle.realm_index.specs.Index.{Entries}
-use Rattle.realm_insert.specs.State.{KeptTrace}
+use Rattle.realm_insert.specs.State.{KeptTrace, HasIdsBelow, AreLatest}
 
 -- the index has each piece under its key, and nothing else
 abbrev pub IsIndexed : KeyedDrawing → Entries → Type 0
@@ -20,13 +19,14 @@ pub record IsAtRest (d : KeyedDrawing) (index : Entries) : Type 0 where
   pub keyed : AreKeyed d
   pub indexed : IsIndexed d index
 
--- so it is, ids are below the next one, and the numbers are in their bounds
+-- so it is, ids and changes are numbered from 1 on and within their bounds, and the traces are the latest
 pub record IsSettled (d : KeyedDrawing) (index : Entries) (next_id changes : ℕ) (traces : List KeptTrace) : Type 0 where
   pub rest : IsAtRest d index
-  pub ids_below : AllBelow next_id d.drawing
+  pub ids : HasIdsBelow next_id d.drawing
+  pub first_id : 1 ≤ next_id
   pub most_ids : next_id ≤ 2 ^ 32
   pub most_changes : changes ≤ 2 ^ 63
-  pub few_traces : length traces ≤ 16
+  pub latest : AreLatest changes traces
 
 -- this holds unless the engine is spent
 abbrev pub IsKept : Bool → KeyedDrawing → Entries → ℕ → ℕ → List KeptTrace → Type 0

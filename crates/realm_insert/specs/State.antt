@@ -1,5 +1,6 @@
 -- What the store holds, and a state after one more change.
-use Rattle.std.specs.Prelude.{◌≡◌, ◌⊎◌, ◌↔◌, ℕ, ◌+◌, ◌-◌, Bool, false, List, [], ◌∷◌, ◌++◌, length, drop, AllPairs, Contains}
+use Rattle.std.specs.Prelude.{◌≡◌, ◌⊎◌, ◌↔◌, ℕ, ◌+◌, ◌-◌, ◌<◌, ◌≤◌, min, Bool, false}
+use Rattle.std.specs.Prelude.{List, [], ◌∷◌, ◌++◌, length, drop, get_or, All, AllPairs, Contains}
 use Rattle.grid_base.specs.Point.{GridPoint, IsBefore}
 use Rattle.grid_base.specs.Segment.{GridSegment}
 use Rattle.grid_base.specs.Drawing.{Drawing}
@@ -25,6 +26,16 @@ pub record State : Type 0 where
 -- nothing is drawn, the next id is 1 and no change was accepted
 abbrev pub empty_state : State
 empty_state = record { drawing = record { points = []; originals = [] }; next_id = 1; changes = 0; traces = [] }
+
+-- each id of d is at least 1 and below n
+abbrev pub HasIdsBelow : ℕ → Drawing → Type 0
+HasIdsBelow n d = All (λ o. (1 ≤ o.id) × (o.id < n)) d.originals
+
+-- the traces are those of the last 16 of so many changes, of all where these are fewer, in the order of their numbers
+pub record AreLatest (changes : ℕ) (traces : List KeptTrace) : Type 0 where
+  pub count : length traces ≡ min changes 16
+  pub numbers : (i : ℕ) (other : KeptTrace) → i < length traces
+      → (get_or traces i other).number + length traces ≡ changes + i + 1
 
 -- the last 16 of the traces
 abbrev pub latest : List KeptTrace → List KeptTrace

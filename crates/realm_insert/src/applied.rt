@@ -1,6 +1,5 @@
 //! What a change answers.
 ghost use Rattle.std.specs.Prelude.{◌≡◌, IfOk};
-ghost use Rattle.realm_insert.specs.declared.applied.AddError.TheVariants.{NoMemory as Exhausted};
 
 use grid_base::{NoMemory, Step};
 use std::alloc::Global;
@@ -72,7 +71,9 @@ pub enum AddError {
 }
 
 impl From<NoMemory> for AddError {
-    ghost from_gives = { λ _ e. e ≡ Exhausted };
+    ghost use Rattle.realm_insert.specs.declared.applied.AddError.TheVariants.{NoMemory};
+
+    ghost from_gives = { λ _ e. e ≡ NoMemory };
 
     fn from(_: NoMemory) -> AddError {
         AddError::NoMemory

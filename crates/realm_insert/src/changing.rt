@@ -1,13 +1,13 @@
 //! The two changes of a drawing and the index of its pieces, each settled.
-ghost use Rattle.std.specs.Prelude.{ℕ, ◌+◌, ◌∷◌, IfOk, OnOk};
+ghost use Rattle.std.specs.Prelude.{ℕ, ◌+◌, ◌≤◌, IfOk, OnOk};
 ghost use Rattle.grid_base.specs.Drawing.{Drawing as Drawn};
 ghost use Rattle.realm_drawing.specs.Steps.{Settles};
-ghost use Rattle.realm_drawing.specs.Straight.{placed, AllBelow};
+ghost use Rattle.realm_drawing.specs.Straight.{placed};
 ghost use Rattle.realm_insert.specs.Kept.{IsAtRest};
-ghost use Rattle.realm_insert.specs.State.{HasPointToo};
+ghost use Rattle.realm_insert.specs.State.{HasPointToo, HasIdsBelow};
 
 use crate::applied::Trace;
-use crate::indexing::put_all_in_index;
+use crate::indexing::put_if_missing;
 use crate::searching::pieces_round;
 use crate::settling::settle;
 use grid_base::{NoMemory, Point, Segment};
@@ -24,14 +24,15 @@ pub(crate) fn draw_settled(
     s: Segment,
 ) -> Result<Trace, NoMemory>
     requires rest { IsAtRest drawing.old index.old }
-    requires id_above { AllBelow id drawing.old.drawing }
+    requires ids { HasIdsBelow id drawing.old.drawing }
+    requires first { 1 ≤ id }
     ensures settles { IfOk result (λ trace. Settles (placed drawing.old.drawing id s) trace drawing.new.drawing) }
     ensures rest { OnOk result (IsAtRest drawing.new index.new) }
-    ensures ids { OnOk result (AllBelow (id + 1) drawing.new.drawing) }
+    ensures ids { OnOk result (HasIdsBelow (id + 1) drawing.new.drawing) }
 {
     drawing.place(id, s)?;
+    put_if_missing(drawing, index, &s)?;
     let fresh = vec![in alloc; s]?;
-    put_all_in_index(drawing, index, fresh.as_slice())?;
     Ok(Trace::new(settle(alloc, drawing, index, fresh)?))
 }
 
@@ -46,7 +47,8 @@ pub(crate) fn mark_settled(
     ensures settles { IfOk result (λ trace. (changed : Drawn) × HasPointToo drawing.old.drawing changed p
         × Settles changed trace drawing.new.drawing) }
     ensures rest { OnOk result (IsAtRest drawing.new index.new) }
-    ensures ids { OnOk result ((id : ℕ) → AllBelow id drawing.old.drawing → AllBelow id drawing.new.drawing) }
+    ensures ids { OnOk result
+        ((id : ℕ) → HasIdsBelow id drawing.old.drawing → HasIdsBelow id drawing.new.drawing) }
 {
     drawing.add_point(p)?;
     let fresh = pieces_round(alloc, drawing, index, &p)?;

@@ -1,12 +1,12 @@
 //! The engine: the drawing, an index of its pieces by their keys, and the numbers of the state. It is spent from the
 //! beginning of a change to its end, so want of memory leaves it spent.
 ghost use Rattle.std.specs.Prelude.{◌≡◌, ◌≢◌, ◌⊎◌, ◌↔◌, ◌+◌, ◌≤◌, ◌<◌, ◌^◌, ℕ, true, false, List, [], ◌∷◌, ◌++◌};
-ghost use Rattle.std.specs.Prelude.{length, Contains, Err, IfOk, OnOk, MatchResult, IfSome, IsNone};
+ghost use Rattle.std.specs.Prelude.{Contains, Err, IfOk, OnOk, MatchResult, IfSome, IsNone};
 ghost use Rattle.grid_base.specs.Drawing.{Drawing as Drawn, HasViolation, IsDrawnRealm};
 ghost use Rattle.grid_base.specs.declared.kinds.Step.{Step as Seen};
-ghost use Rattle.realm_drawing.specs.Straight.{AllBelow, placed};
-ghost use Rattle.realm_insert.specs.State.{fresh_state, kept_trace, latest, DrawsSegment, HasPointToo, MakesExplicit};
-ghost use Rattle.realm_insert.specs.declared.applied.AddError.TheVariants.{Ids, Changes, NoMemory as Exhausted};
+ghost use Rattle.realm_drawing.specs.Straight.{placed};
+ghost use Rattle.realm_insert.specs.State.{fresh_state, kept_trace, latest, HasIdsBelow, AreLatest};
+ghost use Rattle.realm_insert.specs.State.{DrawsSegment, HasPointToo, MakesExplicit};
 
 use crate::applied::{AddError, Applied, Trace};
 use crate::changing::{draw_settled, mark_settled};
@@ -86,12 +86,12 @@ impl Engine {
         self.spent
     }
 
-    /// What is drawn. It is a realm, and each id in it is below the next one.
+    /// What is drawn. It is a realm, and each id in it is at least 1 and below the next one.
     pub fn drawing(&self) -> &Drawing
         requires ready { self.now.spent ≡ false }
         ensures drawing { result.now.drawing ≡ self.now.state.drawing }
         ensures realm { IsDrawnRealm self.now.state.drawing }
-        ensures ids_below { AllBelow self.now.state.next_id self.now.state.drawing }
+        ensures ids { HasIdsBelow self.now.state.next_id self.now.state.drawing }
         ensures most_ids { self.now.state.next_id ≤ 2 ^ 32 }
     {
         &self.drawing
@@ -110,15 +110,18 @@ impl Engine {
     pub fn next_id(&self) -> u64
         requires ready { self.now.spent ≡ false }
         ensures next_id { result ≡ self.now.state.next_id }
+        ensures least { 1 ≤ result }
         ensures most { result ≤ 2 ^ 32 }
     {
         self.next_id
     }
 
-    /// The steps of the change with this number; none where it isn't among the last 16.
+    /// The steps of the change with this number; none where it isn't among the last 16. The kept traces are those of the
+    /// last changes, in order.
     pub fn trace(&self, number: u64) -> Option<&[Step]>
         requires ready { self.now.spent ≡ false }
         ensures trace { IfSome result (λ steps. Contains self.now.state.traces (kept_trace number steps.now)) }
+        ensures latest { AreLatest self.now.state.changes self.now.state.traces }
         ensures none { IsNone result
             ↔ ((steps : List Seen) → Contains self.now.state.traces (kept_trace number steps) → ⊥) }
     {
@@ -138,11 +141,11 @@ impl Engine {
         ensures untouched { IfOk result (λ applied.
             (HasViolation (placed self.old.state.drawing self.old.state.next_id s) → ⊥)
             → (applied.trace ≡ []) × (self.new.state.drawing ≡ placed self.old.state.drawing self.old.state.next_id s)) }
-        ensures ids { (result ≡ Err Ids) ↔ (2 ^ 32 ≤ self.old.state.next_id) }
-        ensures changes { (result ≡ Err Changes)
+        ensures ids { (result ≡ Err AddError.Ids) ↔ (2 ^ 32 ≤ self.old.state.next_id) }
+        ensures changes { (result ≡ Err AddError.Changes)
             ↔ ((self.old.state.next_id < 2 ^ 32) × (2 ^ 63 ≤ self.old.state.changes)) }
-        ensures refused { (result ≡ Err Ids) ⊎ (result ≡ Err Changes) → self.new ≡ self.old }
-        ensures spent { (self.new.spent ≡ true) ↔ (result ≡ Err Exhausted) }
+        ensures refused { (result ≡ Err AddError.Ids) ⊎ (result ≡ Err AddError.Changes) → self.new ≡ self.old }
+        ensures spent { (self.new.spent ≡ true) ↔ (result ≡ Err AddError.NoMemory) }
     {
         if self.next_id > u64::from(u32::MAX) {
             return Err(AddError::Ids);
@@ -161,10 +164,10 @@ impl Engine {
         ensures untouched { IfOk result (λ applied.
             ((changed : Drawn) → HasPointToo self.old.state.drawing changed p → HasViolation changed → ⊥)
             → (applied.trace ≡ []) × HasPointToo self.old.state.drawing self.new.state.drawing p) }
-        ensures no_ids { result ≢ Err Ids }
-        ensures changes { (result ≡ Err Changes) ↔ (2 ^ 63 ≤ self.old.state.changes) }
-        ensures refused { result ≡ Err Changes → self.new ≡ self.old }
-        ensures spent { (self.new.spent ≡ true) ↔ (result ≡ Err Exhausted) }
+        ensures no_ids { result ≢ Err AddError.Ids }
+        ensures changes { (result ≡ Err AddError.Changes) ↔ (2 ^ 63 ≤ self.old.state.changes) }
+        ensures refused { result ≡ Err AddError.Changes → self.new ≡ self.old }
+        ensures spent { (self.new.spent ≡ true) ↔ (result ≡ Err AddError.NoMemory) }
     {
         if self.changes >= MOST_CHANGES {
             return Err(AddError::Changes);
@@ -228,8 +231,9 @@ fn count(
     trace: &Trace,
 ) -> Result<(), NoMemory>
     requires change_left { changes.old < 2 ^ 63 }
-    requires few { length traces.old.items ≤ 16 }
+    requires latest { AreLatest changes.old traces.old.items }
     ensures changes { OnOk result (changes.new ≡ changes.old + 1) }
+    ensures latest { OnOk result (AreLatest changes.new traces.new.items) }
     ensures traces { OnOk result
         (traces.new.items ≡ latest (traces.old.items ++ kept_trace (changes.old + 1) trace.now ∷ [])) }
 {

@@ -1,15 +1,15 @@
-//! The search for violations round one piece.
-ghost use Rattle.std.specs.Prelude.{◌≡◌, ◌↔◌, ℕ, IfOk, MatchOption, IsTrue, Contains};
+//! The search for violations round one segment of the list. Most are pieces; of one that isn't any more only the ends count.
+ghost use Rattle.std.specs.Prelude.{◌≡◌, ◌↔◌, IfOk, MatchOption, Contains};
 ghost use Rattle.grid_base.specs.Point.{InBox};
 ghost use Rattle.grid_base.specs.Segment.{GridSegment, BoxesMeet};
 ghost use Rattle.grid_base.specs.Crossing.{Inside};
 ghost use Rattle.grid_base.specs.Drawing.{IsPoint, IsPiece};
 ghost use Rattle.realm_drawing.specs.Chains.{AllValid};
-ghost use Rattle.realm_drawing.specs.Keyed.{HasKey};
+ghost use Rattle.realm_drawing.specs.Keyed.{HasKey, AreKeyed};
 ghost use Rattle.realm_drawing.specs.Mending.{IsPermitted};
 ghost use Rattle.realm_index.specs.Index.{HasKeysWhere};
 ghost use Rattle.realm_insert.specs.Kept.{IsIndexed};
-ghost use Rattle.realm_insert.specs.Clashes.{HasNoneInside, HasNoEndInside, NoClash};
+ghost use Rattle.realm_insert.specs.Clashes.{HasNoneInside, IsInsideNone, HasNoEndInside, NoClash, HasNoClashAmong};
 ghost use Rattle.realm_insert.specs.Work.{IsClean};
 
 use grid_base::{NoMemory, Point, Segment, Step, Steps, in_side};
@@ -21,23 +21,79 @@ use std::sync::ledger::{Blank, Ledger};
 
 // A step that mends a violation with `s` or an end of it; none where there is none.
 pub(crate) fn violation_at(
+    alloc: Global,
     drawing: &Drawing,
     index: &Index,
     s: &Segment,
 ) -> Result<Option<Step>, NoMemory>
     requires indexed { IsIndexed drawing.now index.now }
+    requires keyed { AreKeyed drawing.now }
     requires valid { AllValid drawing.now.drawing }
     ensures { IfOk result
         (λ found. MatchOption found (IsClean drawing.now.drawing s.now) (IsPermitted drawing.now.drawing)) }
 {
-    let is_piece = drawing.key(s).is_some();
-    if is_piece {
-        if let Some(step) = explicit_inside(drawing, s)? {
-            return Ok(Some(step));
-        }
+    if drawing.key(s).is_some() {
+        violation_of(drawing, index, s)
+    } else {
+        split_by_ends(alloc, drawing, index, s)
+    }
+}
+
+// The same of the piece `s`.
+fn violation_of(drawing: &Drawing, index: &Index, s: &Segment) -> Result<Option<Step>, NoMemory>
+    requires indexed { IsIndexed drawing.now index.now }
+    requires keyed { AreKeyed drawing.now }
+    requires valid { AllValid drawing.now.drawing }
+    requires piece { IsPiece drawing.now.drawing s.now }
+    ensures { IfOk result
+        (λ found. MatchOption found (IsClean drawing.now.drawing s.now) (IsPermitted drawing.now.drawing)) }
+{
+    if let Some(step) = explicit_inside(drawing, s)? {
+        return Ok(Some(step));
     }
     let keys = meeting(index, s)?;
-    Ok(clash_among(drawing, s, is_piece, keys.as_slice()))
+    Ok(clash_among(drawing, s, keys.as_slice()))
+}
+
+// The same of `s` where it is no piece, so that only its ends are left.
+fn split_by_ends(
+    alloc: Global,
+    drawing: &Drawing,
+    index: &Index,
+    s: &Segment,
+) -> Result<Option<Step>, NoMemory>
+    requires indexed { IsIndexed drawing.now index.now }
+    requires keyed { AreKeyed drawing.now }
+    requires no_piece { IsPiece drawing.now.drawing s.now → ⊥ }
+    ensures { IfOk result
+        (λ found. MatchOption found (IsClean drawing.now.drawing s.now) (IsPermitted drawing.now.drawing)) }
+{
+    if let Some(step) = split_by(alloc, drawing, index, &s.a())? {
+        return Ok(Some(step));
+    }
+    split_by(alloc, drawing, index, &s.b())
+}
+
+// A step to `p` inside a piece; none where `p` is no point or inside no piece.
+fn split_by(
+    alloc: Global,
+    drawing: &Drawing,
+    index: &Index,
+    p: &Point,
+) -> Result<Option<Step>, NoMemory>
+    requires indexed { IsIndexed drawing.now index.now }
+    requires keyed { AreKeyed drawing.now }
+    ensures { IfOk result (λ found.
+        MatchOption found (IsInsideNone drawing.now.drawing p.now) (IsPermitted drawing.now.drawing)) }
+{
+    if !drawing.is_point(p) {
+        return Ok(None);
+    }
+    let round = pieces_round(alloc, drawing, index, p)?;
+    match round.as_slice().first() {
+        Some(t) => Ok(Some(Step::Split { p: *p, t: *t })),
+        None => Ok(None),
+    }
 }
 
 // The step to an explicit point inside the piece `s`.
@@ -55,46 +111,53 @@ fn explicit_inside(drawing: &Drawing, s: &Segment) -> Result<Option<Step>, NoMem
     Ok(None)
 }
 
-// A step that mends a violation of `s` and a piece with one of the keys.
-fn clash_among(drawing: &Drawing, s: &Segment, is_piece: bool, keys: &[usize]) -> Option<Step>
-    requires is_piece { IsTrue is_piece ↔ IsPiece drawing.now.drawing s.now }
-    ensures { MatchOption result
-        ((k : ℕ) → Contains keys.now k
-        → (t : GridSegment) → HasKey drawing.now t k → NoClash drawing.now.drawing s.now t)
-        (IsPermitted drawing.now.drawing) }
+// A step that mends a violation of the pieces `s` and one with one of the keys. The search begins in the middle of the
+// keys, so that a long piece that many cross is mostly cut far from its ends.
+fn clash_among(drawing: &Drawing, s: &Segment, keys: &[usize]) -> Option<Step>
+    requires piece { IsPiece drawing.now.drawing s.now }
+    ensures { MatchOption result (HasNoClashAmong drawing.now s.now keys.now) (IsPermitted drawing.now.drawing) }
+{
+    let middle = keys.len() / 2;
+    if let Some(step) = first_clash(drawing, s, &keys[middle..]) {
+        return Some(step);
+    }
+    first_clash(drawing, s, &keys[..middle])
+}
+
+// The same, in the order of the keys.
+fn first_clash(drawing: &Drawing, s: &Segment, keys: &[usize]) -> Option<Step>
+    requires piece { IsPiece drawing.now.drawing s.now }
+    ensures { MatchOption result (HasNoClashAmong drawing.now s.now keys.now) (IsPermitted drawing.now.drawing) }
 {
     for key in keys {
-        if let Some(step) = clash_at(drawing, s, is_piece, *key) {
+        if let Some(step) = clash_at(drawing, s, *key) {
             return Some(step);
         }
     }
     None
 }
 
-// A step that mends a violation of `s` and the piece with this key.
-fn clash_at(drawing: &Drawing, s: &Segment, is_piece: bool, key: usize) -> Option<Step>
-    requires is_piece { IsTrue is_piece ↔ IsPiece drawing.now.drawing s.now }
+// A step that mends a violation of the piece `s` and the one with this key.
+fn clash_at(drawing: &Drawing, s: &Segment, key: usize) -> Option<Step>
+    requires piece { IsPiece drawing.now.drawing s.now }
     ensures { MatchOption result
         ((t : GridSegment) → HasKey drawing.now t key → NoClash drawing.now.drawing s.now t)
         (IsPermitted drawing.now.drawing) }
 {
     match drawing.piece(key) {
-        Some(t) => clash(drawing, s, is_piece, &t),
+        Some(t) => clash(drawing, s, &t),
         None => None,
     }
 }
 
-// A step that mends a violation of `s` and the piece `t`.
-fn clash(drawing: &Drawing, s: &Segment, is_piece: bool, t: &Segment) -> Option<Step>
-    requires is_piece { IsTrue is_piece ↔ IsPiece drawing.now.drawing s.now }
+// A step that mends a violation of the two pieces.
+fn clash(drawing: &Drawing, s: &Segment, t: &Segment) -> Option<Step>
+    requires piece { IsPiece drawing.now.drawing s.now }
     requires other { IsPiece drawing.now.drawing t.now }
     ensures { MatchOption result (NoClash drawing.now.drawing s.now t.now) (IsPermitted drawing.now.drawing) }
 {
     if let Some(step) = end_inside(drawing, s, t) {
         return Some(step);
-    }
-    if !is_piece {
-        return None;
     }
     if let Some(step) = end_inside(drawing, t, s) {
         return Some(step);
@@ -174,11 +237,10 @@ pub(crate) fn pieces_round(
     p: &Point,
 ) -> Result<Vec<Segment>, NoMemory>
     requires indexed { IsIndexed drawing.now index.now }
+    requires keyed { AreKeyed drawing.now }
     ensures { IfOk result (λ list. (t : GridSegment)
-        → IsPiece drawing.now.drawing t → Inside p.now t → Contains list.items t) }
+        → Contains list.items t ↔ (IsPiece drawing.now.drawing t × Inside p.now t)) }
 {
-    // That each piece has a key is known where one is read.
-    let _keyed = drawing.piece(0);
     let keys = holding(index, p)?;
     let mut list = Vec::new(alloc);
     for key in &keys {

@@ -1,6 +1,7 @@
 //! Settling: steps are taken until no violation is left. A list has the pieces that are still to be looked at: each
-//! violation has one of them or an end of one. What a step draws joins the list.
-ghost use Rattle.std.specs.Prelude.{◌≡◌, IfOk, OnOk, MatchOption};
+//! violation has one of them or an end of one. What a step draws anew joins the list; a piece that a step replaced stays
+//! on it, for its ends.
+ghost use Rattle.std.specs.Prelude.{◌≡◌, ◌++◌, map, IfOk, OnOk, MatchOption};
 ghost use Rattle.grid_base.specs.Drawing.{HasViolation};
 ghost use Rattle.realm_drawing.specs.Steps.{Permitted, Settles};
 ghost use Rattle.realm_drawing.specs.Chains.{AllValid};
@@ -9,10 +10,10 @@ ghost use Rattle.realm_drawing.specs.Mending.{IsPermitted};
 ghost use Rattle.realm_insert.specs.Kept.{IsIndexed};
 ghost use Rattle.realm_insert.specs.Work.{IsCoveredBy};
 
-use crate::indexing::{forget, put_all_in_index};
+use crate::indexing::{forget_gone, keyed_pieces, put_in_index};
 use crate::searching::violation_at;
 use grid_base::{NoMemory, Segment, Step};
-use realm_drawing::{Drawing, StepError, drawn_pieces};
+use realm_drawing::{Drawing, KeyedPiece, StepError};
 use realm_index::Index;
 use std::alloc::Global;
 
@@ -34,7 +35,7 @@ pub(crate) fn settle(
 {
     let mut fresh = fresh;
     let mut trace = Vec::new(alloc);
-    while let Some(step) = next_step(drawing, index, &mut fresh)? {
+    while let Some(step) = next_step(alloc, drawing, index, &mut fresh)? {
         take(alloc, drawing, index, &step, &mut fresh)?;
         trace.push(step)?;
     }
@@ -43,11 +44,13 @@ pub(crate) fn settle(
 
 // A step that may be taken, and the list without the pieces that were found clean; none where no violation is left.
 fn next_step(
+    alloc: Global,
     drawing: &Drawing,
     index: &Index,
     fresh: &mut Vec<Segment>,
 ) -> Result<Option<Step>, NoMemory>
     requires indexed { IsIndexed drawing.now index.now }
+    requires keyed { AreKeyed drawing.now }
     requires valid { AllValid drawing.now.drawing }
     requires covered { IsCoveredBy drawing.now.drawing fresh.old.items }
     ensures found { IfOk result (λ found. MatchOption found (HasViolation drawing.now.drawing → ⊥)
@@ -55,7 +58,7 @@ fn next_step(
     ensures covered { OnOk result (IsCoveredBy drawing.now.drawing fresh.new.items) }
 {
     while let Some(piece) = fresh.as_slice().last() {
-        let found = violation_at(drawing, index, piece)?;
+        let found = violation_at(alloc, drawing, index, piece)?;
         if found.is_some() {
             return Ok(found);
         }
@@ -64,7 +67,7 @@ fn next_step(
     Ok(None)
 }
 
-// Takes the step, in the index too, and adds what it draws to the list.
+// Takes the step, in the index too, and adds what it draws anew to the list.
 fn take(
     alloc: Global,
     drawing: &mut Drawing,
@@ -83,14 +86,24 @@ fn take(
     ensures keyed { AreKeyed drawing.new }
     ensures valid { AllValid drawing.new.drawing }
 {
-    let drawn = drawn_pieces(alloc, step)?;
-    forget(drawing, index, step);
-    match drawing.apply(step) {
-        Ok(()) => {}
+    let replaced = keyed_pieces(alloc, drawing, step)?;
+    let drawn = match drawing.redraw(step) {
+        Ok(drawn) => drawn,
         Err(StepError::NoMemory) => return Err(NoMemory),
         Err(StepError::NotPermitted) => unreachable!(),
+    };
+    forget_gone(drawing, index, replaced.as_slice());
+    put_in_index(index, drawn.as_slice())?;
+    list_pieces(drawn.as_slice(), fresh)?;
+    Ok(())
+}
+
+// Adds the pieces to the list.
+fn list_pieces(drawn: &[KeyedPiece], fresh: &mut Vec<Segment>) -> Result<(), NoMemory>
+    ensures { OnOk result (fresh.new.items ≡ fresh.old.items ++ map (λ f. f.piece) drawn.now) }
+{
+    for one in drawn {
+        fresh.push(one.piece)?;
     }
-    put_all_in_index(drawing, index, drawn.as_slice())?;
-    fresh.extend_from_slice(drawn.as_slice())?;
     Ok(())
 }

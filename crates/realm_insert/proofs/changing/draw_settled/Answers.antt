@@ -1,28 +1,36 @@
-use Rattle.std.proofs.Common.{List, [], ◌∷◌, sym, subst, ◌∙◌, ◌+◌}
+use Rattle.std.proofs.Common.{[], ◌∷◌, sym, subst, ◌+◌}
 use Rattle.grid_base.specs.Segment.{GridSegment}
 use Rattle.grid_base.specs.Drawing.{Drawing}
 use Rattle.realm_drawing.specs.Steps.{Settles}
 use Rattle.realm_drawing.specs.Chains.{AllStand}
 use Rattle.realm_drawing.specs.Straight.{placed}
-use Rattle.realm_insert.specs.Indexing.{PutsInIndex}
 use Rattle.realm_insert.specs.Work.{IsCoveredBy}
-use Rattle.realm_insert.proofs.PlacedOriginals.{placed_in_order, covered_placed, placed_below}
-use Rattle.realm_insert.proofs.IndexAfter.{indexed_placed}
+use Rattle.realm_insert.proofs.PlacedOriginals.{placed_in_order, covered_placed, placed_below, id_is_above}
+use Rattle.realm_insert.proofs.IndexAfter.{entries_stay, indexed_placed}
 use Rattle.realm_insert.proofs.StepsTaken.{rests_after, ids_below}
 use Rattle.realm_insert.proofs.changing.draw_settled.Goals as goal
 
--- the new piece is put in
+-- the id is greater than all
+pub place-requires : goal.place-requires
+place-requires c = record { id_above = id_is_above c.args.drawing.now.drawing c.args.id c.requires.ids }
+
+-- what is in the index is a piece still
+pub put_if_missing-requires : goal.put_if_missing-requires
+put_if_missing-requires c =
+    let place = c.in_ok-place.ensures in
+    let ordered = placed_in_order c.args.drawing.now.drawing c.args.id c.args.s (subst AllStand place.ok place.stand) in
+    record {
+      pieces = entries_stay c.args.drawing.now c.place.new.self place.keys c.requires.rest.keyed place.keyed c.args.id c.args.s
+          c.args.index.now ordered place.ok c.requires.rest.indexed;
+    }
+
+-- and the new one is put in
 pub settle-requires-clause-indexed : goal.settle-requires-clause-indexed
 settle-requires-clause-indexed c =
-    let old = c.args.drawing.now in
-    let new = c.place.new.self in
-    let s = c.args.s in
     let place = c.in_ok-place.ensures in
-    let ordered = placed_in_order old.drawing c.args.id s (subst AllStand place.ok place.stand) in
-    let puts = subst (λ (l : List GridSegment). PutsInIndex new l c.args.index.now c.put_all_in_index.new.index)
-    (c.as_slice.ensures.value ∙ c.in_ok-fresh.ensures.items) c.in_ok-put_all_in_index.ensures in
-    indexed_placed old new c.args.id s c.args.index.now c.put_all_in_index.new.index ordered place.ok place.keys
-    c.requires.rest.keyed place.keyed c.requires.rest.indexed puts
+    let ordered = placed_in_order c.args.drawing.now.drawing c.args.id c.args.s (subst AllStand place.ok place.stand) in
+    indexed_placed c.args.drawing.now c.place.new.self place.keys c.requires.rest.keyed place.keyed c.args.id c.args.s
+    c.args.index.now ordered place.ok c.requires.rest.indexed c.put_if_missing.new.index c.in_ok-put_if_missing.ensures
 
 -- and is all there is to look at
 pub settle-requires-clause-covered : goal.settle-requires-clause-covered
@@ -51,4 +59,4 @@ returns-clause-ids c =
     let e = c.settle.new.drawing.drawing in
     let trace = c.in_ok-settle.field-0.items in
     let settles = subst (λ (d : Drawing). Settles d trace e) c.in_ok-place.ensures.ok c.in_ok-settle.ensures.settles in
-    ids_below (placed old id s) e trace (id + 1) settles (placed_below old id s c.requires.id_above)
+    ids_below (placed old id s) e trace (id + 1) settles (placed_below old id s c.requires.first c.requires.ids)

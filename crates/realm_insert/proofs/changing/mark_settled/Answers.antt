@@ -7,6 +7,7 @@ pub pieces_round-requires : goal.pieces_round-requires
 pieces_round-requires c = record {
   indexed = indexed_marked c.args.drawing.now c.add_point.new.self c.args.p c.args.index.now
       c.in_ok-add_point.ensures.added c.requires.rest.indexed;
+  keyed = keyed_marked c.args.drawing.now c.add_point.new.self c.args.p c.in_ok-add_point.ensures.added c.requires.rest.keyed;
 }
 
 pub settle-requires-clause-indexed : goal.settle-requires-clause-indexed
@@ -22,7 +23,7 @@ settle-requires-clause-keyed c =
 pub settle-requires-clause-covered : goal.settle-requires-clause-covered
 settle-requires-clause-covered c =
     covered_marked c.args.drawing.now c.add_point.new.self c.args.p c.in_ok-fresh.fresh.items
-    c.in_ok-add_point.ensures.added c.requires.rest.settled c.in_ok-fresh.ensures
+    c.in_ok-add_point.ensures.added c.requires.rest.settled (λ t piece inside. (c.in_ok-fresh.ensures t).1 (piece, inside))
 
 -- no violation is left
 pub returns-clause-rest : goal.returns-clause-rest

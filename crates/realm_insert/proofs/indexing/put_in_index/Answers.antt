@@ -1,30 +1,35 @@
-use Rattle.std.proofs.Common.{refl}
-use Rattle.realm_insert.proofs.IndexKeys.{taken_out, taken_and_put}
-use Rattle.realm_insert.proofs.PutPieces.{puts_by, puts_unkeyed}
+use Rattle.std.proofs.Common.{◌≡◌, None, take_all, subst, sym}
+use Rattle.std.specs.FinMap as map
+use Rattle.realm_index.specs.Index.{Entries}
+use Rattle.realm_insert.proofs.IndexKeys.{IsPutIn, put_in}
+use Rattle.realm_insert.proofs.PutPieces.{puts_none, next_is_new, puts_next}
 use Rattle.realm_insert.proofs.indexing.put_in_index.Goals as goal
 
--- the key is free once it is taken out
+pub loop-drawn-init : goal.loop-drawn-init
+loop-drawn-init c = puts_none c.args.index.now
+
+-- no key is listed twice
 pub insert-requires : goal.insert-requires
-insert-requires c =
-    let taken = taken_out c.args.index.now c.remove.new.self c.in-Some.key c.remove.result c.remove.ensures.found
-    c.remove.ensures.removed c.remove.ensures.unchanged in
-    record { new_key = taken.gone }
+insert-requires c = record {
+  new_key = next_is_new c.args.list.now c.loop-drawn.drawn-index c.drawn-item.result c.args.index.now c.loop-drawn.index
+      c.loop-drawn-test.true c.drawn-item.is c.loop-drawn.invariant c.requires.new_keys c.requires.once;
+}
 
--- the piece is under its key
-pub returns-in_ok-insert-clause-ok : goal.returns-in_ok-insert-clause-ok
-returns-in_ok-insert-clause-ok c =
-    let key = c.in-Some.key in
+-- one piece more
+pub loop-drawn-preserved : goal.loop-drawn-preserved
+loop-drawn-preserved c =
+    let list = c.args.list.now in
+    let i = c.loop-drawn.drawn-index in
+    let x = c.drawn-item.result in
     let old = c.args.index.now in
+    let mid = c.loop-drawn.index in
     let new = c.insert.new.self in
-    let piece = c.args.piece.now in
-    let taken = taken_out old c.remove.new.self key c.remove.result c.remove.ensures.found c.remove.ensures.removed
-    c.remove.ensures.unchanged in
-    let put = taken_and_put old c.remove.new.self new key piece taken c.in_ok-insert.ensures.ok in
-    puts_by c.args.drawing.now piece key old new c.key.ensures.keyed ((c.key.ensures.key key).0 c.in-Some.is) put
+    let within = c.loop-drawn-test.true in
+    let none = next_is_new list i x old mid within c.drawn-item.is c.loop-drawn.invariant c.requires.new_keys
+    c.requires.once in
+    puts_next list i x old mid within c.drawn-item.is c.loop-drawn.invariant new none
+    (subst (λ (m : Entries). IsPutIn mid m x.key x.piece) (sym c.in_ok-insert.ensures.ok) (put_in mid x.key x.piece))
 
--- what is no piece has no key
-pub returns-in_default-clause-ok : goal.returns-in_default-clause-ok
-returns-in_default-clause-ok c =
-    let index = c.args.index.now in
-    puts_unkeyed c.args.drawing.now c.args.piece.now index index
-    (λ k has. c.in_default.not-Some k ((c.key.ensures.key k).1 has)) refl
+-- at the end all were put in
+pub returns : goal.returns
+returns c = let past = c.loop-drawn-test.false in rw take_all at c.loop-drawn.invariant

@@ -5,5 +5,5 @@ use Rattle.realm_insert.proofs.searching.clash.Goals as goal
 pub returns : goal.returns
 returns c =
     crossing_found c.args.drawing.now.drawing c.args.s.now c.args.t.now c.crossing_step.result
-    (c.requires.is_piece.0 c.if-not-is_piece.false) c.requires.other c.in_default.ensures c.in_default-end_inside.ensures
+    c.requires.piece c.requires.other c.in_default.ensures c.in_default-end_inside.ensures
     c.crossing_step.ensures.apart c.crossing_step.ensures.mends

@@ -1,19 +1,18 @@
-use Rattle.std.proofs.Common.{ℕ, refl, take_all, get_or}
-use Rattle.grid_base.specs.Segment.{GridSegment}
-use Rattle.realm_drawing.specs.Keyed.{HasKey}
-use Rattle.realm_insert.specs.Clashes.{NoClash}
-use Rattle.realm_insert.proofs.CleanPieces.{next_too}
+use Rattle.std.proofs.Common.{◌/◌, ◌-◌, length, take, drop, take_all, length-drop, subst, arith}
+use Rattle.realm_drawing.specs.Mending.{IsPermitted}
+use Rattle.realm_insert.specs.Clashes.{HasNoClashAmong}
+use Rattle.realm_insert.proofs.CleanPieces.{no_clash_in_parts}
+use Rattle.realm_insert.proofs.FoundSteps.{none_means}
 use Rattle.realm_insert.proofs.searching.clash_among.Goals as goal
 
--- nor does the piece with the next key
-pub loop-key-preserved : goal.loop-key-preserved
-loop-key-preserved c =
-    let d = c.args.drawing.now in
-    let keys = c.args.keys.now in
-    let i = c.loop-key.key-index in
-    next_too (λ (k : ℕ). (t : GridSegment) → HasKey d t k → NoClash d.drawing c.args.s.now t) keys i 0 (get_or keys i 0)
-    c.loop-key-test.true refl c.loop-key.invariant c.in_default.ensures
-
--- at the end no piece clashes
+-- nothing was found behind the middle, and what is found before it is all
 pub returns : goal.returns
-returns c = let past = c.loop-key-test.false in rw take_all at c.loop-key.invariant
+returns c =
+    let d = c.args.drawing.now in
+    let s = c.args.s.now in
+    let keys = c.args.keys.now in
+    let middle = length keys / 2 in
+    let behind = take_all (length keys - middle) (drop middle keys) (omega (arith, length-drop middle keys)) in
+    none_means c.first_clash-2.result (HasNoClashAmong d s (take middle keys)) (HasNoClashAmong d s keys)
+    (IsPermitted d.drawing) (λ before. no_clash_in_parts d s keys middle before
+    (subst (HasNoClashAmong d s) behind c.in_default.ensures)) c.first_clash-2.ensures

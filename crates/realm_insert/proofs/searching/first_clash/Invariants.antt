@@ -2,7 +2,7 @@ use Rattle.std.proofs.Common.{ℕ, take, Contains}
 use Rattle.grid_base.specs.Segment.{GridSegment}
 use Rattle.realm_drawing.specs.Keyed.{HasKey}
 use Rattle.realm_insert.specs.Clashes.{NoClash}
-use Rattle.realm_insert.proofs.searching.clash_among.Given as goal
+use Rattle.realm_insert.proofs.searching.first_clash.Given as goal
 
 -- no piece so far clashes
 abbrev pub invariant-loop-key : goal.invariant-loop-key
