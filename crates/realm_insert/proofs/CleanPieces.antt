@@ -1,8 +1,8 @@
 -- This file shows that the search round a segment comes to all pieces that a violation there may have.
-use Rattle.std.proofs.Common.{◌≡◌, ℕ, ◌+◌, ◌<◌, List, [], ◌∷◌, ◌++◌, length, take, drop, get_or, Contains, IsSomeAnd}
+use Rattle.std.proofs.Common.{◌≡◌, ℕ, ◌+◌, ◌<◌, List, [], ◌∷◌, ◌++◌, length, take, drop, get_or, All, Contains, IsSomeAnd}
 use Rattle.std.proofs.Common.{sym, ap, subst, ◌∙◌, inl, inr}
 use Rattle.std.proofs.lemmas.List.{take_more, take-append-drop}
-use Rattle.std.proofs.lemmas.List.Elements.{Contains-push_cases, Contains-append_cases}
+use Rattle.std.proofs.lemmas.List.Elements.{All-contains, Contains-push_cases, Contains-append_cases}
 use Rattle.grid_base.specs.Point.{GridPoint}
 use Rattle.grid_base.specs.Segment.{GridSegment, BoxesMeet}
 use Rattle.grid_base.specs.Crossing.{Inside}
@@ -11,7 +11,7 @@ use Rattle.realm_drawing.specs.Chains.{AllValid}
 use Rattle.realm_drawing.specs.Keyed.{KeyedDrawing, HasKey, AreKeyed}
 use Rattle.realm_index.specs.Index.{Entries, HasKeysWhere}
 use Rattle.realm_insert.specs.Kept.{IsIndexed}
-use Rattle.realm_insert.specs.Clashes.{HasNoneInside, IsInsideNone, NoClash, HasNoClashAmong}
+use Rattle.realm_insert.specs.Clashes.{IsInsideNone, NoClash, HasNoClashAmong}
 use Rattle.realm_insert.specs.Work.{IsClean}
 use Rattle.realm_insert.proofs.CommonBoxes.{boxes_meet_at_end, boxes_meet_inside, boxes_meet_crossing}
 use Rattle.realm_insert.proofs.Vertices.{explicit_or_end}
@@ -43,13 +43,13 @@ module _ (P : GridSegment → Type 0) (d : KeyedDrawing) (index : Entries) (keys
 -- no violation is left at the piece s where no explicit point is inside it, and no piece whose box meets its box clashes
 -- with it
 pub clean_by : (d : KeyedDrawing) (index : Entries) (keys : List ℕ) (s : GridSegment) → AllValid d.drawing
-    → IsIndexed d index → AreKeyed d → HasKeysWhere (BoxesMeet s) index keys → HasNoneInside d.drawing s
+    → IsIndexed d index → AreKeyed d → HasKeysWhere (BoxesMeet s) index keys → All (λ p. Inside p s → ⊥) d.drawing.points
     → HasNoClashAmong d s keys → IsClean d.drawing s
 clean_by d index keys s valid indexed keyed listed explicit each =
     let clear = of_listed (BoxesMeet s) d index keys indexed keyed listed (NoClash d.drawing s) each in
     record {
       nothing_inside = λ p point piece inside. elim (explicit_or_end d.drawing p valid point) [
-        | inl there ↦ explicit p there inside
+        | inl there ↦ All-contains (λ q. Inside q s → ⊥) d.drawing.points p explicit there inside
         | inr (t, (is_piece, end)) ↦
             (clear t is_piece (boxes_meet_inside s t p end inside)).no_end_of_t p end point inside
       ];

@@ -12,11 +12,12 @@ use Rattle.grid_base.specs.Realm.{PointInside, TwoCross}
 use Rattle.grid_base.specs.Drawing.{Drawing, IsPiece, HasViolation}
 use Rattle.grid_base.specs.declared.kinds.Step.{Step}
 use Rattle.grid_base.proofs.Crossings.{Cross-swap}
+use Rattle.grid_base.proofs.Elements.{Contains-nil}
 use Rattle.realm_drawing.specs.Draws.{DrawsAnew}
 use Rattle.realm_drawing.specs.Keyed.{KeyedDrawing, AreKeyed, keyed as keyed_with}
 use Rattle.realm_drawing.specs.declared.keyed.KeyedPiece.{KeyedPiece}
 use Rattle.realm_drawing.proofs.Elements.{Any-nil, Any-single, Any-append_cases, Any-append_left, Any-append_right}
-use Rattle.realm_drawing.proofs.Elements.{Any-map, Contains-map, Contains-nil}
+use Rattle.realm_drawing.proofs.Elements.{Any-map, Contains-map}
 use Rattle.realm_insert.specs.Work.{IsCoveredBy, IsClean}
 
 -- p is an end of some piece of the list

@@ -7,9 +7,10 @@ use Rattle.grid_base.specs.Segment.{GridSegment}
 use Rattle.grid_base.specs.Realm.{PointInside, TwoCross}
 use Rattle.grid_base.specs.Drawing.{HasViolation, HasLink}
 use Rattle.grid_base.specs.declared.original.Original.{Original}
+use Rattle.grid_base.proofs.Elements.{Contains-nil}
 use Rattle.realm_drawing.specs.Chains.{HasValidChain}
 use Rattle.realm_drawing.specs.Keyed.{KeyedDrawing, empty_drawing, keyed}
-use Rattle.realm_drawing.proofs.Elements.{Any-nil, Contains-nil}
+use Rattle.realm_drawing.proofs.Elements.{Any-nil}
 use Rattle.realm_index.specs.Index.{Entries}
 use Rattle.realm_insert.specs.Kept.{IsAtRest, IsSettled}
 use Rattle.realm_insert.specs.State.{KeptTrace, HasIdsBelow, AreLatest}

@@ -4,9 +4,10 @@ use Rattle.std.proofs.Common.{sym, ap, subst, ◌∙◌, inl, inr}
 use Rattle.std.proofs.lemmas.List.{take_more}
 use Rattle.std.proofs.lemmas.List.Elements.{Contains-append_left, Contains-append_right, Contains-append_cases}
 use Rattle.grid_base.specs.Drawing.{Drawing, IsPiece}
+use Rattle.grid_base.proofs.Elements.{Contains-cases, Contains-nil}
 use Rattle.realm_drawing.specs.Keyed.{keyed}
 use Rattle.realm_drawing.specs.declared.keyed.KeyedPiece.{KeyedPiece}
-use Rattle.realm_drawing.proofs.Elements.{Contains-nil, Contains-head, Contains-cons_cases}
+use Rattle.realm_drawing.proofs.Elements.{Contains-head}
 use Rattle.realm_index.specs.Index.{Entries}
 use Rattle.realm_insert.specs.Indexing.{ForgetsGone}
 use Rattle.realm_insert.proofs.IndexKeys.{IsTakenOut}
@@ -20,7 +21,7 @@ forgets_none d index = λ s k. (
 
 -- ---- one piece
 only_one : (x y : KeyedPiece) → Contains (x ∷ []) y → x ≡ y
-only_one x y there = elim (Contains-cons_cases x [] y there) [ inl same ↦ same | inr none ↦ absurd (Contains-nil y none) ]
+only_one x y there = elim (Contains-cases x [] y there) [ inl same ↦ same | inr none ↦ absurd (Contains-nil y none) ]
 
 -- what is a piece still stays
 pub forgets_no_piece : (d : Drawing) (x : KeyedPiece) (index : Entries) → IsPiece d x.piece → ForgetsGone d (x ∷ []) index index

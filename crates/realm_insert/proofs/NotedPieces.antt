@@ -2,9 +2,9 @@
 use Rattle.std.proofs.Common.{◌≡◌, ◌⊎◌, ℕ, List, [], ◌∷◌, ◌++◌, Contains, sym, ap, subst, inl, inr}
 use Rattle.std.proofs.lemmas.List.Elements.{Contains-append_left, Contains-push, Contains-push_cases}
 use Rattle.grid_base.specs.Segment.{GridSegment}
+use Rattle.grid_base.proofs.Elements.{Contains-nil}
 use Rattle.realm_drawing.specs.Keyed.{KeyedDrawing, HasKey, AreKeyed, keyed}
 use Rattle.realm_drawing.specs.declared.keyed.KeyedPiece.{KeyedPiece}
-use Rattle.realm_drawing.proofs.Elements.{Contains-nil}
 use Rattle.realm_insert.specs.Indexing.{ListsWithKey, ListsKeyed}
 
 -- a piece comes last with its key

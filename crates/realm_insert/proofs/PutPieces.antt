@@ -7,9 +7,9 @@ use Rattle.std.proofs.lemmas.List.{take_more, get_or-take, get_or_default, lengt
 use Rattle.std.proofs.lemmas.List.Elements.{All-get_or, Contains-append_left, Contains-push, Contains-push_cases}
 use Rattle.std.proofs.lemmas.Option.{none-some}
 use Rattle.grid_base.specs.Segment.{GridSegment}
+use Rattle.grid_base.proofs.Elements.{Contains-nil}
 use Rattle.realm_drawing.specs.Keyed.{keyed}
 use Rattle.realm_drawing.specs.declared.keyed.KeyedPiece.{KeyedPiece}
-use Rattle.realm_drawing.proofs.Elements.{Contains-nil}
 use Rattle.realm_index.specs.Index.{Entries}
 use Rattle.realm_insert.specs.Indexing.{AddsEntries}
 use Rattle.realm_insert.proofs.IndexKeys.{IsPutIn, none_unless}

@@ -6,10 +6,6 @@ use Rattle.grid_base.specs.Crossing.{Inside, Cross}
 use Rattle.grid_base.specs.Drawing.{Drawing, IsPoint, IsPiece}
 use Rattle.realm_drawing.specs.Keyed.{KeyedDrawing, HasKey}
 
--- no explicit point is inside s
-abbrev pub HasNoneInside : Drawing → GridSegment → Type 0
-HasNoneInside d s = (p : GridPoint) → Contains d.points p → Inside p s → ⊥
-
 -- p is no point, or it is inside no piece
 abbrev pub IsInsideNone : Drawing → GridPoint → Type 0
 IsInsideNone d p = (t : GridSegment) → IsPoint d p → IsPiece d t → Inside p t → ⊥

@@ -9,7 +9,7 @@ ghost use Rattle.realm_drawing.specs.Keyed.{HasKey, AreKeyed};
 ghost use Rattle.realm_drawing.specs.Mending.{IsPermitted};
 ghost use Rattle.realm_index.specs.Index.{HasKeysWhere};
 ghost use Rattle.realm_insert.specs.Kept.{IsIndexed};
-ghost use Rattle.realm_insert.specs.Clashes.{HasNoneInside, IsInsideNone, HasNoEndInside, NoClash, HasNoClashAmong};
+ghost use Rattle.realm_insert.specs.Clashes.{IsInsideNone, HasNoEndInside, NoClash, HasNoClashAmong};
 ghost use Rattle.realm_insert.specs.Work.{IsClean};
 
 use grid_base::{NoMemory, Point, Segment, Step, Steps, in_side};
@@ -48,8 +48,8 @@ fn violation_of(drawing: &Drawing, index: &Index, s: &Segment) -> Result<Option<
     ensures { IfOk result
         (λ found. MatchOption found (IsClean drawing.now.drawing s.now) (IsPermitted drawing.now.drawing)) }
 {
-    if let Some(step) = explicit_inside(drawing, s)? {
-        return Ok(Some(step));
+    if let Some(p) = drawing.explicit_inside(s) {
+        return Ok(Some(Step::Split { p, t: *s }));
     }
     let keys = meeting(index, s)?;
     Ok(clash_among(drawing, s, keys.as_slice()))
@@ -94,21 +94,6 @@ fn split_by(
         Some(t) => Ok(Some(Step::Split { p: *p, t: *t })),
         None => Ok(None),
     }
-}
-
-// The step to an explicit point inside the piece `s`.
-fn explicit_inside(drawing: &Drawing, s: &Segment) -> Result<Option<Step>, NoMemory>
-    requires piece { IsPiece drawing.now.drawing s.now }
-    ensures { IfOk result (λ found.
-        MatchOption found (HasNoneInside drawing.now.drawing s.now) (IsPermitted drawing.now.drawing)) }
-{
-    let points = drawing.explicit_in(s)?;
-    for p in &points {
-        if in_side(s, p) {
-            return Ok(Some(Step::Split { p: *p, t: *s }));
-        }
-    }
-    Ok(None)
 }
 
 // A step that mends a violation of the pieces `s` and one with one of the keys. The search begins in the middle of the

@@ -2,8 +2,6 @@
 //! explicit point as a segment from itself to itself.
 use crate::{Applied, Engine, may_be_shared};
 use grid_base::{Point, Segment, Step};
-use std::alloc::Global;
-use std::process::Abort;
 use std::test::Fail;
 
 // A step in numbers: the ends of its first piece and of its second, and its point; 0 for what it lacks.
@@ -40,94 +38,115 @@ fn make(engine: &mut Engine, [x, y, u, v]: [u64; 4]) -> Result<Applied, Fail> {
     }
 }
 
-// Makes the changes, and gathers the steps of all of them, sorted.
-fn made(alloc: Global, engine: &mut Engine, changes: &[[u64; 4]]) -> Result<Vec<Numbers>, Fail> {
-    let mut taken = Vec::new(alloc);
-    for change in changes {
-        let applied = make(engine, *change)?;
-        for step in applied.trace.steps() {
-            taken.push(numbers(step))?;
-        }
+// Makes the change, and lists its steps with the number of the session.
+fn take(
+    session: u32,
+    engine: &mut Engine,
+    change: [u64; 4],
+    steps: &mut Vec<(u32, Numbers)>,
+) -> Result<(), Fail> {
+    let applied = make(engine, change)?;
+    for step in applied.trace.steps() {
+        steps.push((session, numbers(step)))?;
     }
-    taken.sort_unstable();
-    Ok(taken)
+    Ok(())
 }
 
-fn chain(alloc: Global, engine: &Engine, id: u32) -> Result<Vec<[u32; 2]>, Fail> {
-    let mut places = Vec::new(alloc);
+// Lists the vertices of the chains, each with the number of the session and the id.
+fn list_chains(
+    session: u32,
+    engine: &Engine,
+    chains: &mut Vec<(u32, u32, [u32; 2])>,
+) -> Result<(), Fail> {
     if engine.is_spent() {
         return Err(Fail::new("spent"));
     }
-    let points = engine.drawing().chain(id);
-    for p in points.ok_or("no chain")? {
-        places.push(place(p))?;
-    }
-    Ok(places)
-}
-
-// The changes take the steps, in whichever order, and leave the chains, whose ids count from 1.
-fn compare(
-    rt: &impl Abort,
-    alloc: Global,
-    changes: &[[u64; 4]],
-    steps: &[Numbers],
-    chains: &[&[[u32; 2]]],
-) -> Result<(), Fail> {
-    let mut engine = Engine::new(alloc);
-    let taken = made(alloc, &mut engine, changes)?;
-    assert_eq!(rt; taken.as_slice(), steps, "{changes:?}");
-    let mut id = 0;
-    for places in chains {
-        id = u32::wrapping_add(id, 1);
-        assert_eq!(rt;
-            chain(alloc, &engine, id)?.as_slice(),
-            *places,
-            "{id} of {changes:?}"
-        );
+    for id in 1..3 {
+        if let Some(points) = engine.drawing().chain(id) {
+            for p in points {
+                chains.push((session, id, place(p)))?;
+            }
+        }
     }
     Ok(())
 }
 
 #[test]
 fn each_change_is_settled(rt: HostRuntime) -> Result<(), Fail> {
-    let alloc = rt.alloc();
-    // Two pieces cross, not at a grid point.
-    compare(
-        &rt,
-        alloc,
-        &[[0, 0, 10, 4], [6, 0, 6, 9]],
-        &[[0, 0, 10, 4, 6, 0, 6, 9, 6, 2]],
+    let changes = &[
+        // Two pieces cross, not at a grid point.
+        (1, [0, 0, 10, 4]),
+        (1, [6, 0, 6, 9]),
+        // Two diagonals cross at the centre of a cell.
+        (2, [0, 0, 1, 1]),
+        (2, [0, 1, 1, 0]),
+        // Pieces that share a part are cut at each other's ends.
+        (3, [0, 0, 6, 0]),
+        (3, [2, 0, 8, 0]),
+        // A point inside a piece, whichever comes first.
+        (4, [0, 0, 6, 0]),
+        (4, [3, 0, 3, 0]),
+        (5, [3, 0, 3, 0]),
+        (5, [6, 0, 0, 0]),
+        // The same point twice.
+        (6, [3, 0, 3, 0]),
+        (6, [3, 0, 3, 0]),
+    ][..];
+    let mut steps = Vec::new(rt.alloc());
+    let mut chains = Vec::new(rt.alloc());
+    for session in 1..7 {
+        let mut engine = Engine::new(rt.alloc());
+        for row in changes {
+            let (of, change) = *row;
+            if of == session {
+                take(session, &mut engine, change, &mut steps)?;
+            }
+        }
+        list_chains(session, &engine, &mut chains)?;
+    }
+    // The steps of a change may come in any order.
+    steps.sort_unstable();
+    assert_eq!(rt;
+        steps.as_slice(),
         &[
-            &[[0, 0], [5, 2], [6, 2], [10, 4]],
-            &[[6, 0], [6, 2], [6, 9]],
-        ],
-    )?;
-    // Two diagonals cross at the centre of a cell.
-    compare(
-        &rt,
-        alloc,
-        &[[0, 0, 1, 1], [0, 1, 1, 0]],
-        &[[0, 0, 1, 1, 0, 1, 1, 0, 0, 0]],
-        &[&[[0, 0], [1, 1]], &[[0, 1], [0, 0], [1, 0]]],
-    )?;
-    // Pieces that share a part are cut at each other's ends.
-    compare(
-        &rt,
-        alloc,
-        &[[0, 0, 6, 0], [2, 0, 8, 0]],
+            (1, [0, 0, 10, 4, 6, 0, 6, 9, 6, 2]),
+            (2, [0, 0, 1, 1, 0, 1, 1, 0, 0, 0]),
+            (3, [0, 0, 6, 0, 0, 0, 0, 0, 2, 0]),
+            (3, [2, 0, 8, 0, 0, 0, 0, 0, 6, 0]),
+            (4, [0, 0, 6, 0, 0, 0, 0, 0, 3, 0]),
+            (5, [0, 0, 6, 0, 0, 0, 0, 0, 3, 0]),
+        ][..]
+    );
+    assert_eq!(rt;
+        chains.as_slice(),
         &[
-            [0, 0, 6, 0, 0, 0, 0, 0, 2, 0],
-            [2, 0, 8, 0, 0, 0, 0, 0, 6, 0],
-        ],
-        &[&[[0, 0], [2, 0], [6, 0]], &[[2, 0], [6, 0], [8, 0]]],
-    )?;
-    // A point inside a piece, whichever comes first.
-    let split = &[[0, 0, 6, 0, 0, 0, 0, 0, 3, 0]];
-    let halves: &[&[[u32; 2]]] = &[&[[0, 0], [3, 0], [6, 0]]];
-    compare(&rt, alloc, &[[0, 0, 6, 0], [3, 0, 3, 0]], split, halves)?;
-    compare(&rt, alloc, &[[3, 0, 3, 0], [6, 0, 0, 0]], split, halves)?;
-    // The same point twice.
-    compare(&rt, alloc, &[[3, 0, 3, 0], [3, 0, 3, 0]], &[], &[])
+            (1, 1, [0, 0]),
+            (1, 1, [5, 2]),
+            (1, 1, [6, 2]),
+            (1, 1, [10, 4]),
+            (1, 2, [6, 0]),
+            (1, 2, [6, 2]),
+            (1, 2, [6, 9]),
+            (2, 1, [0, 0]),
+            (2, 1, [1, 1]),
+            (2, 2, [0, 1]),
+            (2, 2, [0, 0]),
+            (2, 2, [1, 0]),
+            (3, 1, [0, 0]),
+            (3, 1, [2, 0]),
+            (3, 1, [6, 0]),
+            (3, 2, [2, 0]),
+            (3, 2, [6, 0]),
+            (3, 2, [8, 0]),
+            (4, 1, [0, 0]),
+            (4, 1, [3, 0]),
+            (4, 1, [6, 0]),
+            (5, 1, [0, 0]),
+            (5, 1, [3, 0]),
+            (5, 1, [6, 0]),
+        ][..]
+    );
+    Ok(())
 }
 
 #[test]

@@ -5,8 +5,8 @@ use Rattle.grid_base.specs.Point.{GridPoint, InBox}
 use Rattle.grid_base.specs.Segment.{GridSegment}
 use Rattle.grid_base.specs.Crossing.{Inside}
 use Rattle.grid_base.specs.Drawing.{IsPiece}
+use Rattle.grid_base.proofs.Elements.{Contains-nil}
 use Rattle.realm_drawing.specs.Keyed.{KeyedDrawing, HasKey}
-use Rattle.realm_drawing.proofs.Elements.{Contains-nil}
 use Rattle.realm_index.specs.Index.{HasKeysWhere}
 use Rattle.realm_insert.proofs.CleanPieces.{next_too, of_listed}
 use Rattle.realm_insert.proofs.searching.pieces_round.Goals as goal
