@@ -2,10 +2,10 @@
 """Times `rose run` on generated segments. See README.md."""
 import argparse
 import re
+import resource
 import shutil
 import subprocess
 import tempfile
-import time
 
 MULTIPLIER = 6364136223846793005
 INCREMENT = 1442695040888963407
@@ -69,14 +69,20 @@ def write_input(segments):
     return file
 
 
-def run(program, file):
-    """The output of the program on the file, how long it took, and its greatest memory in bytes."""
-    with open(file.name, "rb") as source, tempfile.NamedTemporaryFile("r") as told:
-        # A process that starts others counts its own memory in, so a small one stands between.
-        command = ["/usr/bin/time", "-o", told.name, "-f", "%M", program, "run"]
-        began = time.perf_counter()
-        done = subprocess.run(command, stdin=source, stdout=subprocess.PIPE, check=True)
-        return done.stdout, time.perf_counter() - began, int(told.read()) * 1024
+def run(program, file, times):
+    """The output of the program on the file, its least processor seconds of so many runs, and its greatest memory in bytes."""
+    least, memory, output = None, 0, b""
+    for _ in range(times):
+        with open(file.name, "rb") as source, tempfile.NamedTemporaryFile("r") as told:
+            # A process that starts others counts its own memory in, so a small one stands between.
+            command = ["/usr/bin/time", "-o", told.name, "-f", "%M", program, "run"]
+            before = resource.getrusage(resource.RUSAGE_CHILDREN)
+            output = subprocess.run(command, stdin=source, stdout=subprocess.PIPE, check=True).stdout
+            after = resource.getrusage(resource.RUSAGE_CHILDREN)
+            seconds = after.ru_utime - before.ru_utime + after.ru_stime - before.ru_stime
+            least = seconds if least is None else min(least, seconds)
+            memory = max(memory, int(told.read()) * 1024)
+    return output, least, memory
 
 
 def instructions(program, file):
@@ -90,9 +96,9 @@ def instructions(program, file):
     return int(found.group(1)) if found else None
 
 
-def measure(program, name, file, before, counting):
+def measure(program, name, file, before, chosen):
     """Prints a row, and answers its microseconds per piece, with which the next row is compared."""
-    output, seconds, memory = run(program, file)
+    output, seconds, memory = run(program, file, chosen.times)
     pieces = int(re.search(rb"^realm \d+ (\d+)$", output, re.M).group(1))
     drawn = len(re.findall(rb"^ok ", output, re.M))
     steps = sum(int(n) for n in re.findall(rb"^ok \d+ steps (\d+) ", output, re.M))
@@ -101,7 +107,7 @@ def measure(program, name, file, before, counting):
     row = "%-7s %8d %8d %8d %9.2f %9.2f %s %7.1f %8.0f" % (
         name, drawn, pieces, steps, seconds, each, growth, memory / 1e6, memory / pieces,
     )
-    if counting:
+    if chosen.instructions:
         counted = instructions(program, file)
         row += "%12.0f" % (counted / pieces) if counted else "           -"
     print(row, flush=True)
@@ -114,6 +120,7 @@ def main():
     reader.add_argument("--start", type=int, default=7, help="where the draws begin")
     reader.add_argument("--most", type=int, default=100000, help="leaves out rows with more segments")
     reader.add_argument("--fields", nargs="+", default=[name for name, _, _ in FIELDS], help="which fields")
+    reader.add_argument("--times", type=int, default=3, help="how often each is run; the best time counts")
     reader.add_argument("--instructions", action="store_true", help="count instructions too, which is slow")
     chosen = reader.parse_args()
     for program in chosen.programs:
@@ -124,7 +131,7 @@ def main():
             for count in counts:
                 if name in chosen.fields and count <= chosen.most:
                     with write_input(field(count, draws(chosen.start))) as file:
-                        before = measure(program, name, file, before, chosen.instructions)
+                        before = measure(program, name, file, before, chosen)
 
 
 main()
