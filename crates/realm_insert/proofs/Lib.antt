@@ -26,7 +26,5 @@ pub mod StepsTaken
 pub mod PlacedOriginals
 -- a drawing with one more explicit point
 pub mod MarkedPoints
--- the latest traces
-pub mod LatestTraces
 -- the empty drawing, with which an engine begins
 pub mod EmptyDrawing

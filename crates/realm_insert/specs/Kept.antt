@@ -20,7 +20,8 @@ pub record IsAtRest (d : KeyedDrawing) (index : Entries) : Type 0 where
   pub indexed : IsIndexed d index
 
 -- so it is, ids and changes are numbered from 1 on and within their bounds, and the traces are the latest
-pub record IsSettled (d : KeyedDrawing) (index : Entries) (next_id changes : ℕ) (traces : List KeptTrace) : Type 0 where
+pub record IsSettled (d : KeyedDrawing) (index : Entries) (next_id changes : ℕ) (traces : List KeptTrace)
+    : Type 0 where
   pub rest : IsAtRest d index
   pub ids : HasIdsBelow next_id d.drawing
   pub first_id : 1 ≤ next_id

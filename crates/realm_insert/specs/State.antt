@@ -25,13 +25,19 @@ pub record State : Type 0 where
 
 -- nothing is drawn, the next id is 1 and no change was accepted
 abbrev pub empty_state : State
-empty_state = record { drawing = record { points = []; originals = [] }; next_id = 1; changes = 0; traces = [] }
+empty_state = record {
+  drawing = record { points = []; originals = [] };
+  next_id = 1;
+  changes = 0;
+  traces = [];
+}
 
 -- each id of d is at least 1 and below n
 abbrev pub HasIdsBelow : ℕ → Drawing → Type 0
 HasIdsBelow n d = All (λ o. (1 ≤ o.id) × (o.id < n)) d.originals
 
--- the traces are those of the last 16 of so many changes, of all where these are fewer, in the order of their numbers
+-- the traces are those of the last 16 of so many changes, of all where these are fewer, in the order of their
+-- numbers
 pub record AreLatest (changes : ℕ) (traces : List KeptTrace) : Type 0 where
   pub count : length traces ≡ min changes 16
   pub numbers : (i : ℕ) (other : KeptTrace) → i < length traces
@@ -41,8 +47,8 @@ pub record AreLatest (changes : ℕ) (traces : List KeptTrace) : Type 0 where
 abbrev pub latest : List KeptTrace → List KeptTrace
 latest traces = drop (length traces - 16) traces
 
--- After one more change: what the change itself made of the drawing is settled by the trace, which is kept, and so many
--- originals are new.
+-- After one more change: what the change itself made of the drawing is settled by the trace, which is kept,
+-- and so many originals are new.
 pub record Follows (old new : State) (changed : Drawing) (added : ℕ) (trace : List Step) : Type 0 where
   pub settles : Settles changed trace new.drawing
   pub next_id : new.next_id ≡ old.next_id + added

@@ -1,7 +1,8 @@
-//! The engine: the drawing, an index of its pieces by their keys, and the numbers of the state. It is spent from the
-//! beginning of a change to its end, so want of memory leaves it spent.
-ghost use Rattle.std.specs.Prelude.{◌≡◌, ◌≢◌, ◌⊎◌, ◌↔◌, ◌+◌, ◌≤◌, ◌<◌, ◌^◌, ℕ, true, false, List, [], ◌∷◌, ◌++◌};
-ghost use Rattle.std.specs.Prelude.{Contains, Err, IfOk, OnOk, MatchResult, IfSome, IsNone};
+//! The engine: the drawing, an index of its pieces by their keys, and the numbers of the state. It is spent
+//! from the beginning of a change to its end, so want of memory leaves it spent.
+ghost use Rattle.std.specs.Prelude.{◌≡◌, ◌≢◌, ◌⊎◌, ◌↔◌, ◌+◌, ◌≤◌, ◌<◌, ◌^◌, ℕ, true, false};
+ghost use Rattle.std.specs.Prelude.{List, [], ◌∷◌, ◌++◌, Contains};
+ghost use Rattle.std.specs.Prelude.{Err, IfOk, OnOk, MatchResult, IfSome, IsNone};
 ghost use Rattle.grid_base.specs.Drawing.{Drawing as Drawn, HasViolation, IsDrawnRealm};
 ghost use Rattle.grid_base.specs.declared.kinds.Step.{Step as Seen};
 ghost use Rattle.realm_drawing.specs.Straight.{placed};
@@ -56,7 +57,12 @@ impl Model for Engine {
     ghost Value = { SpendableState };
 
     ghost view = { λ e. record {
-      state = record { drawing = e.drawing.drawing; next_id = e.next_id; changes = e.changes; traces = e.traces.items };
+      state = record {
+        drawing = e.drawing.drawing;
+        next_id = e.next_id;
+        changes = e.changes;
+        traces = e.traces.items;
+      };
       spent = e.spent;
     } };
 
@@ -116,11 +122,12 @@ impl Engine {
         self.next_id
     }
 
-    /// The steps of the change with this number; none where it isn't among the last 16. The kept traces are those of the
-    /// last changes, in order.
+    /// The steps of the change with this number; none where it isn't among the last 16. The kept traces are
+    /// those of the last changes, in order.
     pub fn trace(&self, number: u64) -> Option<&[Step]>
         requires ready { self.now.spent ≡ false }
-        ensures trace { IfSome result (λ steps. Contains self.now.state.traces (kept_trace number steps.now)) }
+        ensures trace { IfSome result (λ steps.
+            Contains self.now.state.traces (kept_trace number steps.now)) }
         ensures latest { AreLatest self.now.state.changes self.now.state.traces }
         ensures none { IsNone result
             ↔ ((steps : List Seen) → Contains self.now.state.traces (kept_trace number steps) → ⊥) }
@@ -140,11 +147,13 @@ impl Engine {
             × (applied.first ≡ self.old.state.next_id) × (applied.added ≡ 1)) }
         ensures untouched { IfOk result (λ applied.
             (HasViolation (placed self.old.state.drawing self.old.state.next_id s) → ⊥)
-            → (applied.trace ≡ []) × (self.new.state.drawing ≡ placed self.old.state.drawing self.old.state.next_id s)) }
+            → (applied.trace ≡ [])
+            × (self.new.state.drawing ≡ placed self.old.state.drawing self.old.state.next_id s)) }
         ensures ids { (result ≡ Err AddError.Ids) ↔ (2 ^ 32 ≤ self.old.state.next_id) }
         ensures changes { (result ≡ Err AddError.Changes)
             ↔ ((self.old.state.next_id < 2 ^ 32) × (2 ^ 63 ≤ self.old.state.changes)) }
-        ensures refused { (result ≡ Err AddError.Ids) ⊎ (result ≡ Err AddError.Changes) → self.new ≡ self.old }
+        ensures refused { (result ≡ Err AddError.Ids) ⊎ (result ≡ Err AddError.Changes)
+            → self.new ≡ self.old }
         ensures spent { (self.new.spent ≡ true) ↔ (result ≡ Err AddError.NoMemory) }
     {
         if self.next_id > u64::from(u32::MAX) {

@@ -1,5 +1,5 @@
-//! The index of the pieces, kept by their keys. What a change may take away is noted with its keys before it is made, and is
-//! forgotten afterwards where it is gone.
+//! The index of the pieces, kept by their keys. What a change may take away is noted with its keys before it
+//! is made, and is forgotten afterwards where it is gone.
 ghost use Rattle.std.specs.Prelude.{◌≡◌, ◌≢◌, ◌⊎◌, [], ◌∷◌, None, All, AllPairs, IfOk, OnOk};
 ghost use Rattle.std.specs.FinMap as map;
 ghost use Rattle.realm_drawing.specs.Draws.{IsPieceOf};
