@@ -7,6 +7,7 @@ use Rattle.grid_base.specs.Drawing.{Drawing}
 use Rattle.grid_base.specs.declared.kinds.Step.{Step}
 use Rattle.realm_drawing.specs.Steps.{Settles}
 use Rattle.realm_drawing.specs.Straight.{placed}
+use Rattle.value_table.specs.Table.{NamedValues}
 
 -- the trace of the change with this number
 pub record KeptTrace : Type 0 where
@@ -20,24 +21,19 @@ kept_trace number steps = record { number = number; steps = steps }
 pub record State : Type 0 where
   pub drawing : Drawing
   pub next_id : ℕ
+  pub values : NamedValues
   pub changes : ℕ
   pub traces : List KeptTrace
 
 -- nothing is drawn, the next id is 1 and no change was accepted
 abbrev pub empty_state : State
-empty_state = record {
-  drawing = record { points = []; originals = [] };
-  next_id = 1;
-  changes = 0;
-  traces = [];
-}
+empty_state = record { drawing = record { points = []; originals = [] }; next_id = 1; values = []; changes = 0; traces = [] }
 
 -- each id of d is at least 1 and below n
 abbrev pub HasIdsBelow : ℕ → Drawing → Type 0
 HasIdsBelow n d = All (λ o. (1 ≤ o.id) × (o.id < n)) d.originals
 
--- the traces are those of the last 16 of so many changes, of all where these are fewer, in the order of their
--- numbers
+-- the traces are those of the last 16 of so many changes, of all where these are fewer, in the order of their numbers
 pub record AreLatest (changes : ℕ) (traces : List KeptTrace) : Type 0 where
   pub count : length traces ≡ min changes 16
   pub numbers : (i : ℕ) (other : KeptTrace) → i < length traces
@@ -47,8 +43,8 @@ pub record AreLatest (changes : ℕ) (traces : List KeptTrace) : Type 0 where
 abbrev pub latest : List KeptTrace → List KeptTrace
 latest traces = drop (length traces - 16) traces
 
--- After one more change: what the change itself made of the drawing is settled by the trace, which is kept,
--- and so many originals are new.
+-- After one more change: what the change itself made of the drawing is settled by the trace, which is kept, and so many
+-- originals are new.
 pub record Follows (old new : State) (changed : Drawing) (added : ℕ) (trace : List Step) : Type 0 where
   pub settles : Settles changed trace new.drawing
   pub next_id : new.next_id ≡ old.next_id + added

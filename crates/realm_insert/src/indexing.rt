@@ -47,7 +47,11 @@ fn both_keyed(
 }
 
 // Lists `s` with its key, if it is a piece.
-fn note(drawing: &Drawing, s: &Segment, list: &mut Vec<KeyedPiece>) -> Result<(), NoMemory>
+pub(crate) fn note(
+    drawing: &Drawing,
+    s: &Segment,
+    list: &mut Vec<KeyedPiece>,
+) -> Result<(), NoMemory>
     ensures { OnOk result (ListsWithKey drawing.now s.now list.old.items list.new.items) }
 {
     if let Some(key) = drawing.key(s) {
