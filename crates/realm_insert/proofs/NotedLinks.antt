@@ -10,7 +10,7 @@ use Rattle.realm_drawing.specs.Keyed.{KeyedDrawing, HasKey, keyed}
 use Rattle.realm_drawing.specs.declared.keyed.KeyedPiece.{KeyedPiece}
 use Rattle.grid_base.proofs.Elements.{Contains-nil}
 use Rattle.realm_drawing.proofs.PathLinks.{link_more, no_link_at_first, made_between}
-use Rattle.realm_insert.specs.Geometry.{IsOnChainOf}
+use Rattle.value_geometry.specs.Geometry.{IsOnChainOf}
 use Rattle.realm_insert.specs.Indexing.{ListsWithKey, ListsKeyed}
 use Rattle.realm_insert.specs.Work.{ListsLink, ListsLinks}
 

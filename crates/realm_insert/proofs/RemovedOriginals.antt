@@ -14,7 +14,7 @@ use Rattle.realm_drawing.specs.Keyed.{KeyedDrawing, HasKey, KeepsKeys, AreKeyed,
 use Rattle.realm_drawing.proofs.Elements.{Any-nil, Any-head, Any-later, Any-cons_cases, Any-weaker}
 use Rattle.realm_drawing.specs.declared.keyed.KeyedPiece.{KeyedPiece}
 use Rattle.realm_index.specs.Index.{Entries}
-use Rattle.realm_insert.specs.Geometry.{IsOnChainOf}
+use Rattle.value_geometry.specs.Geometry.{IsOnChainOf}
 use Rattle.realm_insert.specs.Indexing.{ListsKeyed, ForgetsGone}
 use Rattle.realm_insert.specs.Kept.{IsIndexed, IsAtRest}
 use Rattle.realm_insert.specs.State.{HasIdsBelow}

@@ -10,8 +10,6 @@ pub mod Changes
 pub mod Next
 -- what values are made of
 pub mod Values
--- the pieces of values at present
-pub mod Geometry
 -- what every engine that isn't spent is like
 pub mod Kept
 -- what is still to be looked at, for this crate's own proofs

@@ -2,7 +2,7 @@
 ghost use Rattle.std.specs.Prelude.{◌≡◌, ℕ, IfOk, OnOk};
 ghost use Rattle.realm_drawing.specs.Changed.{without_id};
 ghost use Rattle.realm_drawing.specs.Keyed.{TakesPoint};
-ghost use Rattle.realm_insert.specs.Geometry.{IsOnChainOf};
+ghost use Rattle.value_geometry.specs.Geometry.{IsOnChainOf};
 ghost use Rattle.realm_insert.specs.Indexing.{ListsKeyed};
 ghost use Rattle.realm_insert.specs.Kept.{IsAtRest};
 ghost use Rattle.realm_insert.specs.Work.{ListsLink};

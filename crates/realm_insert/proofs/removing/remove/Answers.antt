@@ -1,5 +1,5 @@
 use Rattle.std.proofs.Common.{sym, subst}
-use Rattle.realm_insert.specs.Geometry.{IsOnChainOf}
+use Rattle.value_geometry.specs.Geometry.{IsOnChainOf}
 use Rattle.realm_insert.specs.Indexing.{ListsKeyed}
 use Rattle.realm_insert.proofs.RemovedOriginals.{rests_removed}
 use Rattle.realm_insert.proofs.removing.remove.Goals as goal
