@@ -20,10 +20,6 @@ use Rattle.realm_drawing.proofs.Elements.{Any-nil, Any-single, Any-append_cases,
 use Rattle.realm_drawing.proofs.Elements.{Any-map, Contains-map}
 use Rattle.realm_insert.specs.Work.{IsCoveredBy, IsClean}
 
--- p is an end of some piece of the list
-abbrev HasEnd : GridPoint → List GridSegment → Type 0
-HasEnd p list = Any (λ s. IsEnd p s) list
-
 -- ---- after a step
 -- A violation with a piece that wasn't there has a piece that the step draws anew, and one with a point that wasn't there
 -- an end of such a piece. All others were there before.

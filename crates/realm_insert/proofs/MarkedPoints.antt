@@ -14,7 +14,7 @@ use Rattle.realm_insert.specs.State.{HasIdsBelow}
 use Rattle.realm_insert.specs.Work.{IsCoveredBy}
 
 -- the pieces and their keys are as they were
-marked_piece : (old new : KeyedDrawing) (p : GridPoint) → AddsPoint old new p → (s : GridSegment)
+pub marked_piece : (old new : KeyedDrawing) (p : GridPoint) → AddsPoint old new p → (s : GridSegment)
     → IsPiece new.drawing s → IsPiece old.drawing s
 marked_piece old new p adds s piece =
     (piece.0, subst (λ (l : List Original). Any (λ o. HasLink o.chain s) l) adds.originals piece.1)
@@ -53,7 +53,7 @@ below_marked old new p n adds below =
     subst (λ (l : List Original). All (λ o. (1 ≤ o.id) × (o.id < n)) l) (sym adds.originals) below
 
 -- a point afterwards is p or was one before
-marked_point : (old new : KeyedDrawing) (p : GridPoint) → AddsPoint old new p → (q : GridPoint) → IsPoint new.drawing q
+pub marked_point : (old new : KeyedDrawing) (p : GridPoint) → AddsPoint old new p → (q : GridPoint) → IsPoint new.drawing q
     → IsPoint old.drawing q ⊎ (q ≡ p)
 marked_point old new p adds q (inl explicit) = elim ((adds.points q).0 explicit) [
   | inl same ↦ inr same

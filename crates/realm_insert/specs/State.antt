@@ -7,6 +7,7 @@ use Rattle.grid_base.specs.Drawing.{Drawing}
 use Rattle.grid_base.specs.declared.kinds.Step.{Step}
 use Rattle.realm_drawing.specs.Steps.{Settles}
 use Rattle.realm_drawing.specs.Straight.{placed}
+use Rattle.value_table.specs.Table.{NamedValues}
 
 -- the trace of the change with this number
 pub record KeptTrace : Type 0 where
@@ -20,12 +21,13 @@ kept_trace number steps = record { number = number; steps = steps }
 pub record State : Type 0 where
   pub drawing : Drawing
   pub next_id : ℕ
+  pub values : NamedValues
   pub changes : ℕ
   pub traces : List KeptTrace
 
 -- nothing is drawn, the next id is 1 and no change was accepted
 abbrev pub empty_state : State
-empty_state = record { drawing = record { points = []; originals = [] }; next_id = 1; changes = 0; traces = [] }
+empty_state = record { drawing = record { points = []; originals = [] }; next_id = 1; values = []; changes = 0; traces = [] }
 
 -- each id of d is at least 1 and below n
 abbrev pub HasIdsBelow : ℕ → Drawing → Type 0

@@ -26,7 +26,8 @@ pub(crate) fn draw_settled(
     requires rest { IsAtRest drawing.old index.old }
     requires ids { HasIdsBelow id drawing.old.drawing }
     requires first { 1 ≤ id }
-    ensures settles { IfOk result (λ trace. Settles (placed drawing.old.drawing id s) trace drawing.new.drawing) }
+    ensures settles { IfOk result (λ trace.
+        Settles (placed drawing.old.drawing id s) trace drawing.new.drawing) }
     ensures rest { OnOk result (IsAtRest drawing.new index.new) }
     ensures ids { OnOk result (HasIdsBelow (id + 1) drawing.new.drawing) }
 {

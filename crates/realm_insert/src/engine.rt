@@ -1,20 +1,35 @@
 //! The engine: the drawing, an index of its pieces by their keys, and the numbers of the state. It is spent from the
 //! beginning of a change to its end, so want of memory leaves it spent.
 ghost use Rattle.std.specs.Prelude.{◌≡◌, ◌≢◌, ◌⊎◌, ◌↔◌, ◌+◌, ◌≤◌, ◌<◌, ◌^◌, ℕ, true, false, List, [], ◌∷◌, ◌++◌};
-ghost use Rattle.std.specs.Prelude.{Contains, Err, IfOk, OnOk, MatchResult, IfSome, IsNone};
+ghost use Rattle.std.specs.Prelude.{length, Contains, Err, IfOk, OnOk, MatchResult, MatchOption, IfSome, IsNone};
 ghost use Rattle.grid_base.specs.Drawing.{Drawing as Drawn, HasViolation, IsDrawnRealm};
 ghost use Rattle.grid_base.specs.declared.kinds.Step.{Step as Seen};
 ghost use Rattle.realm_drawing.specs.Straight.{placed};
 ghost use Rattle.realm_insert.specs.State.{fresh_state, kept_trace, latest, HasIdsBelow, AreLatest};
 ghost use Rattle.realm_insert.specs.State.{DrawsSegment, HasPointToo, MakesExplicit};
+ghost use Rattle.line_grammar.specs.Spellable.{IsSpellableChange};
+ghost use Rattle.realm_insert.specs.Lines.{IsLet, drawn_between};
+ghost use Rattle.realm_insert.specs.Refusals.{IsAccepted, IsRefusedBy};
+ghost use Rattle.realm_insert.specs.Changes.{IsChangedTo};
+ghost use Rattle.realm_insert.specs.Values.{AreValuesOf};
+ghost use Rattle.realm_insert.specs.Next.{Next, MakesNoViolation};
+ghost use Rattle.realm_insert.specs.declared.refusal.Refusal.{Refusal as Word};
 
 use crate::applied::{AddError, Applied, Trace};
+use crate::asked::ends_drawn;
+use crate::causes::first_cause;
 use crate::changing::{draw_settled, mark_settled};
+use crate::defining::revalue;
+use crate::making::redraw;
+use crate::refusal::{ChangeError, Refusal};
 use grid_base::{NoMemory, Point, Segment, Step};
+use line_grammar::Change;
 use realm_drawing::Drawing;
 use realm_index::Index;
 use std::alloc::Global;
 use std::marker::Model;
+use std::thread::Threads;
+use value_table::Table;
 
 /// How many changes may be accepted: 2^63.
 pub const MOST_CHANGES: u64 = 9_223_372_036_854_775_808;
@@ -43,6 +58,7 @@ pub struct Engine {
     alloc: Global,
     drawing: Drawing,
     index: Index,
+    table: Table,
     next_id: u64,
     changes: u64,
     traces: Vec<Kept>,
@@ -56,11 +72,17 @@ impl Model for Engine {
     ghost Value = { SpendableState };
 
     ghost view = { λ e. record {
-      state = record { drawing = e.drawing.drawing; next_id = e.next_id; changes = e.changes; traces = e.traces.items };
+      state = record {
+        drawing = e.drawing.drawing;
+        next_id = e.next_id;
+        values = e.table;
+        changes = e.changes;
+        traces = e.traces.items;
+      };
       spent = e.spent;
     } };
 
-    ghost invariant = { λ e. IsKept e.spent e.drawing e.index e.next_id e.changes e.traces.items };
+    ghost invariant = { λ e. IsKept e.spent e.drawing e.index e.table e.next_id e.changes e.traces.items };
 }
 
 impl Engine {
@@ -72,6 +94,7 @@ impl Engine {
             alloc,
             drawing: Drawing::new(alloc),
             index: Index::new(alloc),
+            table: Table::new(alloc),
             next_id: 1,
             changes: 0,
             traces: Vec::new(alloc),
@@ -95,6 +118,15 @@ impl Engine {
         ensures most_ids { self.now.state.next_id ≤ 2 ^ 32 }
     {
         &self.drawing
+    }
+
+    /// The values by name. Each is made of what is drawn.
+    pub fn table(&self) -> &Table
+        requires ready { self.now.spent ≡ false }
+        ensures table { result.now ≡ self.now.state.values }
+        ensures values_fit { AreValuesOf self.now.state.drawing self.now.state.values }
+    {
+        &self.table
     }
 
     /// How many changes were accepted.
@@ -131,6 +163,81 @@ impl Engine {
             }
         }
         None
+    }
+
+    /// Why the change would be refused; none where it would be accepted.
+    pub fn refusal<R: Threads + Sync>(
+        &self,
+        rt: &R,
+        c: &Change,
+    ) -> Result<Option<Refusal>, NoMemory>
+        requires ready { self.now.spent ≡ false }
+        requires spellable { IsSpellableChange c.now }
+        requires not_let { IsLet c.now → ⊥ }
+        ensures { IfOk result (λ found.
+            MatchOption found (IsAccepted c.now self.now.state) (IsRefusedBy c.now self.now.state)) }
+    {
+        let _ = rt;
+        first_cause(self.alloc, self, c)
+    }
+
+    /// Makes the change: what it places or takes away, then the steps that settle the drawing, and what it makes of the
+    /// values.
+    pub fn change<R: Threads + Sync>(&mut self, rt: &R, c: &Change) -> Result<Applied, ChangeError>
+        requires ready { self.old.spent ≡ false }
+        requires spellable { IsSpellableChange c.now }
+        requires not_let { IsLet c.now → ⊥ }
+        ensures next { IfOk result (λ applied. Next self.old.state c.now applied.trace self.new.state) }
+        ensures numbers { IfOk result (λ applied. (applied.first ≡ self.old.state.next_id)
+            × (applied.added ≡ length (drawn_between c.now))) }
+        ensures untouched { IfOk result (λ applied. MakesNoViolation self.old.state c.now
+            → (applied.trace ≡ []) × IsChangedTo c.now self.old.state.drawing self.old.state.next_id self.new.state.drawing) }
+        ensures refused { (word : Word) → result ≡ Err (ChangeError.Refused word)
+            → IsRefusedBy c.now self.old.state word × (self.new ≡ self.old) }
+        ensures spent { (self.new.spent ≡ true) ↔ (result ≡ Err ChangeError.NoMemory) }
+    {
+        match self.refusal(rt, c) {
+            Ok(None) => Ok(self.make(c)?),
+            Ok(Some(refusal)) => Err(ChangeError::Refused(refusal)),
+            Err(NoMemory) => {
+                self.spent = true;
+                Err(ChangeError::NoMemory)
+            }
+        }
+    }
+
+    // Makes a change that isn't refused.
+    fn make(&mut self, c: &Change) -> Result<Applied, NoMemory>
+        requires ready { self.old.spent ≡ false }
+        requires spellable { IsSpellableChange c.now }
+        requires not_let { IsLet c.now → ⊥ }
+        requires accepted { IsAccepted c.now self.old.state }
+        ensures next { IfOk result (λ applied. Next self.old.state c.now applied.trace self.new.state) }
+        ensures numbers { IfOk result (λ applied. (applied.first ≡ self.old.state.next_id)
+            × (applied.added ≡ length (drawn_between c.now))) }
+        ensures spent { MatchResult result (λ _. self.new.spent ≡ false) (λ _. self.new.spent ≡ true) }
+    {
+        self.spent = true;
+        let first = self.next_id;
+        let ends = ends_drawn(self.alloc, c)?;
+        let added = ends.len() as u64;
+        let trace = redraw(
+            self.alloc,
+            &mut self.drawing,
+            &mut self.index,
+            first,
+            c,
+            &ends,
+        )?;
+        revalue(self.alloc, &mut self.table, first, added, c)?;
+        count(self.alloc, &mut self.traces, &mut self.changes, &trace)?;
+        self.next_id = first + added;
+        self.spent = false;
+        Ok(Applied {
+            first,
+            added,
+            trace,
+        })
     }
 
     /// Draws `s` as a new original, and settles the drawing.

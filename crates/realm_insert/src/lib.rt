@@ -3,9 +3,18 @@
 #![tactic(auto)]
 
 mod applied;
+mod asked;
+mod causes;
+#[cfg(test)]
+mod change_tests;
 mod changing;
+mod defining;
 mod engine;
 mod indexing;
+mod making;
+mod placing;
+mod refusal;
+mod removing;
 mod searching;
 mod settling;
 mod sharing;
@@ -13,5 +22,7 @@ mod sharing;
 mod tests;
 
 pub use applied::{AddError, Applied, Trace};
+pub use asked::is_let;
 pub use engine::{Engine, MOST_CHANGES};
+pub use refusal::{ChangeError, Refusal, ReplayError};
 pub use sharing::may_be_shared;

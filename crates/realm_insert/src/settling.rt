@@ -1,6 +1,6 @@
-//! Settling: steps are taken until no violation is left. A list has the pieces that are still to be looked at: each
-//! violation has one of them or an end of one. What a step draws anew joins the list; a piece that a step replaced stays
-//! on it, for its ends.
+//! Settling: steps are taken until no violation is left. A list has the pieces that are still to be looked
+//! at: each violation has one of them or an end of one. What a step draws anew joins the list; a piece that a
+//! step replaced stays on it, for its ends.
 ghost use Rattle.std.specs.Prelude.{◌≡◌, ◌++◌, map, IfOk, OnOk, MatchOption};
 ghost use Rattle.grid_base.specs.Drawing.{HasViolation};
 ghost use Rattle.realm_drawing.specs.Steps.{Permitted, Settles};
@@ -42,7 +42,8 @@ pub(crate) fn settle(
     Ok(trace)
 }
 
-// A step that may be taken, and the list without the pieces that were found clean; none where no violation is left.
+// A step that may be taken, and the list without the pieces that were found clean; none where no violation is
+// left.
 fn next_step(
     alloc: Global,
     drawing: &Drawing,

@@ -1,5 +1,5 @@
-//! Worked cases, read off squared paper, and a long run that is compared with itself. A segment is given by its ends, and an
-//! explicit point as a segment from itself to itself.
+//! Worked cases, read off squared paper, and a long run that is compared with itself. A segment is given by
+//! its ends, and an explicit point as a segment from itself to itself.
 use crate::{Applied, Engine, may_be_shared};
 use grid_base::{Point, Segment, Step};
 use std::test::Fail;

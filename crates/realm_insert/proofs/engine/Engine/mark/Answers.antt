@@ -1,13 +1,20 @@
-use Rattle.std.proofs.Common.{ap, ◌∙◌, arith}
+use Rattle.std.proofs.Common.{[], inr, ap, ◌∙◌, arith}
 use Rattle.realm_insert.specs.State.{SpendableState}
+use Rattle.realm_insert.proofs.ChangedValues.{fit_placed}
+use Rattle.realm_insert.proofs.KeptValues.{values_settled}
 use Rattle.realm_insert.proofs.engine.Engine.mark.Goals as goal
 
 -- the ids are as they were
 pub invariant_of-self-2 : goal.invariant_of-self-2
 invariant_of-self-2 c = λ unspent.
     let was = c.self.invariant (ap (λ (e : SpendableState). e.spent) c.self.view_is ∙ c.requires.ready) in
+    let d = c.self.inside.drawing.drawing in
+    let (changed, with_point, settles) = c.in_ok-trace.ensures.settles in
     record {
       rest = c.in_ok-trace.ensures.rest;
+      values_fit = values_settled changed c.mark_settled.new.drawing.drawing c.in_ok-trace.trace c.self.inside.table settles
+          (fit_placed d c.self.inside.next_id changed c.self.inside.table was.first_id was.ids was.values_fit []
+          with_point.originals (λ q there. (with_point.points q).1 (inr there)));
       ids = c.in_ok-trace.ensures.ids c.self.inside.next_id was.ids;
       first_id = was.first_id;
       most_ids = was.most_ids;

@@ -1,0 +1,108 @@
+//! Worked changes, written as lines and read off squared paper.
+use crate::{Applied, ChangeError, Engine, Refusal, is_let};
+use line_grammar::{Change, Command, read_line, spellable_change};
+use std::alloc::Global;
+use std::process::Abort;
+use std::test::Fail;
+use std::thread::Threads;
+
+fn change_of(alloc: Global, line: &str) -> Result<Change, Fail> {
+    match read_line(alloc, line.as_bytes())? {
+        Command::Change(c) => Ok(c),
+        _ => Err(Fail::new("no change")),
+    }
+}
+
+// What the change comes to: how many steps, the next id before it, and how many originals are new; or why it is refused.
+fn outcome_of<R: Abort + Threads + Sync>(
+    rt: &R,
+    engine: &mut Engine,
+    c: &Change,
+) -> Result<Result<[u64; 3], Refusal>, Fail> {
+    if engine.is_spent() || !spellable_change(c) || is_let(c) {
+        return Err(Fail::new("no change that can be made"));
+    }
+    match engine.change(rt, c) {
+        Ok(applied) => Ok(Ok(numbers_of(&applied))),
+        Err(ChangeError::Refused(word)) => Ok(Err(word)),
+        Err(ChangeError::NoMemory) => Err(Fail::new("no memory")),
+    }
+}
+
+fn numbers_of(applied: &Applied) -> [u64; 3] {
+    [
+        applied.trace.steps().len() as u64,
+        applied.first,
+        applied.added,
+    ]
+}
+
+fn come_to<R: Abort + Threads + Sync>(
+    rt: &R,
+    alloc: Global,
+    engine: &mut Engine,
+    line: &str,
+) -> Result<Result<[u64; 3], Refusal>, Fail> {
+    let c = change_of(alloc, line)?;
+    outcome_of(rt, engine, &c)
+}
+
+#[test]
+fn each_line_comes_to_this(rt: HostRuntime) -> Result<(), Fail> {
+    let lines = &[
+        (1, "segment 0 0 4 0", Ok([0, 1, 1])),
+        (1, "segment 4 0 0 0", Ok([0, 2, 1])),
+        (1, "delete 1", Ok([0, 3, 0])),
+        (2, "segment 0 0 6 0", Ok([0, 1, 1])),
+        (2, "segment 2 0 8 0", Ok([2, 2, 1])),
+        (3, "segment 0 0 6 0", Ok([0, 1, 1])),
+        (3, "point 3 0", Ok([1, 2, 0])),
+        (3, "point 3 1", Ok([0, 2, 0])),
+        (3, "unpoint 3 0", Ok([0, 2, 0])),
+        (3, "unpoint 3 0", Err(Refusal::NoPoint)),
+        (4, "point 268435455 268435455", Ok([0, 1, 0])),
+        (4, "point 268435456 0", Err(Refusal::Range)),
+        (4, "lines l 268435456 0", Err(Refusal::Range)),
+        (4, "segment 5 5 5 5", Err(Refusal::Degenerate)),
+        (4, "lines l 1 1", Err(Refusal::Shape)),
+        (5, "regions r 0 0 5 1 5 2", Ok([0, 1, 3])),
+        (5, "segment 3 0 3 5", Ok([2, 4, 1])),
+        (6, "lines l 0 0 4 0", Ok([0, 1, 1])),
+        (6, "lines l 0 0 1 1", Err(Refusal::NameTaken)),
+        (6, "delete 1", Err(Refusal::InUse)),
+        (6, "drop l", Ok([0, 2, 0])),
+        (6, "delete 1", Ok([0, 2, 0])),
+        (6, "delete 1", Err(Refusal::NoId)),
+        (6, "drop l", Err(Refusal::NoName)),
+        (7, "points p 3 4 0 0 3 4", Ok([0, 1, 0])),
+        (7, "unpoint 3 4", Err(Refusal::InUse)),
+        (7, "drop p", Ok([0, 1, 0])),
+        (7, "unpoint 3 4", Ok([0, 1, 0])),
+    ][..];
+    // How many points and how many pieces there are in the end.
+    for (session, points, pieces) in &[
+        (1, 2, 1),
+        (2, 4, 3),
+        (3, 4, 2),
+        (4, 1, 0),
+        (5, 6, 6),
+        (6, 0, 0),
+        (7, 1, 0),
+    ][..]
+    {
+        let mut engine = Engine::new(rt.alloc());
+        for (of, line, expected) in lines {
+            if of == session {
+                assert_eq!(rt;
+                    come_to(&rt, rt.alloc(), &mut engine, line)?,
+                    *expected,
+                    "{line}"
+                );
+            }
+        }
+        assert!(rt; !engine.is_spent());
+        assert_eq!(rt; engine.drawing().points()?.len(), *points, "{session}");
+        assert_eq!(rt; engine.drawing().pieces()?.len(), *pieces, "{session}");
+    }
+    Ok(())
+}

@@ -1,0 +1,78 @@
+//! What a change makes of the drawing and of the index of its pieces: first all that it places or takes away, and then the
+//! steps.
+ghost use Rattle.std.specs.Prelude.{◌≡◌, ◌+◌, IfOk, OnOk, length};
+ghost use Rattle.realm_insert.specs.Kept.{IsAtRest};
+ghost use Rattle.realm_insert.specs.Lines.{drawn_between};
+ghost use Rattle.realm_insert.specs.State.{HasIdsBelow};
+ghost use Rattle.realm_insert.specs.Work.{CanBeDrawn, IsPrepared, Redraws};
+
+use crate::applied::Trace;
+use crate::asked::{Ends, point_of, points_marked, segments_between};
+use crate::placing::{mark_all, place_all};
+use crate::removing::{remove, unmark};
+use crate::settling::settle;
+use grid_base::{NoMemory, Point, Segment};
+use line_grammar::Change;
+use realm_drawing::Drawing;
+use realm_index::Index;
+use std::alloc::Global;
+
+// Makes the change in the drawing, and settles it. The new originals have ids from `first` on.
+pub(crate) fn redraw(
+    alloc: Global,
+    drawing: &mut Drawing,
+    index: &mut Index,
+    first: u64,
+    c: &Change,
+    ends: &[Ends],
+) -> Result<Trace, NoMemory>
+    requires rest { IsAtRest drawing.old index.old }
+    requires can { CanBeDrawn c.now drawing.old.drawing first }
+    requires ends { ends.now ≡ drawn_between c.now }
+    ensures redrawn { IfOk result (λ trace. Redraws c.now drawing.old.drawing first trace drawing.new.drawing) }
+    ensures rest { OnOk result (IsAtRest drawing.new index.new) }
+    ensures ids { OnOk result (HasIdsBelow (first + length (drawn_between c.now)) drawing.new.drawing) }
+{
+    let fresh = prepare(alloc, drawing, index, first, c, ends)?;
+    // That the explicit points ascend is known where one is asked for.
+    let _ascending = drawing.is_explicit(&Point::at(0, 0));
+    Ok(Trace::new(settle(alloc, drawing, index, fresh)?))
+}
+
+// Makes the change before the first step, and answers the pieces that are to be looked at.
+fn prepare(
+    alloc: Global,
+    drawing: &mut Drawing,
+    index: &mut Index,
+    first: u64,
+    c: &Change,
+    ends: &[Ends],
+) -> Result<Vec<Segment>, NoMemory>
+    requires rest { IsAtRest drawing.old index.old }
+    requires can { CanBeDrawn c.now drawing.old.drawing first }
+    requires ends { ends.now ≡ drawn_between c.now }
+    ensures { IfOk result (λ fresh.
+        IsPrepared c.now drawing.old.drawing first drawing.new index.new fresh.items) }
+{
+    match c {
+        Change::Unpoint(p) => {
+            unmark(drawing, index, &point_of(p));
+            Ok(Vec::new(alloc))
+        }
+        Change::Delete(id) => {
+            let Ok(id) = u32::try_from(*id) else {
+                unreachable!()
+            };
+            remove(alloc, drawing, index, id)?;
+            Ok(Vec::new(alloc))
+        }
+        _ => {
+            let points = points_marked(alloc, c)?;
+            let segments = segments_between(alloc, ends)?;
+            let mut fresh = mark_all(alloc, drawing, index, &points)?;
+            place_all(drawing, index, first, &segments)?;
+            fresh.extend_from_slice(&segments)?;
+            Ok(fresh)
+        }
+    }
+}
