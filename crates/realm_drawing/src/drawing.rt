@@ -1,4 +1,4 @@
-//! The drawing: its explicit points in a set, its originals in a list by rising id, and a registry that knows which
+//! The drawing: its explicit points in a set, its originals in a map by id, and a registry that knows which
 //! originals own each piece. A call that takes memory takes it all before it changes anything.
 ghost use Rattle.std.specs.Prelude.{◌≡◌, ◌⊎◌, ◌↔◌, ℕ, false, IsTrue, All, AllPairs, Contains, Some, Err};
 ghost use Rattle.std.specs.Prelude.{OnOk, OnErr, IfOk, IsNone, IsSome, IfSome};
@@ -21,15 +21,15 @@ ghost use Rattle.realm_drawing.specs.declared.errors.StepError.TheVariants.{NotP
 use crate::courses::original_of;
 use crate::errors::{ChainError, StepError};
 use crate::explicit::ExplicitPoints;
-use crate::ids::place_of;
 use crate::keyed::KeyedPiece;
 use crate::leaving::drop_chain;
 use crate::mending::{is_mending, redrawings_of};
+use crate::originals::Originals;
 use crate::redrawing::put_paths;
 use crate::shares::{add_shares, chain_shares};
 use crate::violations::first_violation;
 use component_registry::Registry;
-use grid_base::{Chain, NoMemory, Original, Point, Segment, Step};
+use grid_base::{Chain, NoMemory, Point, Segment, Step};
 use std::alloc::Global;
 use std::marker::Model;
 
@@ -41,8 +41,9 @@ use std::marker::Model;
 #[derive(Drop)]
 pub struct Drawing {
     explicit: ExplicitPoints,
-    originals: Vec<Original>,
+    originals: Originals,
     registry: Registry,
+    alloc: Global,
 }
 
 impl Model for Drawing {
@@ -51,9 +52,9 @@ impl Model for Drawing {
 
     ghost Value = { KeyedDrawing };
 
-    ghost view = { λ d. drawn d.explicit d.originals.items d.registry };
+    ghost view = { λ d. drawn d.explicit d.originals d.registry };
 
-    ghost invariant = { λ d. IsKept d.explicit d.originals.items d.registry };
+    ghost invariant = { λ d. IsKept d.explicit d.originals d.registry };
 }
 
 impl Drawing {
@@ -63,8 +64,9 @@ impl Drawing {
     {
         Drawing {
             explicit: ExplicitPoints::new(alloc),
-            originals: Vec::new(alloc),
+            originals: Originals::new(alloc),
             registry: Registry::new(alloc),
+            alloc,
         }
     }
 
@@ -108,9 +110,7 @@ impl Drawing {
         ensures keys { KeepsKeys self.old self.new }
         ensures unchanged { OnErr result (self.new ≡ self.old) }
     {
-        let mut ends = Vec::new(*self.originals.allocator());
-        ends.push(s.a())?;
-        ends.push(s.b())?;
+        let ends = vec![in self.alloc; s.a(), s.b()]?;
         self.place_valid(id, s, ends)
     }
 
@@ -122,7 +122,7 @@ impl Drawing {
         ensures keys { KeepsKeys self.old self.new }
         ensures unchanged { OnErr result (self.new ≡ self.old) }
     {
-        let alloc = *self.originals.allocator();
+        let alloc = self.alloc;
         let Some(s) = original_of(points) else {
             return Err(ChainError::NotAChain);
         };
@@ -139,15 +139,16 @@ impl Drawing {
         ensures keys { KeepsKeys self.old self.new }
         ensures unchanged { OnErr result (self.new ≡ self.old) }
     {
-        let alloc = *self.originals.allocator();
-        self.originals.reserve(1)?;
-        let mut shares = Vec::new(alloc);
+        let mut shares = Vec::new(self.alloc);
         chain_shares(id, &points, &mut shares)?;
-        add_shares(alloc, &mut self.registry, &shares)?;
-        let (a, b) = (s.a(), s.b());
-        let chain = Chain::new(points);
-        self.originals.push_reserved(Original { id, a, b, chain });
-        Ok(())
+        self.originals.put(id, s, Chain::new(points))?;
+        match add_shares(self.alloc, &mut self.registry, &shares) {
+            Ok(_) => Ok(()),
+            Err(NoMemory) => {
+                self.originals.take(id);
+                Err(NoMemory)
+            }
+        }
     }
 
     /// Takes out the original with this id, and says whether there was one. A piece that no other original has goes.
@@ -156,11 +157,11 @@ impl Drawing {
         ensures removed { self.new.drawing ≡ without_id self.old.drawing id }
         ensures keys { KeepsKeys self.old self.new }
     {
-        let Some(place) = place_of(&self.originals, id) else {
+        let Some(points) = self.originals.chain(id) else {
             return false;
         };
-        drop_chain(&mut self.registry, id, self.originals[place].chain.points());
-        self.originals.remove(place);
+        drop_chain(&mut self.registry, id, points);
+        self.originals.take(id);
         true
     }
 
@@ -206,9 +207,13 @@ impl Drawing {
         ensures keys { KeepsKeys self.old self.new }
         ensures unchanged { OnErr result (self.new ≡ self.old) }
     {
-        let alloc = *self.originals.allocator();
-        let redrawings = redrawings_of(alloc, step)?;
-        put_paths(alloc, &mut self.originals, &mut self.registry, &redrawings)
+        let redrawings = redrawings_of(self.alloc, step)?;
+        put_paths(
+            self.alloc,
+            &mut self.originals,
+            &mut self.registry,
+            &redrawings,
+        )
     }
 
     // What is true of a drawing at any time.
@@ -262,8 +267,7 @@ impl Drawing {
         ensures stand { AllStand self.now.drawing }
         ensures rising { IsAscending self.now.drawing.originals }
     {
-        let place = place_of(&self.originals, id)?;
-        Some(self.originals[place].chain.points())
+        self.originals.chain(id)
     }
 
     /// Whether `p` is a point of the drawing: explicit, or a vertex of some chain.
