@@ -23,12 +23,13 @@ redrawn_by step chain = redrawn_also step.second (redrawn step.first.piece step.
 abbrev pub redrawn_original_by : Redrawings → Original → Original
 redrawn_original_by step o = record o { chain = redrawn_by step o.chain }
 
--- the path may stand for the piece: it leads from its lesser end to its greater, and a chain that may stand for its
--- original still may with the path in it
+-- the path may stand for the piece: it leads from its lesser end to its greater, and a chain that may stand for
+-- its original still may with the path in it
 pub record IsPathFor (r : Redrawing) : Type 0 where
   pub ordered : IsBefore r.piece.a r.piece.b
   pub leads : Leads r.piece.a r.piece.b r.path
-  pub keeps : (o : GridSegment) (chain : List GridPoint) → ValidChain o chain → ValidChain o (redrawn r.piece r.path chain)
+  pub keeps : (o : GridSegment) (chain : List GridPoint) → ValidChain o chain
+      → ValidChain o (redrawn r.piece r.path chain)
 
 -- the two pieces differ, and neither is on the path of the other
 pub record AreApart (first second : Redrawing) : Type 0 where
@@ -62,13 +63,14 @@ abbrev pub IsReplaced : Redrawings → List Replacement → Original → Type 0
 IsReplaced step list o = HasReplacement list o.id ⊎ (redrawn_by step o.chain ≡ o.chain)
 
 -- the list has replacements alone, and one for each original whose chain is to change
-pub record AreReplacements (step : Redrawings) (originals : List Original) (list : List Replacement) : Type 0 where
+pub record AreReplacements (step : Redrawings) (originals : List Original) (list : List Replacement)
+    : Type 0 where
   pub each : All (IsReplacement step originals) list
   pub all : All (IsReplaced step list) originals
 
 -- the list has replacements alone, those it had, and those for the ids that are wanted
-pub record AddsReplacements (step : Redrawings) (originals : List Original) (Wanted : ℕ → Type 0) (old new : List Replacement)
-    : Type 0 where
+pub record AddsReplacements (step : Redrawings) (originals : List Original) (Wanted : ℕ → Type 0)
+    (old new : List Replacement) : Type 0 where
   pub each : All (IsReplacement step originals) old → All (IsReplacement step originals) new
   pub stay : (id : ℕ) → HasReplacement old id → HasReplacement new id
   pub wanted : All (λ o. Wanted o.id → IsReplaced step new o) originals

@@ -11,7 +11,8 @@ ghost use Rattle.realm_drawing.specs.Steps.{Permitted};
 ghost use Rattle.realm_drawing.specs.Straight.{placed, AllBelow};
 ghost use Rattle.realm_drawing.specs.Ids.{IsAscending, LacksId, IsChainOf};
 ghost use Rattle.realm_drawing.specs.Chains.{IsSomeChain, AllStand};
-ghost use Rattle.realm_drawing.specs.Keyed.{empty_drawing, HasKey, KeepsKeys, AddsPoint, TakesPoint, AreKeyed};
+ghost use Rattle.realm_drawing.specs.Keyed.{empty_drawing, HasKey, KeepsKeys, AreKeyed};
+ghost use Rattle.realm_drawing.specs.Keyed.{AddsPoint, TakesPoint};
 ghost use Rattle.realm_drawing.specs.Mending.{IsPermitted, IsMending, HasParts};
 ghost use Rattle.realm_drawing.specs.Draws.{DrawsAnew};
 ghost use Rattle.realm_drawing.specs.Changed.{PlacesChain, with_chain, without_id};
@@ -33,11 +34,11 @@ use grid_base::{Chain, NoMemory, Point, Segment, Step};
 use std::alloc::Global;
 use std::marker::Model;
 
-/// Explicit points, and originals by rising id, each with the chain that stands for it. Contracts see them as lists,
-/// beside the list of the pieces with their keys.
+/// Explicit points, and originals by rising id, each with the chain that stands for it. Contracts see them as
+/// lists, beside the list of the pieces with their keys.
 ///
-/// Each chain stands for its original at any time: it leads from the lesser end to the greater, is monotone in both
-/// coordinates, and each of its links is close to the original or one of the two of a corner.
+/// Each chain stands for its original at any time: it leads from the lesser end to the greater, is monotone in
+/// both coordinates, and each of its links is close to the original or one of the two of a corner.
 #[derive(Drop)]
 pub struct Drawing {
     explicit: ExplicitPoints,
@@ -151,7 +152,8 @@ impl Drawing {
         }
     }
 
-    /// Takes out the original with this id, and says whether there was one. A piece that no other original has goes.
+    /// Takes out the original with this id, and says whether there was one. A piece that no other original has
+    /// goes.
     pub fn remove(&mut self, id: u32) -> bool
         ensures found { IsTrue result ↔ (LacksId self.old.drawing.originals id → ⊥) }
         ensures removed { self.new.drawing ≡ without_id self.old.drawing id }
@@ -165,8 +167,8 @@ impl Drawing {
         true
     }
 
-    /// Takes a step where it is permitted: in each chain that has a piece of the step, the path of the step stands for
-    /// the piece from then on.
+    /// Takes a step where it is permitted: in each chain that has a piece of the step, the path of the step stands
+    /// for the piece from then on.
     pub fn apply(&mut self, step: &Step) -> Result<(), StepError>
         ensures ok { OnOk result (Permitted self.old.drawing step.now self.new.drawing) }
         ensures not_permitted { (result ≡ Err NotPermitted)
@@ -319,8 +321,8 @@ impl Drawing {
         self.explicit.first_inside(s)
     }
 
-    /// A step that mends a violation, and may be taken; none where there is no violation. Takes no memory, and compares
-    /// every piece with every other.
+    /// A step that mends a violation, and may be taken; none where there is no violation. Takes no memory, and
+    /// compares every piece with every other.
     pub fn first_violation(&self) -> Option<Step>
         ensures none { IsNone result ↔ (HasViolation self.now.drawing → ⊥) }
         ensures permitted { IfSome result (IsPermitted self.now.drawing) }
@@ -344,7 +346,8 @@ impl Drawing {
     /// All pieces, ascending.
     pub fn pieces(&self) -> Result<Vec<Segment>, NoMemory>
         ensures ascending { IfOk result (λ v. AllPairs IsSegmentBefore v.items) }
-        ensures exact { IfOk result (λ v. (t : GridSegment) → Contains v.items t ↔ IsPiece self.now.drawing t) }
+        ensures exact { IfOk result
+            (λ v. (t : GridSegment) → Contains v.items t ↔ IsPiece self.now.drawing t) }
     {
         self.registry.pieces()
     }

@@ -1,5 +1,6 @@
 //! The originals: an ordered map by id, in which none moves where another comes or goes.
-ghost use Rattle.std.specs.Prelude.{◌≡◌, ◌↔◌, ◌<◌, ◌==◌, ◌++◌, ◌∷◌, ℕ, [], IsNone, IfSome, All, OnOk, OnErr, map, filter, not};
+ghost use Rattle.std.specs.Prelude.{◌≡◌, ◌↔◌, ◌<◌, ◌==◌, ◌++◌, ◌∷◌, [], All, map, filter, not};
+ghost use Rattle.std.specs.Prelude.{IsNone, IfSome, OnOk, OnErr};
 ghost use Rattle.std.specs.Map.Iter.{ShowsInOrder, deref};
 ghost use Rattle.realm_drawing.specs.Ids.{LacksId, IsChainAmong};
 ghost use Rattle.realm_drawing.specs.ById.{rechained};

@@ -47,8 +47,8 @@ struct Plan {
     less: Vec<Share>,
 }
 
-// Puts the paths of the step in the place of its pieces, in every chain that has them, and the registry after it. The
-// answer is the pieces that are new, each with its key. All memory is taken before the first change that stays.
+// Puts the paths of the step in the place of its pieces, in every chain that has them, and the registry after it.
+// The answer is the pieces that are new, each with its key. All memory is taken before the first change that stays.
 pub(crate) fn put_paths(
     alloc: Global,
     originals: &mut Originals,
@@ -150,7 +150,8 @@ fn replace_owner(
 ) -> Result<(), NoMemory>
     requires valid { All HasValidChain originals.now }
     requires step { AreRedrawings step.now }
-    ensures { OnOk result (AddsReplacements step.now originals.now (λ x. x ≡ id) list.old.items list.new.items) }
+    ensures { OnOk result
+        (AddsReplacements step.now originals.now (λ x. x ≡ id) list.old.items list.new.items) }
 {
     let Some(points) = originals.chain(id) else {
         return Ok(());
