@@ -20,10 +20,9 @@ use Rattle.value_table.specs.declared.value.Value.{Value}
 use Rattle.realm_insert.specs.Changes.{IsChangedTo, placed_all, marked_by}
 use Rattle.realm_insert.specs.Lines.{grid_point, drawn_by}
 use Rattle.realm_insert.specs.Refusals.{TakesWhatIsUsed}
-use Rattle.realm_insert.specs.State.{HasIdsBelow}
 use Rattle.realm_insert.specs.Values.{AreValuesOf}
 use Rattle.realm_insert.proofs.PreparedChanges.{placed_points}
-use Rattle.realm_insert.proofs.KeptValues.{not_listed, fits_placed_all, fits_moved, fits_removed}
+use Rattle.realm_insert.proofs.KeptValues.{not_listed, has_placed_all, has_moved, has_removed}
 
 -- points that compare as two are two
 other_point : (p q : GridPoint) → is_point p q ≡ false → p ≡ q → ⊥
@@ -56,8 +55,7 @@ unmapped test (entry ∷ values) all =
     (unmapped test values (All-tail (λ v. test v ≡ false) entry.1 (values_of values) all))
 
 -- ---- the values that were there
-module _ (d : Drawing) (first : ℕ) (changed : Drawing) (values : NamedValues) (least : 1 ≤ first) (below : HasIdsBelow first d)
-    (fit : AreValuesOf d values) where
+module _ (d : Drawing) (first : ℕ) (changed : Drawing) (values : NamedValues) (fit : AreValuesOf d values) where
   -- originals are placed, and no explicit point goes
   pub fit_placed : (list : List GridSegment) → changed.originals ≡ (placed_all d first list).originals
       → ((p : GridPoint) → Contains d.points p → Contains changed.points p) → AreValuesOf changed values
@@ -65,9 +63,9 @@ module _ (d : Drawing) (first : ℕ) (changed : Drawing) (values : NamedValues) 
       let was = fit k entry within in
       let v = (get_or values k entry).1 in (
         was.0,
-        fits_moved (placed_all d first list) changed v.kind v.parts (sym originals)
+        has_moved (placed_all d first list) changed v.kind v.parts (sym originals)
             (λ p there explicit. stays p (subst (λ (l : List GridPoint). Contains l p) (placed_points d first list) explicit))
-            (fits_placed_all d first list v.kind v.parts least below was.1),
+            (has_placed_all d first list v.kind v.parts was.1),
       )
 
   -- what is used doesn't go
@@ -77,8 +75,8 @@ module _ (d : Drawing) (first : ℕ) (changed : Drawing) (values : NamedValues) 
       let v = (get_or values k entry).1 in
       let unnamed = unmapped (names_id id) values (none_counted (names_id id) (values_of values) unused) in (
         was.0,
-        fits_moved (without_id d id) changed v.kind v.parts (sym is.originals) (λ p there explicit. (is.points p).1 (inr explicit))
-            (fits_removed d id v.kind v.parts (unnamed k entry within) was.1),
+        has_moved (without_id d id) changed v.kind v.parts (sym is.originals) (λ p there explicit. (is.points p).1 (inr explicit))
+            (has_removed d id v.kind v.parts (unnamed k entry within) was.1),
       )
   values_changed (Unpoint p) unused is = λ k entry within.
       let was = fit k entry within in
@@ -86,7 +84,7 @@ module _ (d : Drawing) (first : ℕ) (changed : Drawing) (values : NamedValues) 
       let unnamed = unmapped (names_point (grid_point p)) values
       (none_counted (names_point (grid_point p)) (values_of values) unused) in (
         was.0,
-        fits_moved d changed v.kind v.parts (sym is.originals)
+        has_moved d changed v.kind v.parts (sym is.originals)
             (λ q there explicit. (is.points q).1 (
               explicit,
               λ same.

@@ -10,7 +10,12 @@ use Rattle.grid_base.specs.Point.{GridPoint, is_point, is_before}
 use Rattle.line_grammar.specs.declared.command.At.{At}
 use Rattle.realm_insert.specs.declared.asked.Ends.{Ends}
 use Rattle.realm_insert.specs.Lines.{grid_point, ends, neighbours, neighbours_round, segment_between}
-use Rattle.realm_insert.proofs.KeptValues.{sum-map}
+
+-- a sum over a list of images
+sum-map : {X Y : Type 0} (g : Y → ℕ) (f : X → Y) (xs : List X) → sum_by g (map f xs) ≡ sum_by (λ x. g (f x)) xs
+sum-map g f [] = refl
+sum-map g f (x ∷ xs) =
+    sum_by-cons g (f x) (map f xs) ∙ ap (λ n. g (f x) + n) (sum-map g f xs) ∙ sym (sum_by-cons (λ y. g (f y)) x xs)
 
 -- the place with these coordinates
 abbrev place : ℕ → ℕ → At

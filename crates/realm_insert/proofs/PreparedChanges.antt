@@ -14,7 +14,6 @@ use Rattle.line_grammar.specs.declared.command.Change.TheVariants.{Point, Unpoin
 use Rattle.line_grammar.specs.declared.command.Change.TheVariants.{Lines, Regions, Let, Drop, Delete}
 use Rattle.realm_drawing.specs.Chains.{AllValid}
 use Rattle.realm_drawing.specs.Changed.{without_id}
-use Rattle.realm_drawing.specs.Ids.{LacksId}
 use Rattle.realm_drawing.specs.Keyed.{KeyedDrawing, AreKeyed, TakesPoint}
 use Rattle.realm_drawing.specs.Straight.{straight, placed}
 use Rattle.realm_index.specs.Index.{Entries}
@@ -55,10 +54,6 @@ can_be_drawn c s accepted ids least most = record {
   least = least;
   most = most_drawn c s.next_id accepted.1.1.1.1.1.1.1.1.1.0 most;
 }
-
--- no original has an id past all
-pub lacks_past : (d : Drawing) (n id : ℕ) → HasIdsBelow n d → n ≤ id → LacksId d.originals id
-lacks_past d n id below past = λ k o within same. omega (arith, below k o within)
 
 -- ---- what is drawn
 -- points stay where originals are placed

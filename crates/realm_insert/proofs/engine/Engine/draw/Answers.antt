@@ -16,7 +16,7 @@ invariant_of-self-2 c = λ unspent.
       rest = c.in_ok-trace.ensures.rest;
       values_fit = values_settled changed c.draw_settled.new.drawing.drawing c.in_ok-trace.trace c.self.inside.table
           c.in_ok-trace.ensures.settles
-          (fit_placed d c.self.inside.next_id changed c.self.inside.table was.first_id was.ids was.values_fit (s ∷ []) refl
+          (fit_placed d c.self.inside.next_id changed c.self.inside.table was.values_fit (s ∷ []) refl
           (λ q there. there));
       ids = c.in_ok-trace.ensures.ids;
       first_id = omega arith;

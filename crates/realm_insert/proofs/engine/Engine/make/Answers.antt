@@ -41,9 +41,9 @@ invariant_of-self-2 c = λ unspent.
     let d = kept.drawing.drawing in
     let first = kept.next_id in
     let (changed, is, settles) = c.in_ok-trace.ensures.redrawn in
-    let fit = values_changed d first changed kept.table was.first_id was.ids was.values_fit c.args.c.now
+    let fit = values_changed d first changed kept.table was.values_fit c.args.c.now
     accepted.1.1.1.1.1.1.1.1.0 is in
-    let new = values_after d first changed kept.table c.revalue.new.table was.ids fit c.args.c.now c.requires.spellable
+    let new = values_after d first changed kept.table c.revalue.new.table fit c.args.c.now c.requires.spellable
     accepted.1.1.0 is c.in_ok-revalue.ensures in
     let added = c.len-added.ensures ∙ sym c.deref.ensures.len
     ∙ ap (λ (l : List Ends). length l) (c.deref.ensures.value ∙ c.in_ok-ends.ensures) in

@@ -13,7 +13,7 @@ invariant_of-self-2 c = λ unspent.
     record {
       rest = c.in_ok-trace.ensures.rest;
       values_fit = values_settled changed c.mark_settled.new.drawing.drawing c.in_ok-trace.trace c.self.inside.table settles
-          (fit_placed d c.self.inside.next_id changed c.self.inside.table was.first_id was.ids was.values_fit []
+          (fit_placed d c.self.inside.next_id changed c.self.inside.table was.values_fit []
           with_point.originals (λ q there. (with_point.points q).1 (inr there)));
       ids = c.in_ok-trace.ensures.ids c.self.inside.next_id was.ids;
       first_id = was.first_id;
