@@ -11,7 +11,7 @@ ghost use Rattle.line_grammar.specs.Spellable.{IsSpellableChange};
 ghost use Rattle.realm_insert.specs.Lines.{IsLet, drawn_between};
 ghost use Rattle.realm_insert.specs.Refusals.{IsAccepted, IsRefusedBy};
 ghost use Rattle.realm_insert.specs.Changes.{IsChangedTo};
-ghost use Rattle.realm_insert.specs.Values.{AreValuesOf};
+ghost use Rattle.realm_insert.specs.Values.{AreValuesOf, IsGeometryNamed};
 ghost use Rattle.realm_insert.specs.Next.{Next, MakesNoViolation};
 ghost use Rattle.realm_insert.specs.declared.refusal.Refusal.{Refusal as Word};
 
@@ -26,9 +26,11 @@ use grid_base::{NoMemory, Point, Segment, Step};
 use line_grammar::Change;
 use realm_drawing::Drawing;
 use realm_index::Index;
+use rose_values::Geometry;
 use std::alloc::Global;
 use std::marker::Model;
 use std::thread::Threads;
+use value_geometry::geometry_of;
 use value_table::Table;
 
 /// How many changes may be accepted: 2^63.
@@ -127,6 +129,19 @@ impl Engine {
         ensures values_fit { AreValuesOf self.now.state.drawing self.now.state.values }
     {
         &self.table
+    }
+
+    /// What the value with this name is made of at present; none where no value has the name. Only the chains of its parts
+    /// are looked at.
+    pub fn geometry(&self, name: &str) -> Result<Option<Geometry>, NoMemory>
+        requires ready { self.now.spent ≡ false }
+        ensures { IfOk result (λ found. IsGeometryNamed self.now.state name.now found) }
+    {
+        let drawing = self.drawing();
+        match self.table().get(name) {
+            Some(value) => Ok(Some(geometry_of(self.alloc, drawing, value)?)),
+            None => Ok(None),
+        }
     }
 
     /// How many changes were accepted.
