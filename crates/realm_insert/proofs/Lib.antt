@@ -22,6 +22,10 @@ pub mod Covering
 pub mod IndexAfter
 -- steps one after the other
 pub mod StepsTaken
+-- where a trace fails that is taken step by step
+pub mod FailedTraces
+-- that a change leads to one state by one trace
+pub mod SameStates
 -- a drawing with one more straight original
 pub mod PlacedOriginals
 -- a drawing with one more explicit point

@@ -12,7 +12,7 @@ use Rattle.realm_drawing.proofs.StepsAdd.{step_adds_link, step_keeps_most, links
 use Rattle.realm_index.specs.Index.{Entries}
 use Rattle.realm_insert.specs.Kept.{IsIndexed, IsAtRest}
 use Rattle.realm_insert.specs.State.{HasPointToo, HasIdsBelow}
-use Rattle.realm_insert.specs.Work.{LeadsBy}
+use Rattle.realm_insert.specs.Misfits.{LeadsBy}
 
 -- one more step may come at the end
 pub leads_on : (d e f : Drawing) (trace : List Step) (step : Step) → LeadsBy d trace e → Permitted e step f

@@ -8,6 +8,8 @@ pub mod Refusals
 pub mod Changes
 -- one change of the state
 pub mod Next
+-- traces that don't settle what a change makes
+pub mod Misfits
 -- what values are made of
 pub mod Values
 -- what every engine that isn't spent is like

@@ -1,5 +1,4 @@
--- The pieces that are still to be looked at while a drawing is settled, and the steps that were taken. No public clause
--- cites this file.
+-- The pieces that are still to be looked at while a drawing is settled. No public clause cites this file.
 use Rattle.std.specs.Prelude.{◌≡◌, ◌⊎◌, ◌↔◌, ℕ, ◌+◌, ◌≤◌, ◌^◌, List, [], ◌∷◌, length, Contains, Any}
 use Rattle.grid_base.specs.Point.{GridPoint, IsBefore}
 use Rattle.grid_base.specs.Segment.{GridSegment, IsEnd}
@@ -30,11 +29,6 @@ pub record IsClean (d : Drawing) (s : GridSegment) : Type 0 where
   pub nothing_inside : (p : GridPoint) → IsPoint d p → IsPiece d s → Inside p s → ⊥
   pub no_end_inside : (p : GridPoint) (t : GridSegment) → IsEnd p s → IsPoint d p → IsPiece d t → Inside p t → ⊥
   pub no_crossing : (t : GridSegment) → IsPiece d s → IsPiece d t → Cross s t → ⊥
-
--- the steps lead from d to e, each permitted where it stands
-abbrev pub LeadsBy : Drawing → List Step → Drawing → Type 0
-LeadsBy d [] e = d ≡ e
-LeadsBy d (step ∷ trace) e = (between : Drawing) × Permitted d step between × LeadsBy between trace e
 
 -- the explicit points are those there were and those of the path, and all else is as it was
 pub record AddsPoints (path : List GridPoint) (old new : KeyedDrawing) : Type 0 where

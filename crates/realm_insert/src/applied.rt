@@ -35,14 +35,13 @@ impl Trace {
     {
         self.list.as_slice()
     }
+}
 
-    // The same steps once more.
-    pub(crate) fn copy(&self, alloc: Global) -> Result<Trace, NoMemory>
-        ensures { IfOk result (λ copy. copy ≡ self.now) }
-    {
-        let list = Vec::from_slice(alloc, self.list.as_slice())?;
-        Ok(Trace { list })
-    }
+// The trace of the same steps.
+pub(crate) fn trace_of(alloc: Global, steps: &[Step]) -> Result<Trace, NoMemory>
+    ensures { IfOk result (λ trace. trace ≡ steps.now) }
+{
+    Ok(Trace::new(Vec::from_slice(alloc, steps)?))
 }
 
 /// What an accepted change did.

@@ -1,7 +1,7 @@
 //! The engine: the drawing, an index of its pieces by their keys, and the numbers of the state. It is spent from the
 //! beginning of a change to its end, so want of memory leaves it spent.
 ghost use Rattle.std.specs.Prelude.{◌≡◌, ◌≢◌, ◌⊎◌, ◌↔◌, ◌+◌, ◌≤◌, ◌<◌, ◌^◌, ℕ, true, false, List, [], ◌∷◌, ◌++◌};
-ghost use Rattle.std.specs.Prelude.{length, Contains, Err, IfOk, OnOk, MatchResult, MatchOption, IfSome, IsNone};
+ghost use Rattle.std.specs.Prelude.{length, Contains, Err, IfOk, OnOk, MatchResult, MatchOption, IfSome, IsSomeAnd, IsNone};
 ghost use Rattle.grid_base.specs.Drawing.{Drawing as Drawn, HasViolation, IsDrawnRealm};
 ghost use Rattle.grid_base.specs.declared.kinds.Step.{Step as Seen};
 ghost use Rattle.realm_drawing.specs.Straight.{placed};
@@ -13,15 +13,18 @@ ghost use Rattle.realm_insert.specs.Refusals.{IsAccepted, IsRefusedBy};
 ghost use Rattle.realm_insert.specs.Changes.{IsChangedTo};
 ghost use Rattle.realm_insert.specs.Values.{AreValuesOf, IsGeometryNamed};
 ghost use Rattle.realm_insert.specs.Next.{Next, MakesNoViolation};
+ghost use Rattle.realm_insert.specs.Misfits.{MisfitsAt};
 ghost use Rattle.realm_insert.specs.declared.refusal.Refusal.{Refusal as Word};
+ghost use Rattle.realm_insert.specs.declared.settling.SettleError.TheVariants.{Mismatch};
 
-use crate::applied::{AddError, Applied, Trace};
+use crate::applied::{AddError, Applied, Trace, trace_of};
 use crate::asked::ends_drawn;
 use crate::causes::first_cause;
 use crate::changing::{draw_settled, mark_settled};
 use crate::defining::revalue;
 use crate::making::redraw;
-use crate::refusal::{ChangeError, Refusal};
+use crate::refusal::{ChangeError, Refusal, ReplayError};
+use crate::settling::SettleError;
 use grid_base::{NoMemory, Point, Segment, Step};
 use line_grammar::Change;
 use realm_drawing::Drawing;
@@ -212,7 +215,11 @@ impl Engine {
         ensures spent { (self.new.spent ≡ true) ↔ (result ≡ Err ChangeError.NoMemory) }
     {
         match self.refusal(rt, c) {
-            Ok(None) => Ok(self.make(c)?),
+            Ok(None) => match self.make(c, None) {
+                Ok(applied) => Ok(applied),
+                Err(SettleError::NoMemory) => Err(ChangeError::NoMemory),
+                Err(SettleError::Mismatch { .. }) => unreachable!(),
+            },
             Ok(Some(refusal)) => Err(ChangeError::Refused(refusal)),
             Err(NoMemory) => {
                 self.spent = true;
@@ -221,8 +228,44 @@ impl Engine {
         }
     }
 
-    // Makes a change that isn't refused.
-    fn make(&mut self, c: &Change) -> Result<Applied, NoMemory>
+    /// Makes the change with these steps in the place of those that `change` looks for. The engine is spent after each
+    /// error but a refusal.
+    pub fn replay<R: Threads + Sync>(
+        &mut self,
+        rt: &R,
+        c: &Change,
+        trace: &[Step],
+    ) -> Result<Applied, ReplayError>
+        requires ready { self.old.spent ≡ false }
+        requires spellable { IsSpellableChange c.now }
+        requires not_let { IsLet c.now → ⊥ }
+        ensures next { IfOk result (λ applied. Next self.old.state c.now trace.now self.new.state
+            × (applied.trace ≡ trace.now)) }
+        ensures numbers { IfOk result (λ applied. (applied.first ≡ self.old.state.next_id)
+            × (applied.added ≡ length (drawn_between c.now))) }
+        ensures refused { (word : Word) → result ≡ Err (ReplayError.Refused word)
+            → IsRefusedBy c.now self.old.state word × (self.new ≡ self.old) }
+        ensures mismatch { (number : ℕ) → result ≡ Err (ReplayError.Mismatch number)
+            → IsAccepted c.now self.old.state × MisfitsAt c.now self.old.state trace.now number }
+        ensures spent { (self.new.spent ≡ true) ↔ ((result ≡ Err ReplayError.NoMemory)
+            ⊎ ((number : ℕ) × (result ≡ Err (ReplayError.Mismatch number)))) }
+    {
+        match self.refusal(rt, c) {
+            Ok(None) => match self.make(c, Some(trace)) {
+                Ok(applied) => Ok(applied),
+                Err(SettleError::NoMemory) => Err(ReplayError::NoMemory),
+                Err(SettleError::Mismatch { step }) => Err(ReplayError::Mismatch { step }),
+            },
+            Ok(Some(refusal)) => Err(ReplayError::Refused(refusal)),
+            Err(NoMemory) => {
+                self.spent = true;
+                Err(ReplayError::NoMemory)
+            }
+        }
+    }
+
+    // Makes a change that isn't refused, by the given steps if there are any.
+    fn make(&mut self, c: &Change, given: Option<&[Step]>) -> Result<Applied, SettleError>
         requires ready { self.old.spent ≡ false }
         requires spellable { IsSpellableChange c.now }
         requires not_let { IsLet c.now → ⊥ }
@@ -230,6 +273,9 @@ impl Engine {
         ensures next { IfOk result (λ applied. Next self.old.state c.now applied.trace self.new.state) }
         ensures numbers { IfOk result (λ applied. (applied.first ≡ self.old.state.next_id)
             × (applied.added ≡ length (drawn_between c.now))) }
+        ensures given { IfOk result (λ applied. IfSome given.entry (λ steps. applied.trace ≡ steps.now)) }
+        ensures mismatch { (number : ℕ) → result ≡ Err (Mismatch number)
+            → IsSomeAnd given.entry (λ steps. MisfitsAt c.now self.old.state steps.now number) }
         ensures spent { MatchResult result (λ _. self.new.spent ≡ false) (λ _. self.new.spent ≡ true) }
     {
         self.spent = true;
@@ -243,6 +289,7 @@ impl Engine {
             first,
             c,
             &ends,
+            given,
         )?;
         revalue(self.alloc, &mut self.table, first, added, c)?;
         count(self.alloc, &mut self.traces, &mut self.changes, &trace)?;
@@ -360,7 +407,7 @@ fn count(
         (traces.new.items ≡ latest (traces.old.items ++ kept_trace (changes.old + 1) trace.now ∷ [])) }
 {
     let number = *changes + 1;
-    let trace = trace.copy(alloc)?;
+    let trace = trace_of(alloc, trace.steps())?;
     if traces.len() == MOST_TRACES {
         traces.remove(0);
     }

@@ -1,5 +1,5 @@
 -- how often a segment stands in a list
-mod Counts
+pub mod Counts
 -- the links of one chain
 mod ChainLinks
 -- the links of the chains of all parts

@@ -5,10 +5,9 @@ use Rattle.realm_insert.proofs.PreparedChanges.{untouched_change}
 use Rattle.realm_insert.proofs.engine.Engine.change.Goals as goal
 
 -- no step is permitted where there is no violation
-pub returns-in_ok-make-in-Ok-None-clause-untouched : goal.returns-in_ok-make-in-Ok-None-clause-untouched
-returns-in_ok-make-in-Ok-None-clause-untouched g c =
-    untouched_change c.args.self.now.state c.args.c.now c.in_ok-make-in-Ok-None.field-0.trace c.make.new.self.state
-    c.in_ok-make-in-Ok-None.ensures.next
+pub returns-in-Ok-clause-untouched : goal.returns-in-Ok-clause-untouched
+returns-in-Ok-clause-untouched g c =
+    untouched_change c.args.self.now.state c.args.c.now c.in-Ok.applied.trace c.make.new.self.state c.in-Ok.ensures.next
 
 -- the refusal that was found is answered
 pub returns-in-Ok-Some-clause-refused : goal.returns-in-Ok-Some-clause-refused

@@ -1,8 +1,16 @@
-use Rattle.std.proofs.Common.{ℕ, List, ◌≡◌, ◌+◌, ◌<◌, ◌≤◌, ◌^◌, ap, sym, subst, ◌∙◌, length, arith}
+use Rattle.std.proofs.Common.{ℕ, Bor, Err, List, ◌≡◌, ◌+◌, ◌<◌, ◌≤◌, ◌^◌, ap, sym, subst, ◌∙◌, length, arith}
+use Rattle.std.proofs.lemmas.Result.{err_from_is_err_and}
+use Rattle.grid_base.specs.Drawing.{Drawing}
+use Rattle.grid_base.specs.declared.kinds.Step.{Step}
+use Rattle.realm_insert.specs.Changes.{IsChangedTo}
+use Rattle.realm_insert.specs.Misfits.{Misfits, MisfitsAt}
 use Rattle.realm_insert.specs.Refusals.{IsAccepted}
 use Rattle.realm_insert.specs.declared.asked.Ends.{Ends}
 use Rattle.realm_insert.specs.State.{State, SpendableState, HasIdsBelow}
+use Rattle.realm_insert.specs.declared.settling.SettleError.{SettleError}
+use Rattle.realm_insert.specs.declared.settling.SettleError.TheVariants.{Mismatch}
 use Rattle.realm_insert.proofs.ChangedValues.{values_changed}
+use Rattle.realm_insert.proofs.FailedTraces.{has_also}
 use Rattle.realm_insert.proofs.KeptValues.{values_settled}
 use Rattle.realm_insert.proofs.NewValues.{values_after}
 use Rattle.realm_insert.proofs.PreparedChanges.{can_be_drawn, most_drawn}
@@ -57,3 +65,17 @@ invariant_of-self-2 c = λ unspent.
       most_changes = omega (arith, c.in_ok-count.ensures.changes, accepted.1.1.1.1.1.1.1.1.1.1.0);
       latest = c.in_ok-count.ensures.latest;
     }
+
+-- the drawing is that of the state
+pub returns-in_err-trace-clause-mismatch : goal.returns-in_err-trace-clause-mismatch
+returns-in_err-trace-clause-mismatch c =
+    let p = err_from_is_err_and c.from_residual-in_err-trace.result c.from_residual-in_err-trace.ensures.1 in
+    rw (p.1, p.2) (λ number same.
+    let kept = c.self.inside in
+    let failed : c.in_err-trace.field-0.0 ≡ Mismatch number = cc in
+    has_also
+    (λ (steps : Bor (List Step)). (e : Drawing) × IsChangedTo c.args.c.now kept.drawing.drawing kept.next_id e
+    × Misfits e steps.now number)
+    (λ (steps : Bor (List Step)). MisfitsAt c.args.c.now c.args.self.now.state steps.now number) c.args.given
+    (λ steps fails. subst (λ (e : SpendableState). MisfitsAt c.args.c.now e.state steps.now number) c.self.view_is fails)
+    (c.in_err-trace.ensures.mismatch number (ap (λ (e : SettleError). Err e) failed)))
