@@ -2,40 +2,9 @@
 ghost use Rattle.std.specs.Prelude.{◌≡◌, IfOk};
 
 use grid_base::{NoMemory, Step};
+use record_codec::Trace;
 use std::alloc::Global;
-use std::marker::Model;
 use thiserror::Error;
-
-/// The steps of a change, in order. Contracts see the list.
-#[derive(Debug, Drop)]
-pub struct Trace {
-    list: Vec<Step>,
-}
-
-impl Model for Trace {
-    ghost use Rattle.std.specs.Prelude.{List};
-    ghost use Rattle.grid_base.specs.declared.kinds.Step.{Step};
-
-    ghost Value = { List Step };
-
-    ghost view = { λ t. t.list.items };
-}
-
-impl Trace {
-    /// The trace of these steps.
-    pub fn new(list: Vec<Step>) -> Trace
-        ensures { result ≡ list.items }
-    {
-        Trace { list }
-    }
-
-    /// Its steps in order.
-    pub fn steps(&self) -> &[Step]
-        ensures { result.now ≡ self.now }
-    {
-        self.list.as_slice()
-    }
-}
 
 // The trace of the same steps.
 pub(crate) fn trace_of(alloc: Global, steps: &[Step]) -> Result<Trace, NoMemory>

@@ -6,13 +6,13 @@ ghost use Rattle.realm_drawing.specs.Straight.{placed};
 ghost use Rattle.realm_insert.specs.Kept.{IsAtRest};
 ghost use Rattle.realm_insert.specs.State.{HasPointToo, HasIdsBelow};
 
-use crate::applied::Trace;
 use crate::indexing::put_if_missing;
 use crate::searching::pieces_round;
 use crate::settling::settle;
 use grid_base::{NoMemory, Point, Segment};
 use realm_drawing::Drawing;
 use realm_index::Index;
+use record_codec::Trace;
 use std::alloc::Global;
 
 // Places a straight original along `s`, and settles the drawing.

@@ -17,7 +17,7 @@ ghost use Rattle.realm_insert.specs.Misfits.{MisfitsAt};
 ghost use Rattle.realm_insert.specs.declared.refusal.Refusal.{Refusal as Word};
 ghost use Rattle.realm_insert.specs.declared.settling.SettleError.TheVariants.{Mismatch};
 
-use crate::applied::{AddError, Applied, Trace, trace_of};
+use crate::applied::{AddError, Applied, trace_of};
 use crate::asked::ends_drawn;
 use crate::causes::first_cause;
 use crate::changing::{draw_settled, mark_settled};
@@ -29,6 +29,7 @@ use grid_base::{NoMemory, Point, Segment, Step};
 use line_grammar::Change;
 use realm_drawing::Drawing;
 use realm_index::Index;
+use record_codec::Trace;
 use rose_values::Geometry;
 use std::alloc::Global;
 use std::marker::Model;

@@ -22,9 +22,10 @@ mod sharing;
 #[cfg(test)]
 mod tests;
 
-pub use applied::{AddError, Applied, Trace};
+pub use applied::{AddError, Applied};
 pub use asked::is_let;
 pub use engine::{Engine, MOST_CHANGES};
 pub use laws::replay_agrees;
+pub use record_codec::Trace;
 pub use refusal::{ChangeError, Refusal, ReplayError};
 pub use sharing::may_be_shared;

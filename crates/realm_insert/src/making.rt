@@ -10,7 +10,6 @@ ghost use Rattle.realm_insert.specs.Misfits.{Misfits};
 ghost use Rattle.realm_insert.specs.Work.{CanBeDrawn, IsPrepared, Redraws};
 ghost use Rattle.realm_insert.specs.declared.settling.SettleError.TheVariants.{Mismatch};
 
-use crate::applied::Trace;
 use crate::asked::{Ends, point_of, points_marked, segments_between};
 use crate::placing::{mark_all, place_all};
 use crate::removing::{remove, unmark};
@@ -19,6 +18,7 @@ use grid_base::{NoMemory, Point, Segment, Step};
 use line_grammar::Change;
 use realm_drawing::Drawing;
 use realm_index::Index;
+use record_codec::Trace;
 use std::alloc::Global;
 
 // Makes the change in the drawing, and settles it, by the given steps if there are any. The new originals have ids from

@@ -14,12 +14,13 @@ ghost use Rattle.realm_insert.specs.Misfits.{Misfits};
 ghost use Rattle.realm_insert.specs.Work.{IsCoveredBy};
 ghost use Rattle.realm_insert.specs.declared.settling.SettleError.TheVariants.{Mismatch, NoMemory as NoRoom};
 
-use crate::applied::{Trace, trace_of};
+use crate::applied::trace_of;
 use crate::indexing::{forget_gone, keyed_pieces, put_in_index};
 use crate::searching::violation_at;
 use grid_base::{NoMemory, Segment, Step};
 use realm_drawing::{Drawing, KeyedPiece, StepError};
 use realm_index::Index;
+use record_codec::Trace;
 use std::alloc::Global;
 
 // Why a drawing isn't settled.
