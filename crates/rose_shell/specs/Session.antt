@@ -3,13 +3,12 @@ use Rattle.std.specs.Prelude.{◌≡◌, ◌≢◌, ◌⊎◌, ◌<◌, ◌≤�
 use Rattle.std.specs.Prelude.{MatchBool}
 use Rattle.outside_world.specs.View.{View, Asked, Moment}
 use Rattle.outside_world.specs.Since.{OnlyAdds, LeavesOnly}
-use Rattle.rose_shell.specs.declared.refusals.Refusal.TheVariants.{NotBuilt}
 use Rattle.rose_shell.specs.declared.status.Status.{Status}
 use Rattle.rose_shell.specs.declared.status.Status.TheVariants.{Done, SourceFault, SinkFault}
 use Rattle.rose_shell.specs.declared.status.Status.TheVariants.{NoMemory, InputLimit}
 use Rattle.rose_shell.specs.Desk.{Rule, Stands, AllStand}
 use Rattle.rose_shell.specs.Lines.{longest_line, whole_lines, all_lines}
-use Rattle.rose_shell.specs.Replies.{no_reply}
+use Rattle.rose_shell.specs.Replies.{not_built_reply}
 
 -- a line, its reply and the state after it
 pub record Turn (S : Type 0) : Type 0 where
@@ -20,7 +19,7 @@ pub record Turn (S : Type 0) : Type 0 where
 -- a line that is too long is refused unread, any other is answered
 abbrev pub Treats : {S : Type 0} → Rule S → S → List ℕ → List ℕ → S → Type 0
 Treats answers start line reply end =
-    MatchBool (nat_lt longest_line (length line)) ((reply ≡ no_reply NotBuilt) × (end ≡ start))
+    MatchBool (nat_lt longest_line (length line)) ((reply ≡ not_built_reply) × (end ≡ start))
     (answers start line reply end)
 
 -- the lines are treated one after another, each from the state that the one before has left

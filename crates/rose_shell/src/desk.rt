@@ -1,5 +1,6 @@
 //! What answers a line.
 ghost use Rattle.std.specs.Prelude.{◌≡◌, ◌≤◌, ℕ, List, length, IfOk, OnOk};
+ghost use Rattle.std.specs.Thread.{IsSync};
 ghost use Rattle.outside_world.specs.GoesOn.{GoesOn};
 ghost use Rattle.outside_world.specs.declared.world.FileName.{FileName};
 ghost use Rattle.rose_shell.specs.Lines.{longest_line};
@@ -8,6 +9,7 @@ ghost use Rattle.rose_shell.specs.Desk.{Answered, AllStand};
 use grid_base::{NoMemory, Reply};
 use outside_world::Outside;
 use std::alloc::Global;
+use std::thread::Threads;
 
 /// What answers lines one by one. Its state is the value itself.
 pub trait Desk<W: Outside> {
@@ -21,7 +23,14 @@ pub trait Desk<W: Outside> {
     ghost stands: { Self → (FileName → List ℕ) → Type 0 };
 
     /// Answers a line, which comes without its line feed. The reply isn't given yet.
-    fn answer(&mut self, alloc: Global, world: &mut W, line: &[u8]) -> Result<Reply, NoMemory>
+    fn answer<R: Threads + Sync>(
+        &mut self,
+        rt: &R,
+        alloc: Global,
+        world: &mut W,
+        line: &[u8],
+    ) -> Result<Reply, NoMemory>
+        requires shared { IsSync R.row }
         requires ready { ready self.old }
         requires short { length line.now ≤ longest_line }
         requires stand { W.tells world.old → AllStand stands (W.view world.old) self.old }

@@ -15,6 +15,7 @@ use crate::{LONG_LINE_REFUSAL, LONGEST_LINE};
 use grid_base::NoMemory;
 use outside_world::{Failed, Outside};
 use std::alloc::Global;
+use std::thread::Threads;
 
 /// Why the lines aren't answered on.
 #[derive(Clone, Copy, Debug, PartialEq, Eq)]
@@ -26,7 +27,8 @@ pub(crate) enum Halt {
 }
 
 /// Reads a chunk of the input, and answers each line that ends in it.
-pub(crate) fn feed<W: Outside, D: Desk<W>>(
+pub(crate) fn feed<R: Threads + Sync, W: Outside, D: Desk<W>>(
+    rt: &R,
     alloc: Global,
     desk: &mut D,
     world: &mut W,
@@ -52,7 +54,7 @@ pub(crate) fn feed<W: Outside, D: Desk<W>>(
 {
     let mut rest = chunk;
     while let Some(end) = line_end(rest) {
-        match end_line(alloc, desk, world, kept, &rest[..end]) {
+        match end_line(rt, alloc, desk, world, kept, &rest[..end]) {
             Ok(()) => {}
             Err(halt) => return Err(halt),
         }
@@ -74,7 +76,8 @@ fn line_end(bytes: &[u8]) -> Option<usize>
 }
 
 /// Answers the line that these bytes end.
-fn end_line<W: Outside, D: Desk<W>>(
+fn end_line<R: Threads + Sync, W: Outside, D: Desk<W>>(
+    rt: &R,
     alloc: Global,
     desk: &mut D,
     world: &mut W,
@@ -101,7 +104,7 @@ fn end_line<W: Outside, D: Desk<W>>(
         Ok(()) => {}
         Err(NoMemory) => return Err(Halt::NoMemory),
     }
-    match answer_kept(alloc, desk, world, kept) {
+    match answer_kept(rt, alloc, desk, world, kept) {
         Ok(()) => {}
         Err(halt) => return Err(halt),
     }
@@ -120,7 +123,8 @@ fn keep(kept: &mut Vec<u8>, bytes: &[u8]) -> Result<(), NoMemory>
 }
 
 /// Answers the line of which this was kept: refuses it unread where it is too long.
-pub(crate) fn answer_kept<W: Outside, D: Desk<W>>(
+pub(crate) fn answer_kept<R: Threads + Sync, W: Outside, D: Desk<W>>(
+    rt: &R,
     alloc: Global,
     desk: &mut D,
     world: &mut W,
@@ -146,7 +150,7 @@ pub(crate) fn answer_kept<W: Outside, D: Desk<W>>(
             Err(Failed) => Err(Halt::Sink),
         };
     }
-    match desk.answer(alloc, world, kept) {
+    match desk.answer(rt, alloc, world, kept) {
         Err(NoMemory) => Err(Halt::NoMemory),
         Ok(reply) => match give_all(world, reply.bytes()) {
             Ok(()) => Ok(()),

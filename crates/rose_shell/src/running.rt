@@ -66,7 +66,7 @@ fn is_run(word: &str) -> bool
 /// Reads lines to the end of the input, and answers each from this store on. The run ends at the first fault,
 /// at want of memory, and at the first take that gives more after `budget` bytes were taken.
 pub fn serve<R: Threads + Sync, W: Outside>(
-    _rt: &R,
+    rt: &R,
     store: &mut Store,
     world: &mut W,
     budget: u64,
@@ -92,5 +92,5 @@ pub fn serve<R: Threads + Sync, W: Outside>(
     let _drawing = store.drawing();
     let alloc = store.allocator();
     let mut chunk = [0u8; 65_536];
-    serve_by_chunks(alloc, store, world, budget, &mut chunk)
+    serve_by_chunks(rt, alloc, store, world, budget, &mut chunk)
 }

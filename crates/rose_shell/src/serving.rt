@@ -12,11 +12,13 @@ use crate::feeding::{Halt, answer_kept, feed};
 use crate::status::Status;
 use outside_world::{Failed, Outside};
 use std::alloc::Global;
+use std::thread::Threads;
 
 /// Reads lines to the end of the input, and answers each, with this room for the bytes of one take. What stands
 /// after the last line feed is a line too, where it isn't empty. The run ends at the first fault, at want of
 /// memory, and at the first take that gives more after `budget` bytes were taken.
-pub(crate) fn serve_by_chunks<W: Outside, D: Desk<W>>(
+pub(crate) fn serve_by_chunks<R: Threads + Sync, W: Outside, D: Desk<W>>(
+    rt: &R,
     alloc: Global,
     desk: &mut D,
     world: &mut W,
@@ -47,7 +49,7 @@ pub(crate) fn serve_by_chunks<W: Outside, D: Desk<W>>(
             if kept.is_empty() {
                 return Status::Done;
             }
-            match answer_kept(alloc, desk, world, &kept) {
+            match answer_kept(rt, alloc, desk, world, &kept) {
                 Ok(()) => return Status::Done,
                 Err(halt) => return status_of(halt),
             }
@@ -56,7 +58,7 @@ pub(crate) fn serve_by_chunks<W: Outside, D: Desk<W>>(
             return Status::InputLimit;
         }
         room -= n as u64;
-        match feed(alloc, desk, world, &mut kept, &chunk[..n]) {
+        match feed(rt, alloc, desk, world, &mut kept, &chunk[..n]) {
             Ok(()) => {}
             Err(halt) => return status_of(halt),
         }
