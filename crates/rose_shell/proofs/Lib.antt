@@ -1,11 +1,9 @@
 -- what settles a drawing leaves no violation
 mod Traces
--- what the engine promises of a change
-mod Promises
 -- what the engine answers to a change is what the store answers
 mod ChangeAnswers
--- a command is answered or refused, and so is its line
-mod Commands
+-- a value that has a geometry is shown by it
+mod ValueAnswers
 -- each state of a session is a realm
 mod Realms
 -- bytes are given call by call

@@ -1,20 +1,16 @@
 -- This file shows that each state of a session is a realm.
-use Rattle.std.proofs.Common.{nat_lt, ℕ, List, [], ◌∷◌, length, Bool, true, false, MatchBool, All, sym, subst, inl, inr}
+use Rattle.std.proofs.Common.{◌≡◌, ◌⊎◌, nat_lt, ℕ, List, [], ◌∷◌, length, Bool, true, false, MatchBool, All, sym, subst}
+use Rattle.std.proofs.Common.{inl, inr}
 use Rattle.std.proofs.lemmas.List.Elements.{All-nil, All-cons}
-use Rattle.grid_base.specs.Segment.{GridSegment, segment_of}
-use Rattle.grid_base.specs.Drawing.{HasViolation, IsDrawnRealm}
-use Rattle.grid_base.specs.declared.kinds.Step.{Step}
-use Rattle.grid_base.specs.Point.{GridPoint}
+use Rattle.grid_base.specs.Drawing.{IsDrawnRealm}
 use Rattle.grid_base.proofs.RealmLaw.{drawn_realm_by}
 use Rattle.line_grammar.specs.declared.command.Command.TheVariants as commands
-use Rattle.line_grammar.specs.declared.command.Change.TheVariants.{Point, Segment}
-use Rattle.line_grammar.specs.declared.command.Query.TheVariants.{Realm, Chain, Trace}
+use Rattle.line_grammar.specs.declared.command.Change.{Change}
 use Rattle.outside_world.specs.View.{View}
-use Rattle.realm_insert.specs.State.{State, SpendableState, DrawsSegment, MakesExplicit}
-use Rattle.rose_shell.specs.declared.refusals.Refusal.{Refusal}
+use Rattle.realm_insert.specs.State.{State, SpendableState}
 use Rattle.rose_shell.specs.declared.status.Status.{Status}
-use Rattle.rose_shell.specs.Answers.{Outcome, Unless}
-use Rattle.rose_shell.specs.Answers.{AnswersCommand, AnswersLine, StoreAnswers, grid_point, Makes}
+use Rattle.rose_shell.specs.Answers.{RefusesChange, MakesChange, AnswersChange}
+use Rattle.rose_shell.specs.Answers.{AnswersCommand, AnswersLine, StoreAnswers}
 use Rattle.rose_shell.specs.Session.{Turn, Treats, IsRun, Served}
 use Rattle.rose_shell.specs.Running.{StandsAlways, HasServed}
 use Rattle.rose_shell.specs.Lines.{longest_line}
@@ -24,49 +20,32 @@ use Rattle.rose_shell.proofs.Traces.{settled_by}
 abbrev IsRealm : State → Type 0
 IsRealm state = IsDrawnRealm state.drawing
 
--- the answer leads from realms to realms
-record Keeps (answer : Outcome) : Type 0 where
-  pub keeps : (old : State) (reply : List ℕ) (new : State) → answer old reply new → IsRealm old → IsRealm new
+-- a state that stays is what it was
+stays_realm : {old new : State} → new ≡ old → IsRealm old → IsRealm new
+stays_realm same realm = subst IsRealm (sym same) realm
 
--- a refusal keeps the state, so it keeps what is so of it
-unless_keeps : {cause : State → Type 0} {refusal : Refusal} {answer : Outcome} → Keeps answer
-    → Keeps (Unless cause refusal answer)
-unless_keeps {cause} {refusal} {answer} inner = record { keeps = at }
-  where
-    at : (old : State) (reply : List ℕ) (new : State) → Unless cause refusal answer old reply new → IsRealm old
-        → IsRealm new
-    at old reply new (inl refused) realm = subst IsRealm (sym refused.1.state_stays) realm
-    at old reply new (inr answered) realm = inner.keeps old reply new answered.1 realm
+-- a change is refused, or ends with a drawing without a violation
+made_keeps : (c : Change) (old : State) (reply : List ℕ) (new : State)
+    → RefusesChange c old reply new ⊎ MakesChange c old reply new → IsRealm old → IsRealm new
+made_keeps c old reply new (inl refused) realm = stays_realm refused.state_stays realm
+made_keeps c old reply new (inr made) realm =
+    let next = made.next in drawn_realm_by new.drawing (settled_by next.changed made.steps new.drawing next.settles)
 
--- a change that ends with a drawing without a violation
-makes_keeps : {change : State → List Step → State → Type 0} {added : ℕ}
-    → ((old : State) (steps : List Step) (new : State) → change old steps new → HasViolation new.drawing → ⊥)
-    → Keeps (Makes change added)
-makes_keeps settled =
-    record { keeps = λ old reply new made realm. drawn_realm_by new.drawing (settled old made.steps new made.makes) }
+change_keeps : (c : Change) (old : State) (reply : List ℕ) (new : State) → AnswersChange c old reply new → IsRealm old
+    → IsRealm new
+change_keeps c old reply new (inl later) realm = stays_realm later.1.state_stays realm
+change_keeps c old reply new (inr answered) realm = made_keeps c old reply new answered.1 realm
 
-draws_keeps : (s : GridSegment) → Keeps (Makes (λ old steps new. DrawsSegment old s steps new) 1)
-draws_keeps s = makes_keeps (λ old steps new draws. settled_by _ steps new.drawing draws.settles)
-
-marks_keeps : (p : GridPoint) → Keeps (Makes (λ old steps new. MakesExplicit old p steps new) 0)
-marks_keeps p = makes_keeps (λ old steps new marks. settled_by _ steps new.drawing marks.2.settles)
-
-command_keeps : (c : commands.the_data) → Keeps (AnswersCommand c)
-command_keeps (commands.Change (Segment p q)) =
-    unless_keeps (unless_keeps (unless_keeps (unless_keeps (draws_keeps (segment_of (grid_point p) (grid_point q))))))
-command_keeps (commands.Change (Point p)) = unless_keeps (unless_keeps (marks_keeps (grid_point p)))
-command_keeps (commands.Query Realm) =
-    record { keeps = λ old reply new shown realm. subst IsRealm (sym shown.state_stays) realm }
-command_keeps (commands.Query (Chain id)) =
-    unless_keeps (record { keeps = λ old reply new shown realm. subst IsRealm (sym shown.state_stays) realm })
-command_keeps (commands.Query (Trace number)) =
-    unless_keeps (record { keeps = λ old reply new shown realm. subst IsRealm (sym shown.state_stays) realm })
-command_keeps c = record { keeps = λ old reply new refused realm. subst IsRealm (sym refused.state_stays) realm }
+command_keeps : (c : commands.the_data) (old : State) (reply : List ℕ) (new : State) → AnswersCommand c old reply new
+    → IsRealm old → IsRealm new
+command_keeps (commands.Change c) old reply new answered realm = change_keeps c old reply new answered realm
+command_keeps (commands.Query q) old reply new answered realm = stays_realm answered.1 realm
+command_keeps c old reply new later realm = stays_realm later.state_stays realm
 
 -- no line leads to a violation
 line_keeps : (old : State) (line reply : List ℕ) (new : State) → AnswersLine old line reply new → IsRealm old → IsRealm new
-line_keeps old line reply new (inl said) realm = (command_keeps said.0).keeps old reply new said.3 realm
-line_keeps old line reply new (inr other) realm = subst IsRealm (sym other.1.state_stays) realm
+line_keeps old line reply new (inl said) realm = command_keeps said.0 old reply new said.2 realm
+line_keeps old line reply new (inr refused) realm = stays_realm refused.state_stays realm
 
 -- whichever of two answers a test chooses
 either : (test : Bool) (P Q R : Type 0) → (P → R) → (Q → R) → MatchBool test P Q → R

@@ -6,8 +6,6 @@ pub mod Lines
 pub mod Replies
 -- what each line is answered
 pub mod Answers
--- what a reply tells of a change
-pub mod Changes
 -- bytes that are given, whole or in part
 pub mod Giving
 -- one answer of a desk
