@@ -4,13 +4,12 @@ use Rattle.std.proofs.lemmas.Bool.Decides.{nat_tests}
 use Rattle.std.specs.Prelude.{Ok, Err, nat_lt, MatchBool}
 use Rattle.outside_world.specs.declared.world.Failed.{Failed}
 use Rattle.outside_world.specs.View.{View}
-use Rattle.rose_shell.specs.Replies.{not_built_reply}
 use Rattle.rose_shell.specs.declared.feeding.Halt.{Halt}
 use Rattle.rose_shell.specs.declared.feeding.Halt.TheVariants as halts
 use Rattle.rose_shell.specs.Lines.{longest_line, last_line, IsKept}
 use Rattle.rose_shell.specs.Giving.{GaveSome, GaveAll}
 use Rattle.rose_shell.specs.Desk.{Rule, Stands, AllStand, Answered}
-use Rattle.rose_shell.specs.Session.{Treats}
+use Rattle.rose_shell.specs.Session.{Treats, too_long_reply}
 use Rattle.rose_shell.specs.Loop.{Went, Stopped}
 use Rattle.outside_world.proofs.Moments.{only_nothing, none_taken}
 use Rattle.rose_shell.proofs.Keeps.{kept_is_line, kept_is_long, last_line-empty, last_line-some}
@@ -34,13 +33,13 @@ module _ {S : Type 0} (answers : Rule S) where
   treats_short : {start end : S} {line reply : List ℕ} → length line ≤ longest_line → answers start line reply end
       → Treats answers start line reply end
   treats_short {start} {end} {line} {reply} short answer =
-      subst (λ (b : Bool). MatchBool b ((reply ≡ not_built_reply) × (end ≡ start)) (answers start line reply end))
+      subst (λ (b : Bool). MatchBool b ((reply ≡ too_long_reply) × (end ≡ start)) (answers start line reply end))
       (sym (is_short longest_line (length line) short)) answer
 
-  treats_long : (start : S) (line : List ℕ) → longest_line < length line → Treats answers start line not_built_reply start
+  treats_long : (start : S) (line : List ℕ) → longest_line < length line → Treats answers start line too_long_reply start
   treats_long start line long =
-      subst (λ (b : Bool). MatchBool b ((not_built_reply ≡ not_built_reply) × (start ≡ start))
-      (answers start line not_built_reply start))
+      subst (λ (b : Bool). MatchBool b ((too_long_reply ≡ too_long_reply) × (start ≡ start))
+      (answers start line too_long_reply start))
       (sym (is_long longest_line (length line) long)) (refl, refl)
 
 -- a refusal calls no desk, and leaves the files as they were
@@ -76,13 +75,13 @@ module _ {S : Type 0} {answers : Rule S} {stands : Stands S} where
 
   -- a line that is too long is refused
   pub went_long : {old new : View} {s : S} {kept : List ℕ} {x : Unit {0}} (line : List ℕ) → longest_line < length kept
-      → IsKept kept line → AllStand stands old s → GaveAll old new not_built_reply (Ok x)
+      → IsKept kept line → AllStand stands old s → GaveAll old new too_long_reply (Ok x)
       → Went answers stands old new s s (line ∷ [])
   went_long {s = s} line long is stand gave =
       went_one (treats_long answers s line (kept_is_long line long is)) (untouched stand) (given_whole gave)
 
   pub stopped_long : {old new : View} {s : S} {kept : List ℕ} {e : Failed} (line : List ℕ) → longest_line < length kept
-      → IsKept kept line → AllStand stands old s → GaveAll old new not_built_reply (Err e)
+      → IsKept kept line → AllStand stands old s → GaveAll old new too_long_reply (Err e)
       → Stopped answers stands old new s s (line ∷ []) halts.Sink
   stopped_long {s = s} line long is stand gave =
       stopped_one (treats_long answers s line (kept_is_long line long is)) (untouched stand) gave.some

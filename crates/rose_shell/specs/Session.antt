@@ -1,6 +1,6 @@
 -- A session: lines are answered one by one, and the files stand for the state before an answer or after.
 use Rattle.std.specs.Prelude.{◌≡◌, ◌≢◌, ◌⊎◌, ◌<◌, ◌≤◌, ℕ, List, [], ◌∷◌, ◌++◌, length, nat_lt}
-use Rattle.std.specs.Prelude.{MatchBool}
+use Rattle.std.specs.Prelude.{MatchBool, codes}
 use Rattle.outside_world.specs.View.{View, Asked, Moment}
 use Rattle.outside_world.specs.Since.{OnlyAdds, LeavesOnly}
 use Rattle.rose_shell.specs.declared.status.Status.{Status}
@@ -8,7 +8,6 @@ use Rattle.rose_shell.specs.declared.status.Status.TheVariants.{Done, SourceFaul
 use Rattle.rose_shell.specs.declared.status.Status.TheVariants.{NoMemory, InputLimit}
 use Rattle.rose_shell.specs.Desk.{Rule, Stands, AllStand}
 use Rattle.rose_shell.specs.Lines.{longest_line, whole_lines, all_lines}
-use Rattle.rose_shell.specs.Replies.{not_built_reply}
 
 -- a line, its reply and the state after it
 pub record Turn (S : Type 0) : Type 0 where
@@ -16,10 +15,14 @@ pub record Turn (S : Type 0) : Type 0 where
   pub reply : List ℕ
   pub after : S
 
--- a line that is too long is refused unread, any other is answered
+-- the reply to a line that is too long
+abbrev pub too_long_reply : List ℕ
+too_long_reply = codes "no too-long" ++ 10 ∷ []
+
+-- a line of more bytes gets this reply and changes nothing, any other is answered
 abbrev pub Treats : {S : Type 0} → Rule S → S → List ℕ → List ℕ → S → Type 0
 Treats answers start line reply end =
-    MatchBool (nat_lt longest_line (length line)) ((reply ≡ not_built_reply) × (end ≡ start))
+    MatchBool (nat_lt longest_line (length line)) ((reply ≡ too_long_reply) × (end ≡ start))
     (answers start line reply end)
 
 -- the lines are treated one after another, each from the state that the one before has left
