@@ -12,7 +12,9 @@ pub mod Giving
 pub mod Desk
 -- a run over many lines
 pub mod Session
--- and a part of one
+-- what a crash leaves of one, counted by the changes
+pub mod Prefixes
+-- a part of a run
 pub mod Loop
 -- what `run` and `serve` promise
 pub mod Running

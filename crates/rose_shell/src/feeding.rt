@@ -6,10 +6,10 @@ ghost use Rattle.std.specs.Prelude.{slice_index, Err, MatchOption, IfErr, OnOk, 
 ghost use Rattle.outside_world.specs.Counts.{Rose};
 ghost use Rattle.outside_world.specs.GoesOn.{GoesOn};
 ghost use Rattle.rose_shell.specs.Lines.{lines_from, part_from, IsKept};
-ghost use Rattle.rose_shell.specs.Desk.{AllStand};
-ghost use Rattle.rose_shell.specs.Loop.{Went, Stopped};
+ghost use Rattle.rose_shell.specs.Desk.{AllRest};
+ghost use Rattle.rose_shell.specs.Loop.{Went, Stopped, halt_at};
 
-use crate::desk::Desk;
+use crate::desk::{Desk, Stop};
 use crate::giving::give_all;
 use crate::{LONG_LINE_REFUSAL, LONGEST_LINE};
 use grid_base::NoMemory;
@@ -22,6 +22,8 @@ use std::thread::Threads;
 pub(crate) enum Halt {
     /// The output took no more.
     Sink,
+    /// The disk failed.
+    Disk,
     /// Memory ran out.
     NoMemory,
 }
@@ -36,20 +38,22 @@ pub(crate) fn feed<R: Threads + Sync, W: Outside, D: Desk<W>>(
     chunk: &[u8],
 ) -> Result<(), Halt>
     requires ready { D.ready desk.old }
-    requires stand { W.tells world.old → AllStand D.stands (W.view world.old) desk.old }
+    requires rest { W.tells world.old → AllRest D.terms (W.view world.old) desk.old }
     ensures kept { OnOk result ((part : List ℕ) → IsKept kept.old.items part
         → IsKept kept.new.items (part_from part chunk.now)) }
     ensures went { OnOk result ((part : List ℕ) → IsKept kept.old.items part → W.tells world.new
-        → Went D.answers D.stands (W.view world.old) (W.view world.new) desk.old desk.new
+        → Went D.terms (W.view world.old) (W.view world.new) desk.old desk.new
         (lines_from part chunk.now)) }
     ensures stopped { IfErr result (λ halt. (part : List ℕ) → IsKept kept.old.items part
         → W.tells world.new
-        → Stopped D.answers D.stands (W.view world.old) (W.view world.new) desk.old desk.new
+        → Stopped D.terms (W.view world.old) (W.view world.new) desk.old desk.new
         (lines_from part chunk.now) halt) }
     ensures sink_fault { IsErrOf result Halt.Sink
         → Rose (W.sink_faults world.old) (W.sink_faults world.new) }
-    ensures ready { result ≢ Err Halt.NoMemory → D.ready desk.new }
-    ensures stand { OnOk result (W.tells world.new → AllStand D.stands (W.view world.new) desk.new) }
+    ensures disk_fault { IsErrOf result Halt.Disk
+        → Rose (W.disk_faults world.old) (W.disk_faults world.new) }
+    ensures ready { result ≢ Err Halt.NoMemory → result ≢ Err Halt.Disk → D.ready desk.new }
+    ensures rest { OnOk result (W.tells world.new → AllRest D.terms (W.view world.new) desk.new) }
     ensures goes_on { GoesOn ⟦<W as Outside>⟧ world.old world.new }
 {
     let mut rest = chunk;
@@ -85,19 +89,21 @@ fn end_line<R: Threads + Sync, W: Outside, D: Desk<W>>(
     bytes: &[u8],
 ) -> Result<(), Halt>
     requires ready { D.ready desk.old }
-    requires stand { W.tells world.old → AllStand D.stands (W.view world.old) desk.old }
+    requires rest { W.tells world.old → AllRest D.terms (W.view world.old) desk.old }
     ensures kept { OnOk result (kept.new.items ≡ []) }
     ensures went { OnOk result ((part : List ℕ) → IsKept kept.old.items part → W.tells world.new
-        → Went D.answers D.stands (W.view world.old) (W.view world.new) desk.old desk.new
+        → Went D.terms (W.view world.old) (W.view world.new) desk.old desk.new
         ((part ++ bytes.now) ∷ [])) }
     ensures stopped { IfErr result (λ halt. (part : List ℕ) → IsKept kept.old.items part
         → W.tells world.new
-        → Stopped D.answers D.stands (W.view world.old) (W.view world.new) desk.old desk.new
+        → Stopped D.terms (W.view world.old) (W.view world.new) desk.old desk.new
         ((part ++ bytes.now) ∷ []) halt) }
     ensures sink_fault { IsErrOf result Halt.Sink
         → Rose (W.sink_faults world.old) (W.sink_faults world.new) }
-    ensures ready { result ≢ Err Halt.NoMemory → D.ready desk.new }
-    ensures stand { OnOk result (W.tells world.new → AllStand D.stands (W.view world.new) desk.new) }
+    ensures disk_fault { IsErrOf result Halt.Disk
+        → Rose (W.disk_faults world.old) (W.disk_faults world.new) }
+    ensures ready { result ≢ Err Halt.NoMemory → result ≢ Err Halt.Disk → D.ready desk.new }
+    ensures rest { OnOk result (W.tells world.new → AllRest D.terms (W.view world.new) desk.new) }
     ensures goes_on { GoesOn ⟦<W as Outside>⟧ world.old world.new }
 {
     match keep(kept, bytes) {
@@ -131,17 +137,19 @@ pub(crate) fn answer_kept<R: Threads + Sync, W: Outside, D: Desk<W>>(
     kept: &[u8],
 ) -> Result<(), Halt>
     requires ready { D.ready desk.old }
-    requires stand { W.tells world.old → AllStand D.stands (W.view world.old) desk.old }
+    requires rest { W.tells world.old → AllRest D.terms (W.view world.old) desk.old }
     ensures went { OnOk result ((line : List ℕ) → IsKept kept.now line → W.tells world.new
-        → Went D.answers D.stands (W.view world.old) (W.view world.new) desk.old desk.new
+        → Went D.terms (W.view world.old) (W.view world.new) desk.old desk.new
         (line ∷ [])) }
     ensures stopped { IfErr result (λ halt. (line : List ℕ) → IsKept kept.now line → W.tells world.new
-        → Stopped D.answers D.stands (W.view world.old) (W.view world.new) desk.old desk.new
+        → Stopped D.terms (W.view world.old) (W.view world.new) desk.old desk.new
         (line ∷ []) halt) }
     ensures sink_fault { IsErrOf result Halt.Sink
         → Rose (W.sink_faults world.old) (W.sink_faults world.new) }
-    ensures ready { result ≢ Err Halt.NoMemory → D.ready desk.new }
-    ensures stand { OnOk result (W.tells world.new → AllStand D.stands (W.view world.new) desk.new) }
+    ensures disk_fault { IsErrOf result Halt.Disk
+        → Rose (W.disk_faults world.old) (W.disk_faults world.new) }
+    ensures ready { result ≢ Err Halt.NoMemory → result ≢ Err Halt.Disk → D.ready desk.new }
+    ensures rest { OnOk result (W.tells world.new → AllRest D.terms (W.view world.new) desk.new) }
     ensures goes_on { GoesOn ⟦<W as Outside>⟧ world.old world.new }
 {
     if kept.len() > LONGEST_LINE {
@@ -151,10 +159,22 @@ pub(crate) fn answer_kept<R: Threads + Sync, W: Outside, D: Desk<W>>(
         };
     }
     match desk.answer(rt, alloc, world, kept) {
-        Err(NoMemory) => Err(Halt::NoMemory),
+        Err(stop) => Err(halt_of(stop)),
         Ok(reply) => match give_all(world, reply.bytes()) {
             Ok(()) => Ok(()),
             Err(Failed) => Err(Halt::Sink),
         },
+    }
+}
+
+/// Where a desk that stops halts the lines.
+fn halt_of(stop: Stop) -> Halt
+    ensures halt { result ≡ halt_at stop }
+    ensures disk { result ≡ Halt.Disk → stop ≡ Stop.Disk }
+    ensures never_sink { result ≢ Halt.Sink }
+{
+    match stop {
+        Stop::Disk => Halt::Disk,
+        Stop::NoMemory => Halt::NoMemory,
     }
 }

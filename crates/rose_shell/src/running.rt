@@ -31,11 +31,14 @@ pub fn run<R: Threads + Sync, W: Outside>(
         → Rose (W.source_faults world.old) (W.source_faults world.new) }
     ensures sink_fault { result ≡ Status.SinkFault
         → Rose (W.sink_faults world.old) (W.sink_faults world.new) }
+    ensures disk_fault { result ≡ Status.DiskFault
+        → Rose (W.disk_faults world.old) (W.disk_faults world.new) }
     ensures told { result ≢ Status.Usage → W.tells world.new
         → HasRun (W.view world.old) (W.view world.new) result }
     ensures complete { IsRunWord (map string_bytes words.now) → W.tells world.new
         → ¬ (Rose (W.source_faults world.old) (W.source_faults world.new))
         → ¬ (Rose (W.sink_faults world.old) (W.sink_faults world.new))
+        → ¬ (Rose (W.disk_faults world.old) (W.disk_faults world.new))
         → length (W.view world.old).left ≤ 2 ^ 40
         → (result ≡ Status.Done) ⊎ (result ≡ Status.NoMemory) }
     ensures goes_on { GoesOn ⟦<W as Outside>⟧ world.old world.new }
@@ -77,15 +80,18 @@ pub fn serve<R: Threads + Sync, W: Outside>(
         → Rose (W.source_faults world.old) (W.source_faults world.new) }
     ensures sink_fault { result ≡ Status.SinkFault
         → Rose (W.sink_faults world.old) (W.sink_faults world.new) }
+    ensures disk_fault { result ≡ Status.DiskFault
+        → Rose (W.disk_faults world.old) (W.disk_faults world.new) }
     ensures told { W.tells world.new
         → HasServed (W.view world.old) (W.view world.new) store.old store.new budget result }
     // Where no call fails and the input ends within the budget, nothing but memory can be wanting.
     ensures complete { W.tells world.new
         → ¬ (Rose (W.source_faults world.old) (W.source_faults world.new))
         → ¬ (Rose (W.sink_faults world.old) (W.sink_faults world.new))
+        → ¬ (Rose (W.disk_faults world.old) (W.disk_faults world.new))
         → length (W.view world.old).left ≤ budget
         → (result ≡ Status.Done) ⊎ (result ≡ Status.NoMemory) }
-    ensures ready { result ≢ Status.NoMemory → store.new.spent ≡ false }
+    ensures ready { result ≢ Status.NoMemory → result ≢ Status.DiskFault → store.new.spent ≡ false }
     ensures goes_on { GoesOn ⟦<W as Outside>⟧ world.old world.new }
 {
     // The session begins with a realm.

@@ -11,7 +11,7 @@ pub loop-n-init : goal.loop-n-init
 loop-n-init g c = record {
   goes_on = goes_on_none;
   ready = c.requires.ready;
-  keeping = λ t. keeping_none c.args.budget c.new-kept.ensures.items (c.requires.stand t);
+  keeping = λ t. keeping_none c.args.budget c.new-kept.ensures.items (c.requires.rest t);
 }
 
 -- the lines that end in the bytes of this take are answered
@@ -22,7 +22,7 @@ loop-n-preserved g c =
     let ens = c.in-Ok-feed.ensures in
     record {
       goes_on = goes_on_then inv.goes_on (goes_on_then took.goes_on ens.goes_on);
-      ready = ens.ready (λ is. cc);
+      ready = ens.ready (λ is. cc) (λ is. cc);
       keeping = λ t.
           let then = ens.goes_on.tells t in
           keeping_more (inv.keeping (took.goes_on.tells then)) (took.told then) took.within (omega (arith, took.room))
