@@ -21,7 +21,7 @@ use Rattle.side_parity.proofs.Inner.{IsStrict}
 use Rattle.side_parity.proofs.Itself.{TellsItself, flips, itself_backward, itself_forward}
 use Rattle.side_parity.proofs.Parities.{differ-comm, differ-false, differ-self}
 use Rattle.side_parity.proofs.Regions.{is_odd, odd_count}
-use Rattle.side_parity.proofs.Steps.{IsTold, changes, is_above, ordered, unchanged}
+use Rattle.side_parity.proofs.Steps.{IsTold, changes, is_above, unchanged}
 use Rattle.side_parity.proofs.Ways.{IsApart}
 
 -- ---- a whole border

@@ -6,7 +6,7 @@ use Rattle.grid_base.specs.Segment.{GridSegment}
 use Rattle.grid_base.specs.Border.{is_end, IsEvenBorder}
 use Rattle.grid_base.proofs.Orders.{is_point-same, is_point-itself}
 use Rattle.side_parity.specs.Middle.{differ}
-use Rattle.side_parity.proofs.Parities.{differ-assoc, differ-comm, even_by_count}
+use Rattle.side_parity.proofs.Parities.{differ-assoc, differ-comm, differ-twice, even_by_count}
 use Rattle.side_parity.proofs.Regions.{odd_count}
 
 -- ---- the ends of segments, as a list
@@ -27,11 +27,6 @@ split_bool true false m n x h = ap (λ y. differ y x) (h refl)
 split_bool true true false n x h = ap (λ y. differ y x) (sym (h refl))
 split_bool true true true n false h = ap (λ y. not (differ y false)) (sym (h refl))
 split_bool true true true n true h = ap (λ y. not (differ y true)) (sym (h refl))
-
-twice : (a x : Bool) → differ a (differ a x) ≡ x
-twice false x = refl
-twice true false = refl
-twice true true = refl
 
 odd_rest : (b : Bool) → differ true b ≡ false → b ≡ true
 odd_rest false e = sym e
@@ -78,7 +73,7 @@ module _ {A : Type 0} (same : A → A → Bool) (exact : (p q : A) → same p q 
       → odd_count f (p ∷ l) ≡ odd_count f (without p l)
   pair_off p l h f =
       let c : odd_count (same p) l ≡ true = odd_rest _ (ap (λ b. differ b (odd_count (same p) l)) (sym (itself p)) ∙ h) in
-      ap (differ (f p)) (split p f l ∙ ap (λ b. differ (b && f p) (odd_count f (without p l))) c) ∙ twice (f p) (odd_count f (without p l))
+      ap (differ (f p)) (split p f l ∙ ap (λ b. differ (b && f p) (odd_count f (without p l))) c) ∙ differ-twice (f p) (odd_count f (without p l))
 
   even_upto : (n : ℕ) (l : List A) → length l ≤ n → ((p : A) → odd_count (same p) l ≡ false) → (f : A → Bool)
       → odd_count f l ≡ false

@@ -27,6 +27,11 @@ pub differ-self : (a : Bool) → differ a a ≡ false
 differ-self false = refl
 differ-self true = refl
 
+pub differ-twice : (a x : Bool) → differ a (differ a x) ≡ x
+differ-twice false x = refl
+differ-twice true false = refl
+differ-twice true true = refl
+
 pub differ-swap : (a b c d : Bool) → differ (differ a b) (differ c d) ≡ differ (differ a c) (differ b d)
 differ-swap false b c d = sym (differ-assoc b c d) ∙ ap (λ x. differ x d) (differ-comm b c) ∙ differ-assoc c b d
 differ-swap true false false false = refl

@@ -71,8 +71,8 @@ later c q p wq h k =
     omega arith) in
     omega (arith, no)
 
-pub ordered : (a b w x : ℕ) → a ≤ b → b * w ≤ x → a * w ≤ x
-ordered a b w x h k = let p1 = times_le a b 0 w h (omega arith) in omega arith
+pub ends_too : (a b w x : ℕ) → a ≤ b → b * w ≤ x → a * w ≤ x
+ends_too a b w x h k = let p1 = times_le a b 0 w h (omega arith) in omega arith
 
 -- a segment that has no place on the way is over the one end and not the other where one of its ends, and not the other, is above the way
 pub unchanged : (t : GridSegment) (q p : RationalPoint) → IsApart t q p → 0 < q.w → 0 < p.w
@@ -85,7 +85,7 @@ unchanged t q p far wq wp h o =
     (ltb (rightward_of_way q p t.a) (leftward_of_way q p t.a)) (ltb (rightward_of_way q p t.b) (leftward_of_way q p t.b))
     (λ e. le-leb _ _ (later t.a.x q p wq h (leb-true _ _ e)))
     (λ e. not_from_lt _ _ (before t.b.x (not_true _ _ e)))
-    (λ e. le-leb _ _ (ordered t.a.x t.b.x q.w q.x o (not_false _ _ e)))
+    (λ e. le-leb _ _ (ends_too t.a.x t.b.x q.w q.x o (not_false _ _ e)))
     (λ e. not_from_lt _ _ (after (leb-false _ _ e)))
     (λ e f. both_within t q p far wq wp (leb-true _ _ e) (before t.b.x (not_true _ _ f)) (later t.a.x q p wq h (leb-true _ _ e))
     (not_true _ _ f))
@@ -100,10 +100,10 @@ unchanged t q p far wq wp h o =
     before c l = let no : c * q.w ≤ q.x → ⊥ = λ k. (let m = later c q p wq h k in omega arith) in omega (arith, no)
 
     after : p.x < t.a.x * p.w → p.x < t.b.x * p.w
-    after l = let no : t.b.x * p.w ≤ p.x → ⊥ = λ k. (let m = ordered t.a.x t.b.x p.w p.x o k in omega arith) in omega (arith, no)
+    after l = let no : t.b.x * p.w ≤ p.x → ⊥ = λ k. (let m = ends_too t.a.x t.b.x p.w p.x o k in omega arith) in omega (arith, no)
 
     beyond : q.x < t.a.x * q.w → q.x < t.b.x * q.w
-    beyond l = let no : t.b.x * q.w ≤ q.x → ⊥ = λ k. (let m = ordered t.a.x t.b.x q.w q.x o k in omega arith) in omega (arith, no)
+    beyond l = let no : t.b.x * q.w ≤ q.x → ⊥ = λ k. (let m = ends_too t.a.x t.b.x q.w q.x o k in omega arith) in omega (arith, no)
 
     flat : (m n c : Bool) → (not m && (not (not n) && c)) ≡ (not m && (n && c))
     flat m false c = refl
