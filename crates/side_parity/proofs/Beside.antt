@@ -3,7 +3,6 @@ use Rattle.std.proofs.Common.{◌≡◌, ◌≢◌, ℕ, ◌+◌, ◌*◌, ◌<�
 use Rattle.std.proofs.Common.{subst, ◌∙◌, arith, inl, inr}
 use Rattle.std.specs.Prelude.{Contains}
 use Rattle.std.specs.List.{AllByRecursion}
-use Rattle.std.proofs.lemmas.List.Elements.{All-contains_itself, All-weaker, All-contains, All-from_recursion, recursion_from_All}
 use Rattle.std.proofs.lemmas.Bool.{true≢false, cases_Bool}
 use Rattle.grid_base.specs.Point.{IsBefore}
 use Rattle.grid_base.specs.Segment.{GridSegment}
@@ -16,6 +15,7 @@ use Rattle.grid_base.proofs.Ends.{columns_in_order, not_before_itself}
 use Rattle.grid_base.proofs.Orders.{is_segment-itself, is_segment-same}
 use Rattle.grid_base.proofs.Turns.{in_order}
 use Rattle.side_parity.specs.Middle.{differ}
+use Rattle.side_parity.proofs.Each.{all_by, ordered_in}
 use Rattle.side_parity.proofs.EvenBorders.{AllHaveEnds}
 use Rattle.side_parity.proofs.Inner.{IsStrict}
 use Rattle.side_parity.proofs.Itself.{TellsItself, flips, itself_backward, itself_forward}
@@ -49,10 +49,6 @@ told_other s t q lo hi e h =
     h ∙ sym (differ-false (differ (is_above lo hi t.a) (is_above lo hi t.b)))
     ∙ ap (λ b. differ (differ (is_above lo hi t.a) (is_above lo hi t.b)) (b && flips s q)) (sym e)
 
-pub all_by : (B : List GridSegment) (P : GridSegment → Type 0) → ((t : GridSegment) → Contains B t → P t)
-    → AllByRecursion P B
-all_by B P h = recursion_from_All P B (All-weaker (Contains B) P h B (All-contains_itself B))
-
 pub flipped : (s : GridSegment) (q : RationalPoint) (B : List GridSegment)
     → odd_count (Flipping s q) B ≡ (odd_count (is_segment s) B && flips s q)
 flipped s q [] = refl
@@ -67,7 +63,7 @@ pub have_ends : (B : List GridSegment) → AllByRecursion (λ t. IsBefore t.a t.
 have_ends [] h = tt
 have_ends (t ∷ B) h = (λ e. not_before_itself t.a t.b e h.0, have_ends B h.1)
 
-pub solve : (a b c : Bool) → differ a b ≡ c → b ≡ differ a c
+solve : (a b c : Bool) → differ a b ≡ c → b ≡ differ a c
 solve false b c e = e
 solve true false c e = ap not e
 solve true true c e = ap not e
@@ -75,7 +71,7 @@ solve true true c e = ap not e
 first_end : (B : List GridSegment) (t : GridSegment) → AllByRecursion (λ u. IsBefore u.a u.b) B → Contains B t
     → t.a.x ≤ t.b.x
 first_end B t ordered k =
-    columns_in_order t.a t.b (All-contains (λ u. IsBefore u.a u.b) B t (All-from_recursion (λ u. IsBefore u.a u.b) B ordered) k)
+    columns_in_order t.a t.b (ordered_in B t ordered k)
 
 another : (s t : GridSegment) → is_segment s t ≡ false → s ≢ t
 another s t e k = true≢false (sym (is_segment-itself s) ∙ ap (is_segment s) k ∙ e)

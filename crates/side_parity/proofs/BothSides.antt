@@ -2,11 +2,8 @@
 use Rattle.std.proofs.Common.{◌≡◌, ◌⊎◌, ◌↔◌, ℕ, ◌+◌, ◌*◌, ◌<◌, ◌≤◌, Bool, true, false, not, ◌&&◌, ltb, IsTrue, List, ◌∷◌, map}
 use Rattle.std.proofs.Common.{refl, sym, ap, subst, ◌∙◌, arith, inl, inr}
 use Rattle.std.specs.Prelude.{Contains}
-use Rattle.std.specs.List.{AllByRecursion}
 use Rattle.std.proofs.lemmas.List.{get_or-map, length-map}
-use Rattle.std.proofs.lemmas.List.Elements.{All-contains, All-from_recursion}
 use Rattle.std.proofs.lemmas.Int.{ints}
-use Rattle.grid_base.specs.Point.{IsBefore}
 use Rattle.grid_base.specs.Segment.{GridSegment}
 use Rattle.grid_base.specs.Sides.{Side, Left, Right}
 use Rattle.grid_base.specs.Places.{RationalPoint, IsPlace}
@@ -15,6 +12,7 @@ use Rattle.grid_base.specs.Odd.{is_strictly_above, Odd}
 use Rattle.grid_base.proofs.Orders.{is_segment}
 use Rattle.grid_base.specs.Plane.{side_at}
 use Rattle.side_parity.specs.Middle.{differ, middle}
+use Rattle.side_parity.proofs.Each.{ordered_in}
 use Rattle.side_parity.proofs.Images.{IsImage, has_image, image, lowered, lowered_image, moved, odd_moved, reach, side_moved}
 use Rattle.side_parity.proofs.MovedPlaces.{blend_image, held_back, held_moved, point_back, point_moved}
 use Rattle.side_parity.proofs.Near.{middle_strict, same_factor, some_left, some_right}
@@ -34,10 +32,6 @@ sound_moved n B s h = record {
   first = moved_first n s h.first;
   even = even_moved n B h.even;
 }
-
-pub ordered_in : (B : List GridSegment) (t : GridSegment) → AllByRecursion (λ u. IsBefore u.a u.b) B
-    → Contains B t → IsBefore t.a t.b
-ordered_in B t h c = All-contains (λ u. IsBefore u.a u.b) B t (All-from_recursion (λ u. IsBefore u.a u.b) B h) c
 
 pub moved_contains : (n : ℕ) (L : List GridSegment) (t : GridSegment) → Contains L t
     → Contains (map (moved n) L) (moved n t)
@@ -83,12 +77,12 @@ sides_moved n B s h =
 first_real : (m n : ℕ) → 0 < 1 * m + 0 * n → 0 < m
 first_real m n h = omega arith
 
-pub beside_is_real : (B : List GridSegment) (s : GridSegment) (d : Side) (q : Place) → IsBeside B s d q
+beside_is_real : (B : List GridSegment) (s : GridSegment) (d : Side) (q : Place) → IsBeside B s d q
     → 0 < q.w
 beside_is_real B s d q h = first_real q.w h.goal.w (h.clear 1 0 (omega arith)).real
 
 -- left or right
-abbrev pub IsOff : Side → Type 0
+abbrev IsOff : Side → Type 0
 IsOff d = (d ≡ Left) ⊎ (d ≡ Right)
 
 not_balanced : (s : GridSegment) (r : RationalPoint) (d : Side) → IsOff d → side_at s (as_place r) ≡ d
@@ -133,7 +127,7 @@ beside_moved n B s d q r g sound off h k l = record {
         (subst (λ (v : GridSegment). IsPlace v (mean i g j r)) (sym u.2) p))
 
 -- ---- and back
-pub beside_back : (n : ℕ) (B : List GridSegment) (s : GridSegment) (d : Side) (r : RationalPoint) → IsSound B s
+beside_back : (n : ℕ) (B : List GridSegment) (s : GridSegment) (d : Side) (r : RationalPoint) → IsSound B s
     → IsNextTo (map (moved n) B) (moved n s) d r → IsBeside B s d (lowered n r)
 beside_back n B s d r sound h = record {
   side = sym (side_moved n s (lowered n r) r (lowered_image n r)) ∙ h.side;
@@ -155,7 +149,7 @@ beside_back n B s d r sound h = record {
     some_weight i j v w h k = grind arith
 
 -- ---- the answers
-pub tells_by : (B : List GridSegment) (q : Place) (a : Bool) → is_odd B q ≡ a → IsTrue a ↔ Odd B q
+tells_by : (B : List GridSegment) (q : Place) (a : Bool) → is_odd B q ≡ a → IsTrue a ↔ Odd B q
 tells_by B q a h = (λ e. count_by_odd (λ s. is_strictly_above s q) B (h ∙ e), λ o. sym h ∙ odd_by_count (λ s. is_strictly_above s q) B o)
 
 -- two answers that tell the same are one

@@ -14,7 +14,7 @@ abbrev pub ends : List GridSegment → List GridPoint
 ends [] = []
 ends (s ∷ B) = s.a ∷ s.b ∷ ends B
 
-pub odd_count-ends : (f : GridPoint → Bool) (B : List GridSegment)
+odd_count-ends : (f : GridPoint → Bool) (B : List GridSegment)
     → odd_count (λ s. differ (f s.a) (f s.b)) B ≡ odd_count f (ends B)
 odd_count-ends f [] = refl
 odd_count-ends f (s ∷ B) = ap (differ (differ (f s.a) (f s.b))) (odd_count-ends f B) ∙ differ-assoc (f s.a) (f s.b) (odd_count f (ends B))
@@ -73,7 +73,8 @@ module _ {A : Type 0} (same : A → A → Bool) (exact : (p q : A) → same p q 
       → odd_count f (p ∷ l) ≡ odd_count f (without p l)
   pair_off p l h f =
       let c : odd_count (same p) l ≡ true = odd_rest _ (ap (λ b. differ b (odd_count (same p) l)) (sym (itself p)) ∙ h) in
-      ap (differ (f p)) (split p f l ∙ ap (λ b. differ (b && f p) (odd_count f (without p l))) c) ∙ differ-twice (f p) (odd_count f (without p l))
+      ap (differ (f p)) (split p f l ∙ ap (λ b. differ (b && f p) (odd_count f (without p l))) c)
+      ∙ differ-twice (f p) (odd_count f (without p l))
 
   even_upto : (n : ℕ) (l : List A) → length l ≤ n → ((p : A) → odd_count (same p) l ≡ false) → (f : A → Bool)
       → odd_count f l ≡ false

@@ -133,7 +133,7 @@ to_back n b w v x z e f =
     let f2 = ap (λ (k : ℕ). n * k) f in
     lt_same x ((b + n) * v) z (pos (b * w)) (λ h. omega (arith, ints)) (λ h. omega (arith, ints))
 
-pub over_moved : (n : ℕ) (t : GridSegment) (q : Place) (r : RationalPoint) → IsImage n q r
+over_moved : (n : ℕ) (t : GridSegment) (q : Place) (r : RationalPoint) → IsImage n q r
     → is_strictly_above (moved n t) (as_place r) ≡ is_strictly_above t q
 over_moved n t q r h =
     three_tests _ _ _ _ _ _ (from_back n t.a.x q.w r.w r.x q.x h.across h.weight) (to_back n t.b.x q.w r.w r.x q.x h.across h.weight)

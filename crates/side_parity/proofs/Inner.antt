@@ -76,7 +76,7 @@ strict_place s r h = elim h.between [
       record { real = h.real; line = line_by s r h.line; across = (omega arith, omega arith); up = (omega arith, omega arith) })
 ]
 
-pub strict_no_end : (s : GridSegment) (r : RationalPoint) (p : GridPoint) → IsStrict s r → IsEnd p s → IsAt r p
+strict_no_end : (s : GridSegment) (r : RationalPoint) (p : GridPoint) → IsStrict s r → IsEnd p s → IsAt r p
     → ⊥
 strict_no_end s r p h (inl e) k =
     let x1 = ap (λ (q : GridPoint). q.x * r.w) e in
@@ -121,7 +121,7 @@ mean_line s r q m n e f = let e1 = ap (λ (k : ℕ). m * k) e in let f1 = ap (λ
 apart_columns : (a b w x : ℕ) → a ≡ b → a * w < x → x < b * w → ⊥
 apart_columns a b w x e h k = let e1 = ap (λ (j : ℕ). j * w) e in omega arith
 
-pub strict_mean : (s : GridSegment) (r q : RationalPoint) (m n : ℕ) → IsStrict s r → IsStrict s q → 0 < m + n
+strict_mean : (s : GridSegment) (r q : RationalPoint) (m n : ℕ) → IsStrict s r → IsStrict s q → 0 < m + n
     → IsStrict s (mean m r n q)
 strict_mean s r q m n h k l = record {
   real = mean_real m n r q h.real k.real l;

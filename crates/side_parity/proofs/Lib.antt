@@ -1,5 +1,7 @@
 -- the words of the proofs, over a picture that has no coordinate below 0
 pub mod Regions
+-- what holds of each segment of a list
+pub mod Each
 -- odd numbers of things, and counts
 pub mod Parities
 -- the ends of an even border

@@ -36,12 +36,12 @@ blend_image n i j p q s r h k = record {
 }
 
 -- ---- places of segments
-pub zero_by : (z : ℤ) → side_of z ≡ On → z ≡ pos 0
+zero_by : (z : ℤ) → side_of z ≡ On → z ≡ pos 0
 zero_by (pos zero) e = refl
 zero_by (pos (suc n)) e = cc
 zero_by (negsuc n) e = cc
 
-pub on_by_zero : (z : ℤ) → z ≡ pos 0 → side_of z ≡ On
+on_by_zero : (z : ℤ) → z ≡ pos 0 → side_of z ≡ On
 on_by_zero z h = rw h refl
 
 no_difference : (y z : ℤ) → y -ℤ z ≡ pos 0 → y ≡ z

@@ -5,7 +5,6 @@ use Rattle.std.specs.Prelude.{Contains}
 use Rattle.std.specs.List.{AllByRecursion}
 use Rattle.std.proofs.lemmas.Bool.{true≢false, cases_Bool}
 use Rattle.std.proofs.lemmas.Int.{ints}
-use Rattle.std.proofs.lemmas.List.Elements.{All-contains, All-from_recursion}
 use Rattle.grid_base.specs.Point.{IsBefore}
 use Rattle.grid_base.specs.Segment.{GridSegment}
 use Rattle.grid_base.specs.Sides.{Side, Left, Right, side_of}
@@ -18,6 +17,7 @@ use Rattle.grid_base.proofs.Elements.{Contains-here, Contains-later}
 use Rattle.grid_base.proofs.Orders.{is_segment-itself, is_segment-same}
 use Rattle.grid_base.proofs.Signs.{three_ways}
 use Rattle.side_parity.specs.Middle.{middle}
+use Rattle.side_parity.proofs.Each.{each_of, ordered_in}
 use Rattle.side_parity.proofs.Inner.{IsStrict, from_to, inner_of, strict_alone}
 use Rattle.side_parity.proofs.Numbers.{leftward, line_by, number_is, place_balanced, place_by, rightward}
 use Rattle.side_parity.proofs.Regions.{IsClearOf, IsNextTo, mean}
@@ -135,13 +135,17 @@ pub bound_some : (g : RationalPoint) (B : List GridSegment) → 0 < bound g B
 bound_some g [] = omega arith
 bound_some g (t ∷ B) = let h = bound_some g B in omega arith
 
-pub all_beyond : (g : RationalPoint) (B : List GridSegment) → AllByRecursion (λ t. IsBeyond t g (bound g B)) B
+all_beyond : (g : RationalPoint) (B : List GridSegment) → AllByRecursion (λ t. IsBeyond t g (bound g B)) B
 all_beyond g [] = tt
 all_beyond g (t ∷ B) =
     let h = bound_some g B in (
       record { left = omega arith; right = omega arith; columns = (omega arith, omega arith); rows = (omega arith, omega arith) },
       all_more B g (bound g B) (bound g (t ∷ B)) (omega arith) (all_beyond g B),
     )
+
+pub beyond_in : (g : RationalPoint) (B : List GridSegment) (t : GridSegment) → Contains B t
+    → IsBeyond t g (bound g B)
+beyond_in g B t c = each_of (λ u. IsBeyond u g (bound g B)) B t (all_beyond g B) c
 
 -- ---- next to s
 is_left : (z : ℤ) (l r : ℕ) → z ≡ pos l -ℤ pos r → r < l → side_of z ≡ Left
@@ -155,7 +159,7 @@ is_right (pos (suc n)) l r h e = absurd (omega (arith, ints))
 is_right (negsuc n) l r h e = refl
 
 -- the place near the middle of s towards g is next to s, on g's side
-pub next_toward : (B : List GridSegment) (s : GridSegment) (g : RationalPoint) (k : Side) → IsSound B s
+next_toward : (B : List GridSegment) (s : GridSegment) (g : RationalPoint) (k : Side) → IsSound B s
     → 0 < g.w
     → ((leftward s g ≡ rightward s g → ⊥) × ((n : ℕ) → side_at s (as_place (mean n (middle s) 1 g)) ≡ k))
     → IsNextTo B s k (mean (bound g B) (middle s) 1 g)
@@ -184,14 +188,11 @@ next_toward B s g k sound w h =
     clear_of t c = elim (cases_Bool (is_segment s t)) [
       | inl e ↦ subst (λ (u : GridSegment). IsClearOf u (middle s) (mean (bound g B) (middle s) 1 g)) (is_segment-same s t e)
           (λ m n i pl. away m n i (place_balanced s _ pl))
-      | inr e ↦ clear_near t (middle s) g (bound g B) (first t c) (omega arith)
-          (All-contains (λ u. IsBeyond u g (bound g B)) B t (All-from_recursion (λ u. IsBeyond u g (bound g B)) B (all_beyond g B)) c)
+      | inr e ↦ clear_near t (middle s) g (bound g B) (ordered_in B t sound.ordered c) (omega arith)
+          (beyond_in g B t c)
           (strict_alone (s ∷ B) s t (middle s) sound.realm (Contains-here s B) (Contains-later s B t c)
           (λ k. true≢false (sym (is_segment-itself s) ∙ ap (is_segment s) k ∙ e)) (middle_strict s sound.first))
     ]
-      where
-        first : (t : GridSegment) → Contains B t → IsBefore t.a t.b
-        first t c = All-contains (λ u. IsBefore u.a u.b) B t (All-from_recursion (λ u. IsBefore u.a u.b) B sound.ordered) c
 
 -- towards g the place is on g's side
 left_of : (s : GridSegment) (g : RationalPoint) → IsBefore s.a s.b → rightward s g < leftward s g

@@ -95,7 +95,7 @@ level n s q k l e f h =
     let f3 = ap (λ (j : ℕ). j * n) f in
     omega arith
 
-pub place_back : (n : ℕ) (s : GridSegment) (q : RationalPoint) → IsPlace (moved n s) q
+place_back : (n : ℕ) (s : GridSegment) (q : RationalPoint) → IsPlace (moved n s) q
     → (r : RationalPoint) × IsMovedBack n s q r
 place_back n s q h =
     let k = less (n * q.w) q.x (lowest n s.a.x s.b.x q.w q.x h.across) in

@@ -41,7 +41,7 @@ turned false true false true sq sp sa sb h1 h2 h3 h4 c1 c2 c3 c4 = refl
 turned false true false false sq sp sa sb h1 h2 h3 h4 c1 c2 c3 c4 = cc (h4 refl)
 
 -- ---- one segment and one way
-pub lt_is : (m n : ℕ) → ltb m n ≡ not (leb n m)
+lt_is : (m n : ℕ) → ltb m n ≡ not (leb n m)
 lt_is m n = elim (cases_lt m n) [ inl h ↦ lt-ltb m n h ∙ ap not (sym (lt-leb n m h)) | inr h ↦ le-ltb m n h ∙ ap not (sym (le-leb n m h)) ]
 
 not_true : (m n : ℕ) → not (leb n m) ≡ true → m < n
@@ -50,7 +50,7 @@ not_true m n e = ltb-true m n (lt_is m n ∙ e)
 not_false : (m n : ℕ) → not (leb n m) ≡ false → n ≤ m
 not_false m n e = ltb-false m n (lt_is m n ∙ e)
 
-pub not_from_lt : (m n : ℕ) → m < n → not (leb n m) ≡ true
+not_from_lt : (m n : ℕ) → m < n → not (leb n m) ≡ true
 not_from_lt m n h = sym (lt_is m n) ∙ lt-ltb m n h
 
 and_grouped : (a b c : Bool) → ((a && b) && c) ≡ (a && (b && c))
@@ -63,7 +63,7 @@ pub over_is : (t : GridSegment) (q : RationalPoint)
 over_is t q = rw (lt_is q.x (t.b.x * q.w), right_is t q) (and_grouped (leb (t.a.x * q.w) q.x) _ _)
 
 -- a column that is not before q is not before p
-pub later : (c : ℕ) (q p : RationalPoint) → 0 < q.w → q.x * p.w ≤ p.x * q.w → c * q.w ≤ q.x → c * p.w ≤ p.x
+later : (c : ℕ) (q p : RationalPoint) → 0 < q.w → q.x * p.w ≤ p.x * q.w → c * q.w ≤ q.x → c * p.w ≤ p.x
 later c q p wq h k =
     let no : p.x < c * p.w → ⊥ = λ l.
     (let p1 = times p.x (c * p.w) 0 q.w l wq in
@@ -71,7 +71,7 @@ later c q p wq h k =
     omega arith) in
     omega (arith, no)
 
-pub ends_too : (a b w x : ℕ) → a ≤ b → b * w ≤ x → a * w ≤ x
+ends_too : (a b w x : ℕ) → a ≤ b → b * w ≤ x → a * w ≤ x
 ends_too a b w x h k = let p1 = times_le a b 0 w h (omega arith) in omega arith
 
 -- a segment that has no place on the way is over the one end and not the other where one of its ends, and not the other, is above the way

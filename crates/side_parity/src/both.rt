@@ -1,6 +1,6 @@
 //! Both sides at once. The segments of the border above the middle of a segment are counted, and the segment
-//! itself: on the side below it, or left of it where it is vertical, it is above too, so there its own number in
-//! the border counts as well.
+//! itself: on the side below it, or left of it where it is vertical, it is above too, so there its own number
+//! in the border counts as well.
 ghost use Rattle.std.specs.Prelude.{◌≡◌, ◌↔◌, ◌<◌, ◌*◌, ◌^◌, ◌∷◌, ◌&&◌, IsTrue};
 ghost use Rattle.grid_base.specs.Point.{IsBefore};
 ghost use Rattle.grid_base.specs.Border.{AreNoded, IsEvenBorder};
@@ -10,8 +10,8 @@ ghost use Rattle.side_parity.specs.Middle.{middle, differ};
 
 use grid_base::{Segment, Sides};
 
-/// Whether the places just left and just right of `s` are odd for the border, seen from the lesser end of `s`. Each
-/// is the same along all of `s`, which needn't be in the border. One call goes once over the border.
+/// Whether the places just left and just right of `s` are odd for the border, seen from the lesser end of `s`.
+/// Each is the same along all of `s`, which needn't be in the border. One call goes once over the border.
 pub fn sides(border: &[Segment], s: &Segment) -> Sides
     requires noded { AreNoded (s.now ∷ border.now) }
     requires even { IsEvenBorder border.now }
