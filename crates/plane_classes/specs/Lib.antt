@@ -1,0 +1,2 @@
+-- cells, and the classes that they make
+pub mod Classes

@@ -1,0 +1,7 @@
+//! Classes of the plane: the parts into which segments cut it, as laws over lists of segments.
+//! Begin at `straight_ways_stay`. Each call is a law: it answers nothing, and takes no memory.
+#![tactic(auto)]
+
+mod laws;
+
+pub use laws::{class_is_equivalence, classes_have_one_parity, straight_ways_stay};
