@@ -8,7 +8,7 @@ use borrow.Author.Differences.{up, down}
 use Rattle.grid_base.specs.Segment.{GridSegment}
 use Rattle.grid_base.proofs.Signs.{order}
 use Rattle.grid_base.specs.Plane.{Place, blend, IsFreeWay}
-use Rattle.plane_classes.specs.Classes.{IsWall, IsWallBetween, AreInOneClass}
+use Rattle.plane_classes.specs.Classes.{IsWall, IsWallBetween, Joins, AreInOneClass, WaysLead}
 use Rattle.plane_classes.proofs.ClassLemmas.{one_class_joined, one_class_by_touch, one_class_back}
 use Rattle.plane_classes.proofs.Ways.{way_back, way_first, way_last}
 
@@ -165,3 +165,14 @@ wall_listed B e w = elim w.2 [
 -- the ends of a straight way that meets no segment are in one class
 pub one_class_by_way : (B : List GridSegment) (p q : Place) → IsFreeWay B p q → AreInOneClass B p q
 one_class_by_way B p q way = led B (walls_of B) p q way (λ e w b. wall_listed B e w)
+
+-- ---- ways and cells
+-- free ways that lead over places stay in one class
+pub ways_lead : (B : List GridSegment) (p : Place) (over : List Place) (q : Place) → WaysLead B p over q → AreInOneClass B p q
+ways_lead B p [] q way = one_class_by_way B p q way
+ways_lead B p (r ∷ over) q (first, rest) = one_class_joined B p r q (one_class_by_way B p r first) (ways_lead B r over q rest)
+
+-- and cells that are joined lead by free ways
+pub class_leads : (B : List GridSegment) (p : Place) (between : List Place) (q : Place) → Joins B p between q → WaysLead B p between q
+class_leads B p [] q touch = touch.no_segment_between
+class_leads B p (r ∷ between) q (touch, rest) = (touch.no_segment_between, class_leads B r between q rest)

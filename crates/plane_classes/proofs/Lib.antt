@@ -18,3 +18,9 @@ pub mod OverTests
 pub mod OneParity
 -- counts and parities
 pub mod Counts
+-- fewer segments, larger classes
+pub mod FewerSegments
+-- the shear that makes the order of points the order of columns
+pub mod Shears
+-- back from the sheared plane
+pub mod Unsheared

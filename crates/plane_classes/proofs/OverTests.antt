@@ -108,8 +108,7 @@ among_from : (y : ℤ) (m n : ℕ) → y ≡ pos m → IsAmong (pos m) (pos n) y
 among_from y m n d = elim (order (pos m) (pos n)) [
   | inl h ↦ inl (omega (arith, ints), omega (arith, ints))
   | inr h ↦ inr (
-    omega
-        (arith, ints),
+    omega (arith, ints),
     omega (arith, ints),
   )
 ]
@@ -118,8 +117,7 @@ among_to : (y : ℤ) (m n : ℕ) → y ≡ pos n → IsAmong (pos m) (pos n) y
 among_to y m n d = elim (order (pos m) (pos n)) [
   | inl h ↦ inl (omega (arith, ints), omega (arith, ints))
   | inr h ↦ inr (
-    omega
-        (arith, ints),
+    omega (arith, ints),
     omega (arith, ints),
   )
 ]
@@ -137,8 +135,8 @@ not_at_a B q s f m o c d =
       line = on_line _ (at_a s q c d);
       across = record {
         from = omega (arith, ints);
-        to = omega
-            (arith, ints);
+        to =
+            omega (arith, ints);
       };
       up = among_from q.y (s.a.y * q.w) (s.b.y * q.w) d;
     })
@@ -152,8 +150,8 @@ not_at_b B q s f m o c d =
       line = on_line _ (at_b s q c d);
       across = record {
         from = omega (arith, ints);
-        to = omega
-            (arith, ints);
+        to =
+            omega (arith, ints);
       };
       up = among_to q.y (s.a.y * q.w) (s.b.y * q.w) d;
     })
@@ -167,8 +165,8 @@ not_between B q s f m e c h k =
       real = f.real;
       line = on_line _ (at_vertical s q e c);
       across = record {
-        from = omega
-            (arith, ints);
+        from =
+            omega (arith, ints);
         to = omega (arith, ints);
       };
       up = inl (h, k);

@@ -27,3 +27,8 @@ Joins list p (r ∷ between) q = TouchOneCell list p r × Joins list r between q
 -- p and q are in one class: joined cells lead from p to q
 abbrev pub AreInOneClass : List GridSegment → Place → Place → Type 0
 AreInOneClass list p q = (between : List Place) × Joins list p between q
+
+-- straight ways that meet no segment lead from p over the places of the list to q
+abbrev pub WaysLead : List GridSegment → Place → List Place → Place → Type 0
+WaysLead list p [] q = IsFreeWay list p q
+WaysLead list p (r ∷ over) q = IsFreeWay list p r × WaysLead list r over q

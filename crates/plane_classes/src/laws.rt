@@ -1,11 +1,13 @@
 //! Laws of classes. A class is made of cells that are joined over walls. By these laws walls don't matter:
 //! straight ways alone decide what is in one class.
-ghost use Rattle.std.specs.Prelude.{◌↔◌, All};
+ghost use Rattle.std.specs.Prelude.{◌↔◌, ◌<◌, ◌^◌, List, All, Contains, map};
 ghost use Rattle.grid_base.specs.Point.{IsBefore};
+ghost use Rattle.grid_base.specs.Segment.{GridSegment};
 ghost use Rattle.grid_base.specs.Plane.{Place, IsFree, IsFreeWay};
 ghost use Rattle.grid_base.specs.Border.{IsEvenBorder};
 ghost use Rattle.grid_base.specs.Odd.{Odd};
-ghost use Rattle.plane_classes.specs.Classes.{AreInOneClass};
+ghost use Rattle.plane_classes.specs.Classes.{AreInOneClass, WaysLead};
+ghost use Rattle.plane_classes.specs.Shear.{sheared, sheared_place};
 
 use grid_base::Segment;
 
@@ -13,6 +15,28 @@ use grid_base::Segment;
 pub fn straight_ways_stay(list: &[Segment])
     ensures { (p q : Place) → IsFreeWay list.now p q → AreInOneClass list.now p q }
 {}
+
+/// Two places are in one class exactly where straight ways that meet no segment lead from one to the other.
+pub fn straight_ways_decide(list: &[Segment])
+    ensures { (p q : Place) → AreInOneClass list.now p q
+        ↔ ((over : List Place) × WaysLead list.now p over q) }
+{}
+
+/// Places that are in one class are so for fewer segments too.
+pub fn fewer_segments_part_less(list: &[Segment], fewer: &[Segment])
+    requires { (s : GridSegment) → Contains fewer.now s → Contains list.now s }
+    ensures { (p q : Place) → AreInOneClass list.now p q → AreInOneClass fewer.now p q }
+{}
+
+/// The shear that sets columns 2^28 apart takes classes to classes: two free places are in one class exactly
+/// where their images are in one class of the sheared segments.
+pub fn shear_keeps_classes(list: &[Segment])
+    ensures { (p q : Place) → IsFree list.now p → IsFree list.now q → AreInOneClass list.now p q
+        ↔ AreInOneClass (map (sheared (2 ^ 28)) list.now)
+        (sheared_place (2 ^ 28) p) (sheared_place (2 ^ 28) q) }
+{
+    each_is_in_range(list);
+}
 
 /// To be in one class is the same for both places, and goes on from place to place; each free place is in
 /// one class with itself.
@@ -28,14 +52,16 @@ pub fn classes_have_one_parity(border: &[Segment])
     requires even { IsEvenBorder border.now }
     ensures { (p q : Place) → AreInOneClass border.now p q → Odd border.now p ↔ Odd border.now q }
 {
-    each_is_ordered(border);
+    each_is_in_range(border);
 }
 
-// Each segment has its lesser end first, as its type says.
-fn each_is_ordered(list: &[Segment])
-    ensures { All (λ s. IsBefore s.a s.b) list.now }
+// Each segment has its lesser end first, and that is on the grid, as the types say.
+fn each_is_in_range(list: &[Segment])
+    ensures ordered { All (λ s. IsBefore s.a s.b) list.now }
+    ensures low { All (λ s. s.a.y < 2 ^ 28) list.now }
 {
     for s in list {
-        let _lesser = s.a();
+        let lesser = s.a();
+        let _row = lesser.y();
     }
 }

@@ -4,4 +4,7 @@
 
 mod laws;
 
-pub use laws::{class_is_equivalence, classes_have_one_parity, straight_ways_stay};
+pub use laws::{
+    class_is_equivalence, classes_have_one_parity, fewer_segments_part_less, shear_keeps_classes,
+    straight_ways_decide, straight_ways_stay,
+};
