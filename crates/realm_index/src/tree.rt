@@ -205,6 +205,7 @@ fn find_among<L: Ledger>(
     ensures steps { MatchResult result
         (λ _. steps.new ≡ steps.old + length own.now) (λ _. steps.new ≤ steps.old + length own.now) }
 {
+    let near = *near;
     for entry in own {
         steps.tick();
         if near.meets(&entry.bounds) {
