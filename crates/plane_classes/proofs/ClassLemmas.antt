@@ -7,7 +7,7 @@ use Rattle.plane_classes.proofs.Ways.{way_back}
 use Rattle.plane_classes.proofs.Multiples.{way_to_itself}
 use Rattle.plane_classes.specs.Classes.{IsWallBetween, TouchOneCell, Joins, AreInOneClass}
 
-turned : (e : ℕ) (p q : Place) → IsWallBetween e q p → IsWallBetween e p q
+pub turned : (e : ℕ) (p q : Place) → IsWallBetween e q p → IsWallBetween e p q
 turned e p q (inl h) = inr h
 turned e p q (inr h) = inl h
 

@@ -34,6 +34,9 @@ at_cut p q e h k =
         let g = ap (λ (t : ℕ). a * t) d2 in
         omega (arith, ints)
 
+pub some_before : (q : Place) (e : ℕ) → pos (e * q.w) <ℤ q.x → 0 < before q e
+some_before q e h = omega (arith, ints)
+
 some_after : (p q : Place) (e : ℕ) → p.x <ℤ pos (e * p.w) → 0 < before q e + after p e
 some_after p q e h = omega (arith, ints)
 

@@ -24,3 +24,21 @@ pub mod FewerSegments
 pub mod Shears
 -- back from the sheared plane
 pub mod Unsheared
+-- ways to a place inside a segment, past all others
+pub mod PastOthers
+-- how a segment itself counts beside it
+pub mod OwnSegment
+-- how many segments are above a place inside a segment, and beside it
+pub mod AtSegment
+-- all places beside a segment, on one side
+pub mod BesideSegment
+-- all places inside a segment
+pub mod AlongSegment
+-- the two sides of a segment
+pub mod TwoSides
+-- the border between two classes is one cycle
+pub mod OneCycle
+-- places of the segments of a realm
+pub mod RealmPlaces
+-- the sides of a segment, in the words of the definitions
+pub mod SideLaws

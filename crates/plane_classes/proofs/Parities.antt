@@ -41,6 +41,10 @@ pub and_none : (a : Bool) → (a && false) ≡ false
 and_none true = refl
 and_none false = refl
 
+pub xor_right_none : (a : Bool) → xor a false ≡ a
+xor_right_none true = refl
+xor_right_none false = refl
+
 -- (a + b) + (c + d) = (a + c) + (b + d)
 pub xor_middle : (a b c d : Bool) → xor (xor a b) (xor c d) ≡ xor (xor a c) (xor b d)
 xor_middle true true true true = refl

@@ -1,7 +1,8 @@
 -- Classes: the parts into which segments cut the plane.
 use Rattle.std.specs.Prelude.{◌≡◌, ◌⊎◌, ℕ, ◌*◌, List, [], ◌∷◌, Contains, pos, ◌<ℤ◌}
 use Rattle.grid_base.specs.Segment.{GridSegment}
-use Rattle.grid_base.specs.Plane.{Place, IsFreeWay}
+use Rattle.grid_base.specs.Sides.{Left, Right}
+use Rattle.grid_base.specs.Plane.{Place, IsFreeWay, IsBeside}
 
 -- a wall stands at e: it is the column of an end
 abbrev pub IsWall : List GridSegment → ℕ → Type 0
@@ -32,3 +33,8 @@ AreInOneClass list p q = (between : List Place) × Joins list p between q
 abbrev pub WaysLead : List GridSegment → Place → List Place → Place → Type 0
 WaysLead list p [] q = IsFreeWay list p q
 WaysLead list p (r ∷ over) q = IsFreeWay list p r × WaysLead list r over q
+
+-- p and q lie beside s, on its two sides
+pub data AreAcross (list : List GridSegment) (s : GridSegment) (p q : Place) : Type 0 where
+  FromLeft : IsBeside list s Left p → IsBeside list s Right q → AreAcross list s p q
+  FromRight : IsBeside list s Right p → IsBeside list s Left q → AreAcross list s p q

@@ -1,12 +1,13 @@
 //! Laws of classes. A class is made of cells that are joined over walls. By these laws walls don't matter:
 //! straight ways alone decide what is in one class.
-ghost use Rattle.std.specs.Prelude.{◌↔◌, ◌<◌, ◌^◌, List, All, Contains, map};
+ghost use Rattle.std.specs.Prelude.{◌≢◌, ◌↔◌, ◌<◌, ◌^◌, ◌∷◌, List, All, AllPairs, Contains, map};
 ghost use Rattle.grid_base.specs.Point.{IsBefore};
-ghost use Rattle.grid_base.specs.Segment.{GridSegment};
-ghost use Rattle.grid_base.specs.Plane.{Place, IsFree, IsFreeWay};
-ghost use Rattle.grid_base.specs.Border.{IsEvenBorder};
+ghost use Rattle.grid_base.specs.Segment.{GridSegment, IsSegmentBefore};
+ghost use Rattle.grid_base.specs.Sides.{Side, Left, On, Right};
+ghost use Rattle.grid_base.specs.Plane.{Place, IsFree, IsFreeWay, IsBeside};
+ghost use Rattle.grid_base.specs.Border.{AreNoded, IsEvenBorder};
 ghost use Rattle.grid_base.specs.Odd.{Odd};
-ghost use Rattle.plane_classes.specs.Classes.{AreInOneClass, WaysLead};
+ghost use Rattle.plane_classes.specs.Classes.{AreInOneClass, WaysLead, AreAcross};
 ghost use Rattle.plane_classes.specs.Shear.{sheared, sheared_place};
 
 use grid_base::Segment;
@@ -53,6 +54,47 @@ pub fn classes_have_one_parity(border: &[Segment])
     ensures { (p q : Place) → AreInOneClass border.now p q → Odd border.now p ↔ Odd border.now q }
 {
     each_is_in_range(border);
+}
+
+/// The places beside a segment on one side, with no segment of the border between, are all odd or all even.
+pub fn sides_have_one_parity(border: &[Segment], s: &Segment)
+    requires noded { AreNoded (s.now ∷ border.now) }
+    requires even { IsEvenBorder border.now }
+    ensures { (d : Side) (p q : Place) → d ≢ On → IsBeside border.now s.now d p
+        → IsBeside border.now s.now d q → Odd border.now p ↔ Odd border.now q }
+{
+    each_is_in_range(border);
+    let _lesser = s.a();
+}
+
+/// Of the two sides of a segment of a border exactly one is odd.
+pub fn one_side_is_odd(border: &[Segment], s: &Segment)
+    requires noded { AreNoded border.now }
+    requires even { IsEvenBorder border.now }
+    requires ascending { AllPairs IsSegmentBefore border.now }
+    requires there { Contains border.now s.now }
+    ensures { (p q : Place) → IsBeside border.now s.now Left p → IsBeside border.now s.now Right q
+        → Odd border.now p ↔ (Odd border.now q → ⊥) }
+{
+    each_is_in_range(border);
+    let _lesser = s.a();
+}
+
+/// The border between two classes can't be cut in two even parts: where `s` and `t` both have one class on
+/// one side and another on the other, an even part that has `t` has `s`.
+pub fn even_parts_are_whole(list: &[Segment], part: &[Segment], s: &Segment, t: &Segment)
+    requires noded { AreNoded list.now }
+    requires part { (u : GridSegment) → Contains part.now u → Contains list.now u }
+    requires even { IsEvenBorder part.now }
+    requires ascending { AllPairs IsSegmentBefore part.now }
+    requires there { Contains list.now s.now × Contains list.now t.now }
+    ensures { (p q v w : Place) → AreAcross list.now s.now p q → AreAcross list.now t.now v w
+        → AreInOneClass list.now p v → AreInOneClass list.now q w → Contains part.now t.now
+        → Contains part.now s.now }
+{
+    each_is_in_range(part);
+    let _lesser_of_s = s.a();
+    let _lesser_of_t = t.a();
 }
 
 // Each segment has its lesser end first, and that is on the grid, as the types say.

@@ -5,6 +5,7 @@
 mod laws;
 
 pub use laws::{
-    class_is_equivalence, classes_have_one_parity, fewer_segments_part_less, shear_keeps_classes,
-    straight_ways_decide, straight_ways_stay,
+    class_is_equivalence, classes_have_one_parity, even_parts_are_whole, fewer_segments_part_less,
+    one_side_is_odd, shear_keeps_classes, sides_have_one_parity, straight_ways_decide,
+    straight_ways_stay,
 };
