@@ -35,7 +35,8 @@ less_blend n (suc i) j v w y z h k l =
     let u = times_le 0 j (n * w + down z) (up z) (omega arith) (omega (arith, ints)) in
     omega (arith, ints)
 
-blend_less : (n i j v w : ℕ) (y z : ℤ) → 0 < i + j → y <ℤ pos (n * v) → z <ℤ pos (n * w) → (weighed i j y z) <ℤ pos (n * (i * v + j * w))
+pub blend_less : (n i j v w : ℕ) (y z : ℤ) → 0 < i + j → y <ℤ pos (n * v) → z <ℤ pos (n * w)
+    → (weighed i j y z) <ℤ pos (n * (i * v + j * w))
 blend_less n zero j v w y z h k l = let t = times 0 j (up z) (n * w + down z) (omega arith) (omega (arith, ints)) in omega (arith, ints)
 blend_less n (suc i) j v w y z h k l =
     let t = times 0 (suc i) (up y) (n * v + down y) (omega arith) (omega (arith, ints)) in
@@ -65,7 +66,7 @@ upright_low s m e o h = elim (three m.y (pos (s.a.y * m.w))) [
     no_two : (a b : ℤ) → a <ℤ b → b ≤ℤ a → ⊥
     no_two a b h k = omega (arith, ints)
 
-some_weight : (i j v w : ℕ) → 0 < i + j → 0 < v → 0 < w → 0 < i * v + j * w
+pub some_weight : (i j v w : ℕ) → 0 < i + j → 0 < v → 0 < w → 0 < i * v + j * w
 some_weight zero j v w some first second = let t = times 0 j 0 w (omega arith) second in omega arith
 some_weight (suc i) j v w some first second = let t = times 0 (suc i) 0 v (omega arith) first in omega arith
 

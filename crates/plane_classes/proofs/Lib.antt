@@ -42,3 +42,9 @@ pub mod OneCycle
 pub mod RealmPlaces
 -- the sides of a segment, in the words of the definitions
 pub mod SideLaws
+-- ends that lie on different sides of a place in the plane and in the sheared one
+pub mod Wedges
+-- odd places in the sheared plane
+pub mod ShearedParity
+-- the outer class
+pub mod Outer

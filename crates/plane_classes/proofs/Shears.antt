@@ -4,7 +4,7 @@ use Rattle.std.proofs.Common.{negsuc, ◌-ℤ◌, ◌+ℤ◌, ◌*ℤ◌, ◌<�
 use Rattle.std.specs.Prelude.{Contains}
 use Rattle.std.proofs.lemmas.Int.{ints}
 use borrow.Author.Differences.{up, down}
-use Rattle.grid_base.specs.Point.{IsBefore}
+use Rattle.grid_base.specs.Point.{GridPoint, IsBefore}
 use Rattle.grid_base.specs.Segment.{GridSegment}
 use Rattle.grid_base.proofs.Turns.{times, times_le}
 use Rattle.grid_base.proofs.Signs.{order}
@@ -15,8 +15,13 @@ use Rattle.plane_classes.proofs.Blends.{weighed, coord}
 use Rattle.plane_classes.proofs.Ways.{AreInOrder, zero_by, on_by_zero}
 use Rattle.plane_classes.proofs.ClassLemmas.{one_class_joined}
 use Rattle.plane_classes.proofs.Cuts.{one_class_by_way}
-use Rattle.plane_classes.specs.Shear.{sheared, sheared_place}
+use Rattle.plane_classes.specs.Shear.{sheared_point, sheared, sheared_place}
 use Rattle.grid_base.proofs.Elements.{Contains-here, Contains-later, Contains-cases}
+
+-- the order of points is the order of columns
+pub columns_in_order : (n : ℕ) (p q : GridPoint) → p.y < n → IsBefore p q → (sheared_point n p).x < (sheared_point n q).x
+columns_in_order n p q h (inl k) = let t = times_le (suc p.x) q.x 0 n (omega arith) (omega arith) in omega arith
+columns_in_order n p q h (inr k) = let t = ap (λ (x : ℕ). n * x) k.0 in omega (arith, k.1)
 
 abbrev pub at : ℤ → ℤ → ℕ → Place
 at x y w = record { x = x; y = y; w = w }

@@ -1,5 +1,5 @@
 -- Classes: the parts into which segments cut the plane.
-use Rattle.std.specs.Prelude.{◌≡◌, ◌⊎◌, ℕ, ◌*◌, List, [], ◌∷◌, Contains, pos, ◌<ℤ◌}
+use Rattle.std.specs.Prelude.{◌≡◌, ◌⊎◌, ℕ, ◌*◌, ◌<◌, List, [], ◌∷◌, Contains, pos, ◌<ℤ◌}
 use Rattle.grid_base.specs.Segment.{GridSegment}
 use Rattle.grid_base.specs.Sides.{Left, Right}
 use Rattle.grid_base.specs.Plane.{Place, IsFreeWay, IsBeside}
@@ -38,3 +38,12 @@ WaysLead list p (r ∷ over) q = IsFreeWay list p r × WaysLead list r over q
 pub data AreAcross (list : List GridSegment) (s : GridSegment) (p q : Place) : Type 0 where
   FromLeft : IsBeside list s Left p → IsBeside list s Right q → AreAcross list s p q
   FromRight : IsBeside list s Right p → IsBeside list s Left q → AreAcross list s p q
+
+-- p lies left of each segment
+pub record IsLeftOfAll (list : List GridSegment) (p : Place) : Type 0 where
+  pub real : 0 < p.w
+  pub left : (s : GridSegment) → Contains list s → p.x <ℤ pos (s.a.x * p.w)
+
+-- q is in the outer class: that of the places left of all segments
+abbrev pub IsOuter : List GridSegment → Place → Type 0
+IsOuter list q = (p : Place) × IsLeftOfAll list p × AreInOneClass list p q

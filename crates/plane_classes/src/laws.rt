@@ -8,6 +8,7 @@ ghost use Rattle.grid_base.specs.Plane.{Place, IsFree, IsFreeWay, IsBeside};
 ghost use Rattle.grid_base.specs.Border.{AreNoded, IsEvenBorder};
 ghost use Rattle.grid_base.specs.Odd.{Odd};
 ghost use Rattle.plane_classes.specs.Classes.{AreInOneClass, WaysLead, AreAcross};
+ghost use Rattle.plane_classes.specs.Classes.{IsLeftOfAll, IsOuter};
 ghost use Rattle.plane_classes.specs.Shear.{sheared, sheared_place};
 
 use grid_base::Segment;
@@ -95,6 +96,30 @@ pub fn even_parts_are_whole(list: &[Segment], part: &[Segment], s: &Segment, t: 
     each_is_in_range(part);
     let _lesser_of_s = s.a();
     let _lesser_of_t = t.a();
+}
+
+/// The shear keeps which free places are odd for an even border.
+pub fn shear_keeps_parity(border: &[Segment])
+    requires even { IsEvenBorder border.now }
+    ensures { (q : Place) → IsFree border.now q → Odd border.now q
+        ↔ Odd (map (sheared (2 ^ 28)) border.now) (sheared_place (2 ^ 28) q) }
+{
+    each_is_in_range(border);
+}
+
+/// Some place lies left of all segments; what is in one class with such a place is the one outer class.
+pub fn outer_class_is_one(list: &[Segment])
+    ensures some { (p : Place) × IsLeftOfAll list.now p }
+    ensures one { (p q : Place) → IsOuter list.now p → IsOuter list.now q → AreInOneClass list.now p q }
+    ensures on { (p q : Place) → IsOuter list.now p → AreInOneClass list.now p q → IsOuter list.now q }
+{}
+
+/// No place of the outer class of an even border is odd.
+pub fn outer_class_is_even(border: &[Segment])
+    requires even { IsEvenBorder border.now }
+    ensures { (p : Place) → IsOuter border.now p → Odd border.now p → ⊥ }
+{
+    each_is_in_range(border);
 }
 
 // Each segment has its lesser end first, and that is on the grid, as the types say.

@@ -6,6 +6,6 @@ mod laws;
 
 pub use laws::{
     class_is_equivalence, classes_have_one_parity, even_parts_are_whole, fewer_segments_part_less,
-    one_side_is_odd, shear_keeps_classes, sides_have_one_parity, straight_ways_decide,
-    straight_ways_stay,
+    one_side_is_odd, outer_class_is_even, outer_class_is_one, shear_keeps_classes,
+    shear_keeps_parity, sides_have_one_parity, straight_ways_decide, straight_ways_stay,
 };
