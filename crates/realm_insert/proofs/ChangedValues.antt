@@ -1,7 +1,7 @@
 -- This file shows that all values are made of what is drawn once a change is made.
-use Rattle.std.proofs.Common.{◌≡◌, ◌≢◌, ◌⊎◌, ◌↔◌, ℕ, zero, suc, ◌+◌, ◌<◌, ◌≤◌, ◌%◌, Bool, true, false, cond, nat_eq, ◌&&◌, ◌||◌}
-use Rattle.std.proofs.Common.{List, [], ◌∷◌, ◌++◌, length, get_or, map, All, Any, Contains, count_by}
-use Rattle.std.proofs.Common.{inl, inr, refl, sym, ap, subst, ◌∙◌, arith}
+use Rattle.std.proofs.Common.{◌≡◌, ℕ, ◌+◌, ◌<◌, Bool, true, false, cond}
+use Rattle.std.proofs.Common.{List, [], ◌∷◌, get_or, All, Contains, count_by}
+use Rattle.std.proofs.Common.{inr, refl, sym, ap, subst, arith}
 use Rattle.std.specs.Map.{values_of}
 use Rattle.std.proofs.lemmas.Bool.Decides.{nat_tests}
 use Rattle.std.proofs.lemmas.List.Elements.{All-nil, All-cons, All-head, All-tail}
@@ -9,15 +9,14 @@ use Rattle.std.proofs.lemmas.List.Sums.{sum_by-cons}
 use Rattle.grid_base.specs.Point.{GridPoint, is_point}
 use Rattle.grid_base.specs.Segment.{GridSegment}
 use Rattle.grid_base.specs.Drawing.{Drawing}
-use Rattle.grid_base.specs.declared.original.Original.{Original}
 use Rattle.line_grammar.specs.declared.command.Change.{Change}
 use Rattle.line_grammar.specs.declared.command.Change.TheVariants.{Point, Unpoint, Segment, Points}
 use Rattle.line_grammar.specs.declared.command.Change.TheVariants.{Lines, Regions, Let, Drop, Delete}
 use Rattle.realm_drawing.specs.Changed.{without_id}
-use Rattle.value_table.specs.Table.{NamedValues, users_of, users_of_point}
-use Rattle.value_table.specs.Value.{ids_among, points_among, names_id, names_point}
+use Rattle.value_table.specs.Table.{NamedValues}
+use Rattle.value_table.specs.Value.{points_among, names_id, names_point}
 use Rattle.value_table.specs.declared.value.Value.{Value}
-use Rattle.realm_insert.specs.Changes.{IsChangedTo, placed_all, marked_by}
+use Rattle.realm_insert.specs.Changes.{IsChangedTo, placed_all}
 use Rattle.realm_insert.specs.Lines.{grid_point, drawn_by}
 use Rattle.realm_insert.specs.Refusals.{TakesWhatIsUsed}
 use Rattle.realm_insert.specs.Values.{AreValuesOf}

@@ -1,5 +1,5 @@
 -- This file shows that an accepted change draws between two places of the grid each time.
-use Rattle.std.proofs.Common.{◌≡◌, ◌⊎◌, ℕ, ◌<◌, List, [], ◌∷◌, ◌++◌, length, All, Any, inl, inr, refl, sym, get_or}
+use Rattle.std.proofs.Common.{◌≡◌, ◌⊎◌, List, [], ◌∷◌, ◌++◌, All, Any, inl, inr, get_or}
 use Rattle.std.specs.List.{flat_map}
 use Rattle.std.proofs.lemmas.List.{get_or_default}
 use Rattle.line_grammar.specs.declared.command.At.{At}

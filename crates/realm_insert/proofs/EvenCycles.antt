@@ -1,5 +1,5 @@
 -- This file shows that each point is an end of an even number of the segments round cycles.
-use Rattle.std.proofs.Common.{◌≡◌, ◌≢◌, ℕ, ◌+◌, ◌*◌, ◌%◌, Bool, true, false, cond, ◌||◌, List, [], ◌∷◌, ◌++◌, length, get_or, map, All}
+use Rattle.std.proofs.Common.{◌≡◌, ◌≢◌, ℕ, ◌+◌, ◌*◌, ◌%◌, Bool, true, false, cond, ◌||◌, List, [], ◌∷◌, ◌++◌, map, All}
 use Rattle.std.proofs.Common.{count_by, if◌then◌else◌, refl, sym, ap, ap₂, ◌∙◌, arith}
 use Rattle.std.specs.List.{sum_by, flat_map}
 use Rattle.std.proofs.lemmas.Bool.Decides.{nat_tests}

@@ -1,5 +1,5 @@
 -- This file shows that the first cause is found where parts of the list are looked at one after the other.
-use Rattle.std.proofs.Common.{◌≡◌, ◌⊎◌, ◌↔◌, Bool, false, IsTrue, List, [], ◌∷◌, ◌++◌, Option, Some, None, inl, inr}
+use Rattle.std.proofs.Common.{◌≡◌, ◌↔◌, Bool, false, IsTrue, List, [], ◌∷◌, ◌++◌, Option, Some, None, inl, inr}
 use Rattle.line_grammar.specs.declared.command.Change.{Change}
 use Rattle.realm_insert.specs.State.{State}
 use Rattle.realm_insert.specs.Refusals.{HasNoneOf, IsFirstOf, FindsFirst}

@@ -1,10 +1,10 @@
 -- This file shows that the pieces on a chain are noted, link by link.
-use Rattle.std.proofs.Common.{◌≡◌, ◌⊎◌, ◌↔◌, ℕ, ◌+◌, ◌-◌, ◌<◌, ◌≤◌, List, [], length, get_or, take, Some, Contains, Any}
-use Rattle.std.proofs.Common.{inl, inr, refl, sym, subst}
+use Rattle.std.proofs.Common.{◌≡◌, ◌↔◌, ℕ, ◌+◌, ◌-◌, ◌<◌, ◌≤◌, List, [], length, get_or, take, Some}
+use Rattle.std.proofs.Common.{inl, inr, sym, subst}
 use Rattle.std.specs.Option.{IsNone}
-use Rattle.grid_base.specs.Point.{GridPoint, IsBefore}
+use Rattle.grid_base.specs.Point.{GridPoint}
 use Rattle.grid_base.specs.Segment.{GridSegment, segment_of}
-use Rattle.grid_base.specs.Drawing.{Drawing, HasLink}
+use Rattle.grid_base.specs.Drawing.{HasLink}
 use Rattle.realm_drawing.specs.Ids.{IsChainOf}
 use Rattle.realm_drawing.specs.Keyed.{KeyedDrawing, HasKey, keyed}
 use Rattle.realm_drawing.specs.declared.keyed.KeyedPiece.{KeyedPiece}

@@ -10,13 +10,13 @@ use Rattle.grid_base.specs.Drawing.{Drawing, HasLink, IsPiece, IsPoint, HasViola
 use Rattle.grid_base.specs.declared.original.Original.{Original}
 use Rattle.realm_drawing.specs.Changed.{without_id}
 use Rattle.realm_drawing.specs.Chains.{AllValid, HasValidChain}
-use Rattle.realm_drawing.specs.Keyed.{KeyedDrawing, HasKey, KeepsKeys, AreKeyed, TakesPoint, keyed}
+use Rattle.realm_drawing.specs.Keyed.{KeyedDrawing, KeepsKeys, AreKeyed, TakesPoint, keyed}
 use Rattle.realm_drawing.proofs.Elements.{Any-nil, Any-head, Any-later, Any-cons_cases, Any-weaker}
 use Rattle.realm_drawing.specs.declared.keyed.KeyedPiece.{KeyedPiece}
 use Rattle.realm_index.specs.Index.{Entries}
 use Rattle.value_geometry.specs.Geometry.{IsOnChainOf}
 use Rattle.realm_insert.specs.Indexing.{ListsKeyed, ForgetsGone}
-use Rattle.realm_insert.specs.Kept.{IsIndexed, IsAtRest}
+use Rattle.realm_insert.specs.Kept.{IsAtRest}
 use Rattle.realm_insert.specs.State.{HasIdsBelow}
 use Rattle.realm_insert.proofs.IndexAfter.{has_still, had_key}
 

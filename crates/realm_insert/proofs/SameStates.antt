@@ -1,5 +1,5 @@
 -- This file shows that a change leads to one state by one trace.
-use Rattle.std.proofs.Common.{◌≡◌, ◌⊎◌, ◌↔◌, ℕ, ◌+◌, List, [], ◌∷◌, ◌++◌, length, All, AllPairs, Contains}
+use Rattle.std.proofs.Common.{◌≡◌, ◌↔◌, ℕ, List, [], ◌∷◌, ◌++◌, AllPairs, Contains}
 use Rattle.std.proofs.Common.{inl, inr, refl, sym, ap, ap₂, subst, ◌∙◌, arith}
 use Rattle.std.proofs.lemmas.List.Elements.{All-contains}
 use Rattle.grid_base.specs.Point.{GridPoint, IsBefore}
@@ -20,7 +20,7 @@ use Rattle.realm_drawing.specs.Steps.{Settles}
 use Rattle.realm_insert.specs.Misfits.{Misfits, MisfitsAt}
 use Rattle.realm_insert.specs.Next.{Next}
 use Rattle.realm_insert.specs.Refusals.{HasNoneOf, IsFirstOf, IsRefusedBy, order_of_refusals}
-use Rattle.realm_insert.specs.State.{State, KeptTrace, kept_trace, latest}
+use Rattle.realm_insert.specs.State.{State, KeptTrace}
 use Rattle.realm_insert.specs.declared.refusal.Refusal.{Refusal}
 use Rattle.realm_insert.proofs.FailedTraces.{settles_is_one, settled_fits, one_number}
 

@@ -1,4 +1,4 @@
--- states, and changes of one
+-- states
 pub mod State
 -- what a change asks for, as its line writes it
 pub mod Lines

@@ -6,7 +6,7 @@ use Rattle.grid_base.specs.Segment.{GridSegment, segment_of}
 use Rattle.line_grammar.specs.declared.command.At.{At}
 use Rattle.line_grammar.specs.declared.command.Change.{Change}
 use Rattle.line_grammar.specs.declared.command.Change.TheVariants.{Point, Unpoint, Segment, Points}
-use Rattle.line_grammar.specs.declared.command.Change.TheVariants.{Lines, Regions, Let, Drop, Delete}
+use Rattle.line_grammar.specs.declared.command.Change.TheVariants.{Lines, Regions, Let, Drop}
 use Rattle.realm_insert.specs.declared.asked.Ends.{Ends}
 
 -- a coordinate is 2^28 or more

@@ -11,7 +11,7 @@ use Rattle.realm_insert.specs.State.{State}
 use Rattle.realm_insert.specs.Lines.{grid_point, drawn_between, HasPlaceOffGrid, HasShortList, name_defined, names_used}
 use Rattle.realm_insert.specs.declared.refusal.Refusal.{Refusal}
 use Rattle.realm_insert.specs.declared.refusal.Refusal.TheVariants.{Range, Shape, Degenerate, NameTaken, NoName, Types}
-use Rattle.realm_insert.specs.declared.refusal.Refusal.TheVariants.{NoId, NoPoint, NoTrace, InUse, Ids, Changes, Full}
+use Rattle.realm_insert.specs.declared.refusal.Refusal.TheVariants.{NoId, NoPoint, InUse, Ids, Changes}
 
 -- the name that is to be defined has a value
 abbrev pub DefinesTwice : Change → NamedValues → Type 0

@@ -4,7 +4,6 @@ ghost use Rattle.std.specs.Prelude.{◌≡◌, IfOk};
 use grid_base::{NoMemory, Step};
 use record_codec::Trace;
 use std::alloc::Global;
-use thiserror::Error;
 
 // The trace of the same steps.
 pub(crate) fn trace_of(alloc: Global, steps: &[Step]) -> Result<Trace, NoMemory>
@@ -22,28 +21,4 @@ pub struct Applied {
     pub added: u64,
     /// The steps that settled the drawing.
     pub trace: Trace,
-}
-
-/// Why a change isn't made.
-#[derive(Clone, Copy, Debug, PartialEq, Eq, Error)]
-pub enum AddError {
-    /// No id is left. The engine is unchanged.
-    #[error("no id is left")]
-    Ids,
-    /// As many changes were accepted as there may be. The engine is unchanged.
-    #[error("no change is left")]
-    Changes,
-    /// The engine is spent.
-    #[error("no memory")]
-    NoMemory,
-}
-
-impl From<NoMemory> for AddError {
-    ghost use Rattle.realm_insert.specs.declared.applied.AddError.TheVariants.{NoMemory};
-
-    ghost from_gives = { λ _ e. e ≡ NoMemory };
-
-    fn from(_: NoMemory) -> AddError {
-        AddError::NoMemory
-    }
 }

@@ -2,11 +2,9 @@
 //! beginning of a change to its end, so want of memory leaves it spent.
 ghost use Rattle.std.specs.Prelude.{◌≡◌, ◌≢◌, ◌⊎◌, ◌↔◌, ◌+◌, ◌≤◌, ◌<◌, ◌^◌, ℕ, true, false, List, [], ◌∷◌, ◌++◌};
 ghost use Rattle.std.specs.Prelude.{length, Contains, Err, IfOk, OnOk, MatchResult, MatchOption, IfSome, IsSomeAnd, IsNone};
-ghost use Rattle.grid_base.specs.Drawing.{Drawing as Drawn, HasViolation, IsDrawnRealm};
+ghost use Rattle.grid_base.specs.Drawing.{IsDrawnRealm};
 ghost use Rattle.grid_base.specs.declared.kinds.Step.{Step as Seen};
-ghost use Rattle.realm_drawing.specs.Straight.{placed};
 ghost use Rattle.realm_insert.specs.State.{fresh_state, kept_trace, latest, HasIdsBelow, AreLatest};
-ghost use Rattle.realm_insert.specs.State.{DrawsSegment, HasPointToo, MakesExplicit};
 ghost use Rattle.line_grammar.specs.Spellable.{IsSpellableChange};
 ghost use Rattle.realm_insert.specs.Lines.{IsLet, drawn_between};
 ghost use Rattle.realm_insert.specs.Refusals.{IsAccepted, IsRefusedBy};
@@ -17,15 +15,14 @@ ghost use Rattle.realm_insert.specs.Misfits.{MisfitsAt};
 ghost use Rattle.realm_insert.specs.declared.refusal.Refusal.{Refusal as Word};
 ghost use Rattle.realm_insert.specs.declared.settling.SettleError.TheVariants.{Mismatch};
 
-use crate::applied::{AddError, Applied, trace_of};
+use crate::applied::{Applied, trace_of};
 use crate::asked::ends_drawn;
 use crate::causes::first_cause;
-use crate::changing::{draw_settled, mark_settled};
 use crate::defining::revalue;
 use crate::making::redraw;
 use crate::refusal::{ChangeError, Refusal, ReplayError};
 use crate::settling::SettleError;
-use grid_base::{NoMemory, Point, Segment, Step};
+use grid_base::{NoMemory, Step};
 use line_grammar::Change;
 use realm_drawing::Drawing;
 use realm_index::Index;
@@ -299,95 +296,6 @@ impl Engine {
         Ok(Applied {
             first,
             added,
-            trace,
-        })
-    }
-
-    /// Draws `s` as a new original, and settles the drawing.
-    pub fn add_segment(&mut self, s: Segment) -> Result<Applied, AddError>
-        requires ready { self.old.spent ≡ false }
-        ensures ok { IfOk result (λ applied. DrawsSegment self.old.state s applied.trace self.new.state
-            × (applied.first ≡ self.old.state.next_id) × (applied.added ≡ 1)) }
-        ensures untouched { IfOk result (λ applied.
-            (HasViolation (placed self.old.state.drawing self.old.state.next_id s) → ⊥)
-            → (applied.trace ≡ []) × (self.new.state.drawing ≡ placed self.old.state.drawing self.old.state.next_id s)) }
-        ensures ids { (result ≡ Err AddError.Ids) ↔ (2 ^ 32 ≤ self.old.state.next_id) }
-        ensures changes { (result ≡ Err AddError.Changes)
-            ↔ ((self.old.state.next_id < 2 ^ 32) × (2 ^ 63 ≤ self.old.state.changes)) }
-        ensures refused { (result ≡ Err AddError.Ids) ⊎ (result ≡ Err AddError.Changes) → self.new ≡ self.old }
-        ensures spent { (self.new.spent ≡ true) ↔ (result ≡ Err AddError.NoMemory) }
-    {
-        if self.next_id > u64::from(u32::MAX) {
-            return Err(AddError::Ids);
-        }
-        if self.changes >= MOST_CHANGES {
-            return Err(AddError::Changes);
-        }
-        Ok(self.draw(s)?)
-    }
-
-    /// Makes `p` explicit, and settles the drawing.
-    pub fn add_point(&mut self, p: Point) -> Result<Applied, AddError>
-        requires ready { self.old.spent ≡ false }
-        ensures ok { IfOk result (λ applied. MakesExplicit self.old.state p applied.trace self.new.state
-            × (applied.first ≡ self.old.state.next_id) × (applied.added ≡ 0)) }
-        ensures untouched { IfOk result (λ applied.
-            ((changed : Drawn) → HasPointToo self.old.state.drawing changed p → HasViolation changed → ⊥)
-            → (applied.trace ≡ []) × HasPointToo self.old.state.drawing self.new.state.drawing p) }
-        ensures no_ids { result ≢ Err AddError.Ids }
-        ensures changes { (result ≡ Err AddError.Changes) ↔ (2 ^ 63 ≤ self.old.state.changes) }
-        ensures refused { result ≡ Err AddError.Changes → self.new ≡ self.old }
-        ensures spent { (self.new.spent ≡ true) ↔ (result ≡ Err AddError.NoMemory) }
-    {
-        if self.changes >= MOST_CHANGES {
-            return Err(AddError::Changes);
-        }
-        Ok(self.mark(p)?)
-    }
-
-    // Draws `s`, where an id and a change are left.
-    fn draw(&mut self, s: Segment) -> Result<Applied, NoMemory>
-        requires ready { self.old.spent ≡ false }
-        requires id_left { self.old.state.next_id < 2 ^ 32 }
-        requires change_left { self.old.state.changes < 2 ^ 63 }
-        ensures ok { IfOk result (λ applied. DrawsSegment self.old.state s applied.trace self.new.state
-            × (applied.first ≡ self.old.state.next_id) × (applied.added ≡ 1)) }
-        ensures spent { MatchResult result (λ _. self.new.spent ≡ false) (λ _. self.new.spent ≡ true) }
-    {
-        self.spent = true;
-        let first = self.next_id;
-        let trace = draw_settled(
-            self.alloc,
-            &mut self.drawing,
-            &mut self.index,
-            first as u32,
-            s,
-        )?;
-        count(self.alloc, &mut self.traces, &mut self.changes, &trace)?;
-        self.next_id = first + 1;
-        self.spent = false;
-        Ok(Applied {
-            first,
-            added: 1,
-            trace,
-        })
-    }
-
-    // Makes `p` explicit, where a change is left.
-    fn mark(&mut self, p: Point) -> Result<Applied, NoMemory>
-        requires ready { self.old.spent ≡ false }
-        requires change_left { self.old.state.changes < 2 ^ 63 }
-        ensures ok { IfOk result (λ applied. MakesExplicit self.old.state p applied.trace self.new.state
-            × (applied.first ≡ self.old.state.next_id) × (applied.added ≡ 0)) }
-        ensures spent { MatchResult result (λ _. self.new.spent ≡ false) (λ _. self.new.spent ≡ true) }
-    {
-        self.spent = true;
-        let trace = mark_settled(self.alloc, &mut self.drawing, &mut self.index, p)?;
-        count(self.alloc, &mut self.traces, &mut self.changes, &trace)?;
-        self.spent = false;
-        Ok(Applied {
-            first: self.next_id,
-            added: 0,
             trace,
         })
     }

@@ -7,7 +7,6 @@ mod asked;
 mod causes;
 #[cfg(test)]
 mod change_tests;
-mod changing;
 mod defining;
 mod engine;
 mod indexing;
@@ -22,7 +21,7 @@ mod sharing;
 #[cfg(test)]
 mod tests;
 
-pub use applied::{AddError, Applied};
+pub use applied::Applied;
 pub use asked::is_let;
 pub use engine::{Engine, MOST_CHANGES};
 pub use laws::replay_agrees;

@@ -106,7 +106,7 @@ fn retrace(
 }
 
 // Settles the drawing, and answers the trace.
-pub(crate) fn settle(
+fn settle(
     alloc: Global,
     drawing: &mut Drawing,
     index: &mut Index,

@@ -1,8 +1,10 @@
 //! Worked cases, read off squared paper, and a long run that is compared with itself. A segment is given by
 //! its ends, and an explicit point as a segment from itself to itself.
-use crate::{Applied, Engine, may_be_shared};
+use crate::{Applied, Engine, is_let, may_be_shared};
 use grid_base::{Point, Segment, Step};
+use line_grammar::{At, Change, spellable_change};
 use std::test::Fail;
+use std::thread::Threads;
 
 // A step in numbers: the ends of its first piece and of its second, and its point; 0 for what it lacks.
 type Numbers = [u32; 10];
@@ -27,25 +29,40 @@ fn place(p: &Point) -> [u32; 2] {
     [p.x(), p.y()]
 }
 
-fn make(engine: &mut Engine, [x, y, u, v]: [u64; 4]) -> Result<Applied, Fail> {
-    let (p, q) = (Point::new(x, y)?, Point::new(u, v)?);
-    if engine.is_spent() {
-        return Err(Fail::new("spent"));
-    }
-    match Segment::new(p, q) {
-        Some(s) => Ok(engine.add_segment(s)?),
-        None => Ok(engine.add_point(p)?),
+fn change_of([x, y, u, v]: [u64; 4]) -> Change {
+    let (p, q) = (At { x, y }, At { x: u, y: v });
+    if p == q {
+        Change::Point(p)
+    } else {
+        Change::Segment(p, q)
     }
 }
 
+fn make<R: Threads + Sync>(
+    rt: &R,
+    engine: &mut Engine,
+    change: [u64; 4],
+) -> Result<Applied, Fail> {
+    let c = change_of(change);
+    made(rt, engine, &c)
+}
+
+fn made<R: Threads + Sync>(rt: &R, engine: &mut Engine, c: &Change) -> Result<Applied, Fail> {
+    if engine.is_spent() || !spellable_change(c) || is_let(c) {
+        return Err(Fail::new("no change that can be made"));
+    }
+    Ok(engine.change(rt, c)?)
+}
+
 // Makes the change, and lists its steps with the number of the session.
-fn take(
+fn take<R: Threads + Sync>(
+    rt: &R,
     session: u32,
     engine: &mut Engine,
     change: [u64; 4],
     steps: &mut Vec<(u32, Numbers)>,
 ) -> Result<(), Fail> {
-    let applied = make(engine, change)?;
+    let applied = make(rt, engine, change)?;
     for step in applied.trace.steps() {
         steps.push((session, numbers(step)))?;
     }
@@ -99,7 +116,7 @@ fn each_change_is_settled(rt: HostRuntime) -> Result<(), Fail> {
         for row in changes {
             let (of, change) = *row;
             if of == session {
-                take(session, &mut engine, change, &mut steps)?;
+                take(&rt, session, &mut engine, change, &mut steps)?;
             }
         }
         list_chains(session, &engine, &mut chains)?;
@@ -152,10 +169,10 @@ fn each_change_is_settled(rt: HostRuntime) -> Result<(), Fail> {
 #[test]
 fn the_last_16_traces_are_kept(rt: HostRuntime) -> Result<(), Fail> {
     let mut engine = Engine::new(rt.alloc());
-    let drawn = make(&mut engine, [0, 0, 20, 0])?;
+    let drawn = make(&rt, &mut engine, [0, 0, 20, 0])?;
     assert_eq!(rt; (drawn.first, drawn.added), (1, 1));
     for x in 1..17 {
-        let marked = make(&mut engine, [x, 0, x, 0])?;
+        let marked = make(&rt, &mut engine, [x, 0, x, 0])?;
         assert_eq!(rt; (marked.first, marked.added), (2, 0));
     }
     assert!(rt; !engine.is_spent());
@@ -198,8 +215,8 @@ fn a_long_run_is_settled_twice_alike(rt: HostRuntime) -> Result<(), Fail> {
     let mut draws = Draws { state: 1 };
     for _ in 0..80 {
         let change = [draws.next(), draws.next(), draws.next(), draws.next()];
-        let applied = make(&mut one, change)?;
-        let again = make(&mut other, change)?;
+        let applied = make(&rt, &mut one, change)?;
+        let again = make(&rt, &mut other, change)?;
         assert_eq!(rt; applied.trace.steps(), again.trace.steps(), "at {change:?}");
     }
     assert!(rt; !one.is_spent());

@@ -1,4 +1,4 @@
-use Rattle.std.proofs.Common.{◌≡◌, ◌++◌, ◌-◌, List, ◌∷◌, [], ◌∙◌, ap, sym, get_or, take, append_assoc, arith}
+use Rattle.std.proofs.Common.{◌++◌, ◌-◌, List, ◌∷◌, [], ◌∙◌, ap, sym, get_or, take, append_assoc, arith}
 use Rattle.line_grammar.specs.declared.command.At.{At}
 use Rattle.realm_insert.specs.Lines.{ends, neighbours}
 use Rattle.realm_insert.specs.declared.asked.Ends.{Ends}

@@ -1,5 +1,4 @@
 use Rattle.std.proofs.Common.{List, ℕ, ◌+◌, ◌<◌, [], ◌∷◌, ◌++◌, AllPairs, sym, ap, subst, ◌∙◌}
-use Rattle.realm_insert.specs.Changes.{ids_from}
 use Rattle.realm_insert.proofs.RisingIds.{ids_next, ids_rise}
 use Rattle.realm_insert.proofs.defining.value_of_ids.Goals as goal
 

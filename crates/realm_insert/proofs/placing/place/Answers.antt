@@ -1,5 +1,4 @@
-use Rattle.std.proofs.Common.{◌+◌, List, [], ◌∷◌, ◌++◌, sym, subst}
-use Rattle.grid_base.specs.Segment.{GridSegment}
+use Rattle.std.proofs.Common.{◌+◌, [], ◌∷◌, ◌++◌, sym, subst}
 use Rattle.grid_base.specs.Drawing.{Drawing}
 use Rattle.realm_drawing.specs.Chains.{AllStand}
 use Rattle.realm_insert.specs.State.{HasIdsBelow}

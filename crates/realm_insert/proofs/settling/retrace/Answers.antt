@@ -1,4 +1,4 @@
-use Rattle.std.proofs.Common.{◌≡◌, ℕ, ◌+◌, Option, MatchOption, length, subst, arith, rules}
+use Rattle.std.proofs.Common.{◌≡◌, ◌+◌, Option, MatchOption, length, subst, arith, rules}
 use Rattle.grid_base.specs.Drawing.{HasViolation}
 use Rattle.grid_base.specs.declared.kinds.Step.{Step}
 use Rattle.realm_drawing.specs.Mending.{IsPermitted}

@@ -1,4 +1,4 @@
-use Rattle.std.proofs.Common.{ℕ, Bor, Err, List, ◌≡◌, ◌+◌, ◌<◌, ◌≤◌, ◌^◌, ap, sym, subst, ◌∙◌, length, arith}
+use Rattle.std.proofs.Common.{ℕ, Bor, Err, List, ◌≡◌, ◌+◌, ap, sym, subst, ◌∙◌, length, arith}
 use Rattle.std.proofs.lemmas.Result.{err_from_is_err_and}
 use Rattle.grid_base.specs.Drawing.{Drawing}
 use Rattle.grid_base.specs.declared.kinds.Step.{Step}
