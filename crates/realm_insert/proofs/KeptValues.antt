@@ -115,7 +115,7 @@ are_too d e ids list stays are = record {
   there = λ k o within.
       let part = get_or list k o in
       let named = (Contains-map (λ (q : Original). q.id) list part.id).1
-          (k, part, within, get_or_default list k part o within, refl) in
+      (k, part, within, get_or_default list k part o within, refl) in
       stays part (subst (λ (l : List ℕ). Contains l part.id) are.by_id named) (are.there k o within);
   by_id = are.by_id;
 }
@@ -159,7 +159,7 @@ pub has_removed : (d : Drawing) (id : ℕ) (kind : Kind) (made : Parts) → list
 has_removed d id kind made unnamed has =
     has_too d (without_id d id) kind made (λ p named explicit. explicit) (λ o named (k, within, is).
     let (j, q, inside, at, same) = (Any-passes (λ q. not (q.id == id)) (λ q. q ≡ o) d.originals).1
-        (k, o, within, is, (passes o named, refl)) in
+    (k, o, within, is, (passes o named, refl)) in
     (j, inside, get_or_default _ j o q inside ∙ at ∙ same)) has
   where
     passes : (o : Original) → Contains (ids_among made) o.id → not (o.id == id) ≡ true

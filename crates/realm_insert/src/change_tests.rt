@@ -165,7 +165,11 @@ fn a_trace_fails_at_its_step(rt: HostRuntime) -> Result<(), Fail> {
         }
         let mut engine = Engine::new(rt.alloc());
         assert_eq!(rt; again(&rt, &mut engine, &first, &[]), Ok([0, 1, 1]));
-        assert_eq!(rt; again(&rt, &mut engine, &second, &trace), *expected, "{picked:?}");
+        assert_eq!(rt;
+            again(&rt, &mut engine, &second, &trace),
+            *expected,
+            "{picked:?}"
+        );
         assert_eq!(rt; engine.is_spent(), expected.is_err(), "{picked:?}");
     }
     Ok(())
@@ -203,7 +207,10 @@ fn values_follow_the_drawing(rt: HostRuntime) -> Result<(), Fail> {
         ("drop l", [Some(2), None, Some(3)]),
     ][..]
     {
-        assert!(rt; come_to(&rt, rt.alloc(), &mut engine, &mut twin, line)?.is_ok(), "{line}");
+        assert!(rt;
+            come_to(&rt, rt.alloc(), &mut engine, &mut twin, line)?.is_ok(),
+            "{line}"
+        );
         for (name, expected) in ["p", "l", "r"].iter().zip(sizes) {
             assert_eq!(rt; size_of(&engine, name)?, *expected, "{name} after {line}");
         }

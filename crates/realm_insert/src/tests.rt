@@ -38,11 +38,7 @@ fn change_of([x, y, u, v]: [u64; 4]) -> Change {
     }
 }
 
-fn make<R: Threads + Sync>(
-    rt: &R,
-    engine: &mut Engine,
-    change: [u64; 4],
-) -> Result<Applied, Fail> {
+fn make<R: Threads + Sync>(rt: &R, engine: &mut Engine, change: [u64; 4]) -> Result<Applied, Fail> {
     let c = change_of(change);
     made(rt, engine, &c)
 }
