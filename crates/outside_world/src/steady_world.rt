@@ -25,8 +25,8 @@ const MOST_BYTES: usize = 1_048_576;
 /// How many written bytes there is room for: 4 MiB.
 const MOST_WRITTEN: usize = 4_194_304;
 
-/// A world in memory on which no call fails. What doesn't fit is passed over and answered as a success, and
-/// from then on it tells nothing.
+/// A world in memory on which no call fails. A call for which no room is left answers as if it had been done, and
+/// the world tells nothing any more.
 #[derive(Drop)]
 pub struct SteadyWorld {
     log: CallLog,

@@ -1,4 +1,4 @@
--- Records that are read from a file, up to the first gate that is closed or behind which no record stands.
+-- Records that are read from a file one after another: a closed gate ends them, or an open one without a record.
 use Rattle.std.specs.Prelude.{◌≡◌, ◌+◌, ℕ, Bool, true, false, List, [], ◌∷◌, length, drop, Result, IfOk}
 use Rattle.outside_world.specs.declared.world.FileName.{FileName}
 use Rattle.outside_world.specs.View.{View}

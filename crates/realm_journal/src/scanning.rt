@@ -1,4 +1,4 @@
-//! Reads records up to the first gate that is closed, or behind which no whole record stands.
+//! Reads records one after another, until a gate is closed or no whole record follows it.
 ghost use Rattle.std.specs.Prelude.{◌≡◌, ◌<◌, ◌↔◌, ◌^◌, ℕ, List, length, drop, IsTrue, IfOk, IsErrOf};
 ghost use Rattle.outside_world.specs.Counts.{Rose};
 ghost use Rattle.outside_world.specs.GoesOn.{GoesOn};
