@@ -1,6 +1,6 @@
 //! Worked changes, written as lines and read off squared paper.
 use crate::{Applied, ChangeError, Engine, Refusal, ReplayError, is_let};
-use grid_base::{Point, Segment, Step};
+use grid_base::Step;
 use line_grammar::{Change, Command, read_line, spellable_change};
 use rose_values::Geometry;
 use std::alloc::Global;
@@ -16,42 +16,19 @@ fn change_of(alloc: Global, line: &str) -> Result<Change, Fail> {
 }
 
 // What the change comes to: how many steps, the next id before it, and how many originals are new; or why it is refused.
-// By its trace it comes to the same in the twin.
 fn outcome_of<R: Abort + Threads + Sync>(
     rt: &R,
     engine: &mut Engine,
-    twin: &mut Engine,
     c: &Change,
 ) -> Result<Result<[u64; 3], Refusal>, Fail> {
     if engine.is_spent() || !spellable_change(c) || is_let(c) {
         return Err(Fail::new("no change that can be made"));
     }
     match engine.change(rt, c) {
-        Ok(applied) => {
-            let numbers = numbers_of(&applied);
-            assert_eq!(rt; again(rt, twin, c, applied.trace.steps()), Ok(numbers));
-            Ok(Ok(numbers))
-        }
-        Err(ChangeError::Refused(word)) => {
-            assert_eq!(rt; again(rt, twin, c, &[]), Err(ReplayError::Refused(word)));
-            Ok(Err(word))
-        }
+        Ok(applied) => Ok(Ok(numbers_of(&applied))),
+        Err(ChangeError::Refused(word)) => Ok(Err(word)),
         Err(ChangeError::NoMemory) => Err(Fail::new("no memory")),
     }
-}
-
-// The same by the given steps.
-fn again<R: Abort + Threads + Sync>(
-    rt: &R,
-    engine: &mut Engine,
-    c: &Change,
-    steps: &[Step],
-) -> Result<[u64; 3], ReplayError> {
-    if engine.is_spent() || !spellable_change(c) || is_let(c) {
-        return Err(ReplayError::NoMemory);
-    }
-    let applied = engine.replay(rt, c, steps)?;
-    Ok(numbers_of(&applied))
 }
 
 fn numbers_of(applied: &Applied) -> [u64; 3] {
@@ -66,11 +43,10 @@ fn come_to<R: Abort + Threads + Sync>(
     rt: &R,
     alloc: Global,
     engine: &mut Engine,
-    twin: &mut Engine,
     line: &str,
 ) -> Result<Result<[u64; 3], Refusal>, Fail> {
     let c = change_of(alloc, line)?;
-    outcome_of(rt, engine, twin, &c)
+    outcome_of(rt, engine, &c)
 }
 
 #[test]
@@ -117,11 +93,10 @@ fn each_line_comes_to_this(rt: HostRuntime) -> Result<(), Fail> {
     ][..]
     {
         let mut engine = Engine::new(rt.alloc());
-        let mut twin = Engine::new(rt.alloc());
         for (of, line, expected) in lines {
             if of == session {
                 assert_eq!(rt;
-                    come_to(&rt, rt.alloc(), &mut engine, &mut twin, line)?,
+                    come_to(&rt, rt.alloc(), &mut engine, line)?,
                     *expected,
                     "{line}"
                 );
@@ -134,44 +109,29 @@ fn each_line_comes_to_this(rt: HostRuntime) -> Result<(), Fail> {
     Ok(())
 }
 
-fn split([x, y]: [u64; 2], [a, b, u, v]: [u64; 4]) -> Result<Step, Fail> {
-    let p = Point::new(x, y)?;
-    match Segment::new(Point::new(a, b)?, Point::new(u, v)?) {
-        Some(t) => Ok(Step::Split { p, t }),
-        None => Err(Fail::new("no segment")),
+// The change is made by these steps.
+fn again<R: Threads + Sync>(
+    rt: &R,
+    engine: &mut Engine,
+    c: &Change,
+    steps: &[Step],
+) -> Result<[u64; 3], ReplayError> {
+    if engine.is_spent() || !spellable_change(c) || is_let(c) {
+        return Err(ReplayError::NoMemory);
     }
+    let applied = engine.replay(rt, c, steps)?;
+    Ok(numbers_of(&applied))
 }
 
 #[test]
-fn a_trace_fails_at_its_step(rt: HostRuntime) -> Result<(), Fail> {
+fn a_change_is_made_again_by_its_steps(rt: HostRuntime) -> Result<(), Fail> {
     let first = change_of(rt.alloc(), "segment 0 0 6 0")?;
     let second = change_of(rt.alloc(), "segment 2 0 8 0")?;
-    // The two pieces are cut at each other's ends.
-    let steps = [split([2, 0], [0, 0, 6, 0])?, split([6, 0], [2, 0, 8, 0])?];
-    for (picked, expected) in &[
-        (&[0, 1][..], Ok([2, 2, 1])),
-        (&[1, 0][..], Ok([2, 2, 1])),
-        (&[][..], Err(ReplayError::Mismatch { step: 1 })),
-        (&[0][..], Err(ReplayError::Mismatch { step: 2 })),
-        (&[0, 0, 1][..], Err(ReplayError::Mismatch { step: 2 })),
-        (&[1, 0, 1][..], Err(ReplayError::Mismatch { step: 3 })),
-    ][..]
-    {
-        let mut trace = Vec::new(rt.alloc());
-        for i in *picked {
-            if let Some(step) = steps.get(*i) {
-                trace.push(*step)?;
-            }
-        }
-        let mut engine = Engine::new(rt.alloc());
-        assert_eq!(rt; again(&rt, &mut engine, &first, &[]), Ok([0, 1, 1]));
-        assert_eq!(rt;
-            again(&rt, &mut engine, &second, &trace),
-            *expected,
-            "{picked:?}"
-        );
-        assert_eq!(rt; engine.is_spent(), expected.is_err(), "{picked:?}");
-    }
+    let mut engine = Engine::new(rt.alloc());
+    assert_eq!(rt; again(&rt, &mut engine, &first, &[]), Ok([0, 1, 1]));
+    // The two pieces lie over one another, so a step is lacking.
+    let lacks = Err(ReplayError::Mismatch { step: 1 });
+    assert_eq!(rt; again(&rt, &mut engine, &second, &[]), lacks);
     Ok(())
 }
 
@@ -195,25 +155,13 @@ fn size(g: &Geometry) -> usize {
 }
 
 #[test]
-fn values_follow_the_drawing(rt: HostRuntime) -> Result<(), Fail> {
+fn a_region_follows_the_drawing(rt: HostRuntime) -> Result<(), Fail> {
     let mut engine = Engine::new(rt.alloc());
-    let mut twin = Engine::new(rt.alloc());
-    // Two sides of the region come to be led by one piece, which is no part of its border any more.
-    for (line, sizes) in &[
-        ("points p 3 4 0 0 3 4", [Some(2), None, None]),
-        ("lines l 0 0 5 1 5 2", [Some(2), Some(2), None]),
-        ("regions r 0 0 5 1 5 2", [Some(2), Some(2), Some(3)]),
-        ("segment 3 0 3 5", [Some(2), Some(3), Some(3)]),
-        ("drop l", [Some(2), None, Some(3)]),
-    ][..]
-    {
-        assert!(rt;
-            come_to(&rt, rt.alloc(), &mut engine, &mut twin, line)?.is_ok(),
-            "{line}"
-        );
-        for (name, expected) in ["p", "l", "r"].iter().zip(sizes) {
-            assert_eq!(rt; size_of(&engine, name)?, *expected, "{name} after {line}");
-        }
+    // Two of its sides come to be led by one piece, which is no part of its border any more.
+    for line in &["regions r 0 0 5 1 5 2", "segment 3 0 3 5"][..] {
+        assert!(rt; come_to(&rt, rt.alloc(), &mut engine, line)?.is_ok());
     }
+    assert_eq!(rt; size_of(&engine, "r")?, Some(3));
+    assert_eq!(rt; size_of(&engine, "s")?, None);
     Ok(())
 }
