@@ -35,7 +35,10 @@ holds_first c whole =
     let head = header_text first_head in
     let gate : 0 + 1 + length head ≡ first_gate = omega (arith, head_size first_head) in
     record {
-      counts = record { has_more = omega (arith, ap length is, length-append head (closed_gate ∷ whole.0)); is_open = ap (λ l. get_or l 0 0) is };
+      counts = record {
+        has_more = omega (arith, ap length is, length-append head (closed_gate ∷ whole.0));
+        is_open = ap (λ l. get_or l 0 0) is;
+      };
       has_head = ap (λ l. take (length head) (drop 1 l)) is ∙ take_at head (closed_gate ∷ whole.0) (length head) refl;
       records = [];
       lead = (refl, refl, subst (λ k. IsClosedAt k c) gate (whole_closed 0 head c whole));

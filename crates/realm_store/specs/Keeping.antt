@@ -6,7 +6,7 @@ use Rattle.realm_insert.specs.State.{State}
 use Rattle.realm_store.specs.Stands.{StandsAt, ReachesTo}
 
 -- The state, the place of the next gate, where file A counts, and whether that gate's byte is there. Where it
--- isn't, a crash while it is written may leave an open gate behind the last record, and nothing is claimed of it.
+-- isn't, a crash while it is written may leave an open gate behind the last record, of which nothing is said.
 pub record Kept : Type 0 where
   pub state : State
   pub next : Option ℕ

@@ -7,7 +7,7 @@ use Rattle.realm_insert.specs.State.{State}
 use Rattle.realm_journal.specs.Gates.{open_gate, IsWrittenAt, IsClosedAt}
 use Rattle.realm_store.specs.Leading.{Leads}
 
--- from the gate at a place on, these records lead from the first state to the second, and the next gate is closed
+-- from the gate at a place on, these records lead from the first state to the second; the next gate is closed
 abbrev pub IsRecords : State → List Record → ℕ → List ℕ → State → ℕ → Type 0
 IsRecords start [] at file end next = (end ≡ start) × (next ≡ at) × IsClosedAt at file
 IsRecords start (r ∷ rs) at file end next =

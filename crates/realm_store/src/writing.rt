@@ -1,5 +1,5 @@
-//! Writes a record to file A, behind the gate that waits for it. Where file A doesn't count, a first generation with no
-//! record is put on it before; where the gate's byte is missing, it is added before.
+//! Writes a record to file A, behind the gate that waits for it. Where file A doesn't count, a first
+//! generation with no record is put on it before; where the gate's byte is missing, it is added before.
 ghost use Rattle.std.specs.Prelude.{◌≡◌, ◌<◌, ◌^◌, ℕ, List, IfOk, OnErr, true, false};
 ghost use Rattle.outside_world.specs.Counts.{Rose};
 ghost use Rattle.outside_world.specs.GoesOn.{GoesOn};
@@ -71,8 +71,9 @@ pub fn write_at_end<W: Outside>(world: &mut W, at: u64, p: &Prepared) -> Result<
     requires room { at < 2 ^ 61 }
     requires is_record { IsRecord p.now }
     requires rest { W.tells world.old → (state : State) × AllRest (before_gate state at) (W.view world.old) }
-    ensures told { W.tells world.new → (state after : State) → AllRest (before_gate state at) (W.view world.old)
-        → Leads state p.now after → Committed (W.view world.old) (W.view world.new) false state after result }
+    ensures told { W.tells world.new → (state after : State)
+        → AllRest (before_gate state at) (W.view world.old) → Leads state p.now after
+        → Committed (W.view world.old) (W.view world.new) false state after result }
     ensures disk_fault { OnErr result (Rose (W.disk_faults world.old) (W.disk_faults world.new)) }
     ensures goes_on { GoesOn ⟦<W as Outside>⟧ world.old world.new }
 {
