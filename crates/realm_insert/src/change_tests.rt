@@ -49,66 +49,6 @@ fn come_to<R: Abort + Threads + Sync>(
     outcome_of(rt, engine, &c)
 }
 
-#[test]
-fn each_line_comes_to_this(rt: HostRuntime) -> Result<(), Fail> {
-    let lines = &[
-        (1, "segment 0 0 4 0", Ok([0, 1, 1])),
-        (1, "segment 4 0 0 0", Ok([0, 2, 1])),
-        (1, "delete 1", Ok([0, 3, 0])),
-        (2, "segment 0 0 6 0", Ok([0, 1, 1])),
-        (2, "segment 2 0 8 0", Ok([2, 2, 1])),
-        (3, "segment 0 0 6 0", Ok([0, 1, 1])),
-        (3, "point 3 0", Ok([1, 2, 0])),
-        (3, "point 3 1", Ok([0, 2, 0])),
-        (3, "unpoint 3 0", Ok([0, 2, 0])),
-        (3, "unpoint 3 0", Err(Refusal::NoPoint)),
-        (4, "point 268435455 268435455", Ok([0, 1, 0])),
-        (4, "point 268435456 0", Err(Refusal::Range)),
-        (4, "lines l 268435456 0", Err(Refusal::Range)),
-        (4, "segment 5 5 5 5", Err(Refusal::Degenerate)),
-        (4, "lines l 1 1", Err(Refusal::Shape)),
-        (5, "regions r 0 0 5 1 5 2", Ok([0, 1, 3])),
-        (5, "segment 3 0 3 5", Ok([2, 4, 1])),
-        (6, "lines l 0 0 4 0", Ok([0, 1, 1])),
-        (6, "lines l 0 0 1 1", Err(Refusal::NameTaken)),
-        (6, "delete 1", Err(Refusal::InUse)),
-        (6, "drop l", Ok([0, 2, 0])),
-        (6, "delete 1", Ok([0, 2, 0])),
-        (6, "delete 1", Err(Refusal::NoId)),
-        (6, "drop l", Err(Refusal::NoName)),
-        (7, "points p 3 4 0 0 3 4", Ok([0, 1, 0])),
-        (7, "unpoint 3 4", Err(Refusal::InUse)),
-        (7, "drop p", Ok([0, 1, 0])),
-        (7, "unpoint 3 4", Ok([0, 1, 0])),
-    ][..];
-    // How many points and how many pieces there are in the end.
-    for (session, points, pieces) in &[
-        (1, 2, 1),
-        (2, 4, 3),
-        (3, 4, 2),
-        (4, 1, 0),
-        (5, 6, 6),
-        (6, 0, 0),
-        (7, 1, 0),
-    ][..]
-    {
-        let mut engine = Engine::new(rt.alloc());
-        for (of, line, expected) in lines {
-            if of == session {
-                assert_eq!(rt;
-                    come_to(&rt, rt.alloc(), &mut engine, line)?,
-                    *expected,
-                    "{line}"
-                );
-            }
-        }
-        assert!(rt; !engine.is_spent());
-        assert_eq!(rt; engine.drawing().points()?.len(), *points, "{session}");
-        assert_eq!(rt; engine.drawing().pieces()?.len(), *pieces, "{session}");
-    }
-    Ok(())
-}
-
 // The change is made by these steps.
 fn again<R: Threads + Sync>(
     rt: &R,
@@ -123,15 +63,24 @@ fn again<R: Threads + Sync>(
     Ok(numbers_of(&applied))
 }
 
+fn come_again<R: Threads + Sync>(
+    rt: &R,
+    alloc: Global,
+    engine: &mut Engine,
+    line: &str,
+) -> Result<Result<[u64; 3], ReplayError>, Fail> {
+    let c = change_of(alloc, line)?;
+    Ok(again(rt, engine, &c, &[]))
+}
+
 #[test]
 fn a_change_is_made_again_by_its_steps(rt: HostRuntime) -> Result<(), Fail> {
-    let first = change_of(rt.alloc(), "segment 0 0 6 0")?;
-    let second = change_of(rt.alloc(), "segment 2 0 8 0")?;
     let mut engine = Engine::new(rt.alloc());
-    assert_eq!(rt; again(&rt, &mut engine, &first, &[]), Ok([0, 1, 1]));
+    let first = come_again(&rt, rt.alloc(), &mut engine, "segment 0 0 6 0")?;
+    assert_eq!(rt; first, Ok([0, 1, 1]));
     // The two pieces lie over one another, so a step is lacking.
-    let lacks = Err(ReplayError::Mismatch { step: 1 });
-    assert_eq!(rt; again(&rt, &mut engine, &second, &[]), lacks);
+    let second = come_again(&rt, rt.alloc(), &mut engine, "segment 2 0 8 0")?;
+    assert_eq!(rt; second, Err(ReplayError::Mismatch { step: 1 }));
     Ok(())
 }
 
