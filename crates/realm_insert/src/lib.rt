@@ -5,8 +5,6 @@
 mod applied;
 mod asked;
 mod causes;
-#[cfg(test)]
-mod change_tests;
 mod defining;
 mod engine;
 mod indexing;
@@ -18,8 +16,6 @@ mod removing;
 mod searching;
 mod settling;
 mod sharing;
-#[cfg(test)]
-mod tests;
 
 pub use applied::Applied;
 pub use asked::is_let;
