@@ -1,79 +1,119 @@
--- This file shows that the fields of a world in memory go on agreeing when a call is noted, and what they then stand for.
+-- This file shows that the fields of a log go on agreeing when a call is noted, and what they then stand for.
 use Rattle.std.proofs.Common.{◌≡◌, ℕ, ◌+◌, ◌≤◌, List, [], ◌∷◌, ◌++◌, length, Vec}
-use Rattle.std.proofs.Common.{◌∙◌, ap, arith, length-append, length-drop}
+use Rattle.std.proofs.Common.{refl, sym, ◌∙◌, ap, arith, length-append}
+use Rattle.std.proofs.lemmas.List.{append-nil}
+use Rattle.std.specs.Vec.{vec_capacity}
 use Rattle.std.specs.declared.alloc.Global.{Global}
-use Rattle.outside_world.specs.declared.memory_world.Call.{Call}
-use Rattle.outside_world.specs.declared.memory_world.Call.TheVariants.{Take, Give, Look}
-use Rattle.outside_world.specs.declared.memory_world.MemoryWorld.TheInside.{Inside}
-use Rattle.outside_world.specs.Events.{Event, Taken, Given, Looked, taken_by}
-use Rattle.outside_world.specs.Memory.{memory_view, with_call}
-use Rattle.outside_world.specs.MemoryFields.{events_of, size_given, memory_of, Agrees}
-use Rattle.outside_world.proofs.FieldEvents.{size_given-append, events_of-append, events_of-give}
+use Rattle.outside_world.specs.declared.world.FileName.TheVariants.{A, B}
+use Rattle.outside_world.specs.declared.call_log.Call.{Call}
+use Rattle.outside_world.specs.declared.call_log.CallLog.TheInside.{Inside}
+use Rattle.outside_world.specs.Events.{Event, taken_at, taken_by}
+use Rattle.outside_world.specs.Files.{after_event, file_after}
+use Rattle.outside_world.specs.Log.{with_event}
+use Rattle.outside_world.specs.LogFields.{event_of, given_in, written_in, events_of, size_given, size_written, log_of, Agrees}
+use Rattle.outside_world.proofs.FieldEvents.{size_given-append, size_written-append, events_of-push}
 use Rattle.outside_world.proofs.NotedCalls.{taken_by-append}
+use Rattle.outside_world.proofs.NotedFiles.{file_after-push}
 
-module _ (w : Inside) (agrees : Agrees w) (later : Vec Call Global) where
-  abbrev events : List Event
-  events = events_of w.output.items w.calls.items
+-- the fields, one call later: these bytes came behind the output and those of the writes
+pub record IsLater (w later : Inside) (call : Call) (given wrote : List ℕ) : Type 0 where
+  pub input : later.input.items ≡ w.input.items
+  pub first_a : later.first_a.items ≡ w.first_a.items
+  pub first_b : later.first_b.items ≡ w.first_b.items
+  pub output : later.output.items ≡ w.output.items ++ given
+  pub written : later.written.items ≡ w.written.items ++ wrote
+  pub calls : later.calls.items ≡ w.calls.items ++ call ∷ []
+  pub room : later.room ≡ w.room
 
-  -- the list of calls when this one was noted
-  abbrev Notes : Call → Type 0
-  Notes call = later.items ≡ w.calls.items ++ call ∷ []
+-- no room is lost
+pub record KeepsRoom (w later : Inside) : Type 0 where
+  pub calls : vec_capacity w.calls ≤ vec_capacity later.calls
+  pub output : vec_capacity w.output ≤ vec_capacity later.output
+  pub a : vec_capacity w.a ≤ vec_capacity later.a
+  pub b : vec_capacity w.b ≤ vec_capacity later.b
+  pub written : vec_capacity w.written ≤ vec_capacity later.written
 
-  -- a take
-  abbrev taken_later : ℕ → Inside
-  taken_later n = record w { taken = w.taken + n; calls = later }
+-- what the fields that are no list of calls have become
+pub record Follows (w later : Inside) (event : Event) : Type 0 where
+  pub taken : later.taken ≡ w.taken + taken_at event
+  pub within_input : later.taken ≤ length later.input.items
+  pub a_now : later.a.items ≡ (after_event A (file_after A w.first_a.items (log_of w).calls) event).now
+  pub b_now : later.b.items ≡ (after_event B (file_after B w.first_b.items (log_of w).calls) event).now
 
-  pub memory_of-take : (n : ℕ) → Notes (Take n) → memory_of (taken_later n) ≡ with_call (memory_of w) (Taken n)
-  memory_of-take n notes =
-      let noted = ap (events_of w.output.items) notes ∙ events_of-append w.output.items w.calls.items (Take n ∷ []) in
-      ap (λ l. record (memory_of w) { calls = l }) noted
+module _ (w later : Inside) (call : Call) (given wrote : List ℕ) (agrees : Agrees w) (is : IsLater w later call given wrote) where
+  abbrev event : Event
+  event = event_of given wrote call
 
-  pub Agrees-take : (n : ℕ) → Notes (Take n) → n ≤ length (memory_view (memory_of w)).left → Agrees (taken_later n)
-  Agrees-take n notes there =
-      let noted = ap (λ m. taken_by m.calls) (memory_of-take n notes) in
-      record {
-        taken = omega (arith, agrees.taken, noted, taken_by-append events (Taken n ∷ []));
-        within_input = omega (arith, agrees.taken, agrees.within_input, there, length-drop (taken_by events) w.input.items);
-        given = omega (arith, agrees.given, ap size_given notes, size_given-append w.calls.items (Take n ∷ []));
-        ascending = agrees.ascending;
-      }
+  noted : (log_of later).calls ≡ (log_of w).calls ++ event ∷ []
+  noted =
+      (λ i. events_of (is.output i) (is.written i) (is.calls i))
+      ∙ events_of-push w.output.items w.written.items given wrote w.calls.items call agrees.given agrees.written
 
-  -- a call of which nothing came
-  abbrev looked_later : Inside
-  looked_later = record w { calls = later }
+  -- they stand for the log with the call
+  pub log_of-later : log_of later ≡ with_event (log_of w) event
+  log_of-later = λ i. record { input = is.input i; a = is.first_a i; b = is.first_b i; calls = noted i; room = is.room i }
 
-  pub memory_of-look : Notes Look → memory_of looked_later ≡ with_call (memory_of w) Looked
-  memory_of-look notes =
-      let noted = ap (events_of w.output.items) notes ∙ events_of-append w.output.items w.calls.items (Look ∷ []) in
-      ap (λ l. record (memory_of w) { calls = l }) noted
+  -- and agree
+  pub Agrees-later : length given ≡ given_in call → length wrote ≡ written_in call → Follows w later event → KeepsRoom w later
+      → Agrees later
+  Agrees-later all_given all_written follows keeps = record {
+    room_calls = omega (arith, agrees.room_calls, keeps.calls, ap (λ r. r.calls) is.room);
+    room_output = omega (arith, agrees.room_output, keeps.output, ap (λ r. r.output) is.room);
+    room_a = omega (arith, agrees.room_a, keeps.a, ap (λ r. r.a) is.room);
+    room_b = omega (arith, agrees.room_b, keeps.b, ap (λ r. r.b) is.room);
+    room_written = omega (arith, agrees.room_written, keeps.written, ap (λ r. r.written) is.room);
+    taken = omega (arith, follows.taken, agrees.taken, ap taken_by noted, taken_by-append (log_of w).calls (event ∷ []));
+    within_input = follows.within_input;
+    given = omega (
+      arith,
+      agrees.given,
+      all_given,
+      ap length is.output,
+      length-append w.output.items given,
+      ap size_given is.calls,
+      size_given-append w.calls.items (call ∷ []),
+    );
+    written = omega (
+      arith,
+      agrees.written,
+      all_written,
+      ap length is.written,
+      length-append w.written.items wrote,
+      ap size_written is.calls,
+      size_written-append w.calls.items (call ∷ []),
+    );
+    a_now = follows.a_now ∙ ap (λ s. s.now) (sym (file_after-push A w.first_a.items (log_of w).calls event))
+        ∙ (λ i. (file_after A (sym is.first_a i) (sym noted i)).now);
+    b_now = follows.b_now ∙ ap (λ s. s.now) (sym (file_after-push B w.first_b.items (log_of w).calls event))
+        ∙ (λ i. (file_after B (sym is.first_b i) (sym noted i)).now);
+  }
 
-  pub Agrees-look : Notes Look → Agrees looked_later
-  Agrees-look notes =
-      let noted = ap (λ m. taken_by m.calls) (memory_of-look notes) in
-      record {
-        taken = omega (arith, agrees.taken, noted, taken_by-append events (Looked ∷ []));
-        within_input = agrees.within_input;
-        given = omega (arith, agrees.given, ap size_given notes, size_given-append w.calls.items (Look ∷ []));
-        ascending = agrees.ascending;
-      }
+-- a call that gave and wrote nothing
+module _ (w : Inside) (agrees : Agrees w) (calls : Vec Call Global) (call : Call) (notes : calls.items ≡ w.calls.items ++ call ∷ []) where
+  abbrev quietly : ℕ → Inside
+  quietly taken = record w { taken = taken; calls = calls }
 
-  -- a give, whose bytes were appended to the output
-  module _ (bytes : List ℕ) (output : Vec ℕ Global) (longer : output.items ≡ w.output.items ++ bytes) where
-    abbrev given_later : Inside
-    given_later = record w { output = output; calls = later }
+  is_later_quietly : (taken : ℕ) → IsLater w (quietly taken) call [] []
+  is_later_quietly taken = record {
+    input = refl;
+    first_a = refl;
+    first_b = refl;
+    output = sym (append-nil w.output.items);
+    written = sym (append-nil w.written.items);
+    calls = notes;
+    room = refl;
+  }
 
-    pub memory_of-give : Notes (Give (length bytes)) → memory_of given_later ≡ with_call (memory_of w) (Given bytes)
-    memory_of-give notes =
-        let noted = (λ i. events_of (longer i) (notes i)) ∙ events_of-give w.output.items bytes w.calls.items agrees.given in
-        ap (λ l. record (memory_of w) { calls = l }) noted
+  pub log_of-quietly : (taken : ℕ) → log_of (quietly taken) ≡ with_event (log_of w) (event_of [] [] call)
+  log_of-quietly taken = log_of-later w (quietly taken) call [] [] agrees (is_later_quietly taken)
 
-    pub Agrees-give : Notes (Give (length bytes)) → Agrees given_later
-    Agrees-give notes =
-        let noted = ap (λ m. taken_by m.calls) (memory_of-give notes) in
-        let grown = ap length longer ∙ length-append w.output.items bytes in
-        record {
-          taken = omega (arith, agrees.taken, noted, taken_by-append events (Given bytes ∷ []));
-          within_input = agrees.within_input;
-          given = omega (arith, agrees.given, grown, ap size_given notes, size_given-append w.calls.items (Give (length bytes) ∷ []));
-          ascending = agrees.ascending;
-        }
+  pub Agrees-quietly : (taken : ℕ) → 0 ≡ given_in call → 0 ≡ written_in call → Follows w (quietly taken) (event_of [] [] call)
+      → vec_capacity w.calls ≤ vec_capacity calls → Agrees (quietly taken)
+  Agrees-quietly taken no_give no_write follows capacity =
+      Agrees-later w (quietly taken) call [] [] agrees (is_later_quietly taken) no_give no_write follows (record {
+        calls = capacity;
+        output = omega arith;
+        a = omega arith;
+        b = omega arith;
+        written = omega arith;
+      })

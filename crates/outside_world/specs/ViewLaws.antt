@@ -1,28 +1,74 @@
 -- The laws of what a list of calls tells, in the form in which a world owes them.
-use Rattle.std.specs.Prelude.{◌≤◌, ℕ, List, length}
+use Rattle.std.specs.Prelude.{◌≤◌, ℕ, Bool, true, false, List, [], ◌∷◌, length}
 use Rattle.std.proofs.Common.{sym, subst}
-use Rattle.std.proofs.Math.Nat.{le_refl}
+use Rattle.std.proofs.Math.Nat.{le_refl, min-le_right}
 use Rattle.std.proofs.lemmas.List.{take_all, get_or_past}
 use Rattle.outside_world.specs.declared.world.FileName.{FileName}
 use Rattle.outside_world.specs.View.{Asked, Moment}
-use Rattle.outside_world.specs.Events.{Event, Looked, IsTake, MayLeaveAfter, LeftSince, AskedSince}
+use Rattle.outside_world.specs.Disk.{IsByteByByte}
+use Rattle.outside_world.specs.Events.{Event, Taken, Given, Written, Tried, Flushed, Looked, IsTake}
+use Rattle.outside_world.specs.Files.{FileState, begin_of, is_same_file, write, try_write, sync, if_for}
+use Rattle.outside_world.specs.Files.{after_event, after_events, opened, file_after, disk_of, IsImage}
+use Rattle.outside_world.specs.History.{MayLeaveAfter, LeftSince, AskedSince, view_after}
+use Rattle.outside_world.specs.TornImages.{torn_overwritten, torn_unwritten, torn_image, whole_image}
 
 -- what a crash now may leave is left since any earlier moment, as now is one of them
-pub left_counts_now : (files : FileName → List ℕ) (events : List Event) (t : ℕ) (m : Moment)
-    → t ≤ length events → MayLeaveAfter files events m → LeftSince files events t m
-left_counts_now files events t m early leaves =
+pub left_counts_now : (firsts : FileName → List ℕ) (events : List Event) (t : ℕ) (m : Moment)
+    → t ≤ length events → MayLeaveAfter firsts events m → LeftSince firsts events t m
+left_counts_now firsts events t m early leaves =
     let now = length events in
     let all = sym (take_all now events (le_refl now)) in
-    (now, early, le_refl now, subst (λ l. MayLeaveAfter files l m) all leaves)
+    (now, early, le_refl now, subst (λ l. MayLeaveAfter firsts l m) all leaves)
 
 -- since now, now is the only moment
-pub left_only_now : (files : FileName → List ℕ) (events : List Event) (m : Moment)
-    → LeftSince files events (length events) m → MayLeaveAfter files events m
-left_only_now files events m (k, since, upto, leaves) =
-    subst (λ l. MayLeaveAfter files l m) (take_all k events since) leaves
+pub left_only_now : (firsts : FileName → List ℕ) (events : List Event) (m : Moment)
+    → LeftSince firsts events (length events) m → MayLeaveAfter firsts events m
+left_only_now firsts events m (k, since, upto, leaves) =
+    subst (λ l. MayLeaveAfter firsts l m) (take_all k events since) leaves
 
 -- a call that hasn't been made is no take
 pub none_asked_now : (input : List ℕ) (events : List Event) (a : Asked)
     → AskedSince input events (length events) a → ⊥
 none_asked_now input events a (k, since, takes, asks) =
     subst IsTake (get_or_past events k Looked since) takes
+
+-- what a file reads as stays one of its images
+abbrev pub ReadsAnImage : FileState → Type 0
+ReadsAnImage s = IsImage s s.now
+
+image_if : (b : Bool) (change : FileState → FileState) (s : FileState)
+    → (ReadsAnImage s → ReadsAnImage (change s)) → ReadsAnImage s → ReadsAnImage (if_for b change s)
+image_if true change s keeps is = keeps is
+image_if false change s keeps is = is
+
+image_event : (f : FileName) (s : FileState) (event : Event) → ReadsAnImage s
+    → ReadsAnImage (after_event f s event)
+image_event f s (Taken n) is = is
+image_event f s (Given bytes) is = is
+image_event f s (Written file at bytes) is =
+    let torn = torn_overwritten (begin_of at s) bytes s.now (min-le_right at (length s.now)) in
+    image_if (is_same_file f file) (write at bytes) s
+    (λ here. torn_image s.base s.pending _ s.now _ here torn) is
+image_event f s (Tried file at n) is =
+    let torn = torn_unwritten (begin_of at s) n s.now in
+    image_if (is_same_file f file) (try_write at n) s
+    (λ here. torn_image s.base s.pending _ s.now _ here torn) is
+image_event f s (Flushed file) is = image_if (is_same_file f file) sync s (λ here. whole_image s.now) is
+image_event f s Looked is = is
+
+image_events : (f : FileName) (s : FileState) (events : List Event) → ReadsAnImage s
+    → ReadsAnImage (after_events f s events)
+image_events f s [] is = is
+image_events f s (event ∷ events) is =
+    image_events f (after_event f s event) events (image_event f s event is)
+
+pub reads_an_image_now : (f : FileName) (first : List ℕ) (events : List Event)
+    → ReadsAnImage (file_after f first events)
+reads_an_image_now f first events = image_events f (opened first) events (whole_image first)
+
+-- and what is told is said byte by byte
+pub byte_by_byte_now : (input : List ℕ) (firsts : FileName → List ℕ) (events : List Event)
+    → IsByteByByte (view_after input firsts events)
+byte_by_byte_now input firsts events = λ f.
+    let s = file_after f (firsts f) events in
+    (disk_of s.base s.pending, λ c. (λ image. image, λ image. image))

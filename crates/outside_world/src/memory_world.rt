@@ -1,40 +1,35 @@
-//! A world in memory. It notes each call, and all that it tells is read off that list.
-ghost use Rattle.std.specs.Prelude.{◌≡◌, ◌≤◌, ◌<◌, ◌+◌, length, take, min, refl, IfOk, OnOk, OnErr};
+//! A world in memory. It notes each call, and all that it tells is read off that log.
+ghost use Rattle.std.specs.Prelude.{◌≡◌, ◌≤◌, ◌<◌, ◌+◌, ◌^◌, length, take, drop, IfOk, OnErr};
 ghost use Rattle.std.specs.FinSet as set;
-ghost use Rattle.outside_world.specs.Calls.{Took, Gave};
+ghost use Rattle.outside_world.specs.Calls.{Took, Gave, Sized, Read, Wrote, Synced};
+ghost use Rattle.outside_world.specs.Events.{Looked};
 ghost use Rattle.outside_world.specs.Counts.{Rose};
-ghost use Rattle.outside_world.specs.Events.{Taken, Given, Looked};
-ghost use Rattle.outside_world.specs.Memory.{file_of, memory_view, fresh, Takes, Gives};
-ghost use Rattle.outside_world.specs.Memory.{with_call, with_source_fault, with_sink_fault};
+ghost use Rattle.outside_world.specs.History.{MayLeaveAfter};
+ghost use Rattle.outside_world.specs.Log.{first_of, left_by, file_then, crash_at};
+ghost use Rattle.outside_world.specs.Memory.{memory_view, fresh, Notes, Takes, Gives, Sizes, Reads, Writes};
+ghost use Rattle.outside_world.specs.Memory.{Syncs};
+ghost use Rattle.outside_world.specs.Memory.{with_source_fault, with_sink_fault, with_disk_fault};
 ghost use Rattle.outside_world.specs.ViewLaws.{left_counts_now, left_only_now, none_asked_now};
+ghost use Rattle.outside_world.specs.ViewLaws.{reads_an_image_now, byte_by_byte_now};
 
-use crate::world::{Failed, Outside};
+use crate::call_log::CallLog;
+use crate::filling::{behind, fill};
+use crate::leave::Leave;
+use crate::world::{Failed, FileName, Outside};
 use grid_base::NoMemory;
 use std::alloc::Global;
 use std::marker::Model;
-
-/// A call, with how many bytes it moved.
-#[derive(Clone, Copy)]
-enum Call {
-    Take(usize),
-    Give(usize),
-    Look,
-}
 
 /// A world in memory. A call fails where its number is one of those that are to fail, and where
 /// memory runs out. Calls are numbered from 1; one that can't be noted for want of memory leaves its
 /// number to the next.
 #[derive(Drop)]
 pub struct MemoryWorld {
-    input: Vec<u8>,
-    taken: usize,
-    output: Vec<u8>,
-    a: Vec<u8>,
-    b: Vec<u8>,
+    log: CallLog,
     failing: Vec<u64>,
-    calls: Vec<Call>,
     source_faults: u64,
     sink_faults: u64,
+    disk_faults: u64,
 }
 
 impl Model for MemoryWorld {
@@ -68,15 +63,11 @@ impl MemoryWorld {
         let mut ascending = failing;
         ascending.sort()?;
         Ok(MemoryWorld {
-            input,
-            taken: 0,
-            output: Vec::new(alloc),
-            a,
-            b,
+            log: CallLog::new(alloc, input, a, b)?,
             failing: ascending,
-            calls: Vec::new(alloc),
             source_faults: 0,
             sink_faults: 0,
+            disk_faults: 0,
         })
     }
 
@@ -84,7 +75,30 @@ impl MemoryWorld {
     pub fn given(&self) -> &[u8]
         ensures given { result.now ≡ (memory_view self.now).given }
     {
-        &self.output
+        self.log.given()
+    }
+
+    /// How many calls there were.
+    pub fn calls(&self) -> u64
+        ensures calls { result ≡ length self.now.log.calls }
+    {
+        self.log.count() as u64
+    }
+}
+
+impl MemoryWorld {
+    /// What a crash after so many calls may leave of the two files, of what is asked for.
+    pub fn images(&self, moment: u64, leave: Leave) -> Result<(Vec<u8>, Vec<u8>), NoMemory>
+        requires past { moment ≤ length self.now.log.calls }
+        ensures left { IfOk result (λ files.
+            (files.0.items ≡ left_by leave (file_then self.now.log moment FileName.A))
+            × (files.1.items ≡ left_by leave (file_then self.now.log moment FileName.B))) }
+        ensures permitted { IfOk result (λ files. MayLeaveAfter (first_of self.now.log)
+            (take moment self.now.log.calls) (crash_at self.now.log moment files.0.items files.1.items)) }
+    {
+        let a = self.log.image(FileName::A, moment as usize, leave)?;
+        let b = self.log.image(FileName::B, moment as usize, leave)?;
+        Ok((a, b))
     }
 }
 
@@ -97,30 +111,36 @@ impl Outside for MemoryWorld {
 
     ghost sink_faults = { λ w. w.sink_faults };
 
-    ghost reads_an_image = { λ w f tells. refl };
+    ghost disk_faults = { λ w. w.disk_faults };
 
-    ghost counts_now = { λ w t m tells early may. left_counts_now (file_of w) w.calls t m early may };
+    ghost reads_an_image = { λ w f tells. reads_an_image_now f (first_of w.log f) w.log.calls };
 
-    ghost only_now = { λ w m tells left. left_only_now (file_of w) w.calls m left };
+    ghost byte_by_byte = { λ w tells. byte_by_byte_now w.log.input (first_of w.log) w.log.calls };
 
-    ghost none_asked = { λ w a tells asked. none_asked_now w.input w.calls a asked };
+    ghost counts_now = { λ w t m tells early may.
+        left_counts_now (first_of w.log) w.log.calls t m early may };
+
+    ghost only_now = { λ w m tells left. left_only_now (first_of w.log) w.log.calls m left };
+
+    ghost none_asked = { λ w a tells asked. none_asked_now w.log.input w.log.calls a asked };
 
     fn take(&mut self, buf: &mut [u8]) -> Result<usize, Failed>
         ensures within { IfOk result (λ n. n ≤ length buf.old) }
         ensures takes { Takes self.old self.new buf.new result }
         ensures later { self.old.source_faults ≤ self.new.source_faults }
-        ensures others { self.new.sink_faults ≡ self.old.sink_faults }
+        ensures others { (self.new.sink_faults ≡ self.old.sink_faults)
+            × (self.new.disk_faults ≡ self.old.disk_faults) }
         ensures source_fault { OnErr result (Rose self.old.source_faults self.new.source_faults) }
         ensures told { Took (memory_view self.old) (memory_view self.new) buf.new result }
     {
         if self.next_fails() {
             // Noted or not, it fails.
-            let _ = self.note_take(0);
+            let _ = self.log.note_take(0);
             self.count_source_fault();
             return Err(Failed);
         }
-        let size = fill(buf, self.left());
-        match self.note_take(size) {
+        let size = fill(buf, self.log.left());
+        match self.log.note_take(size) {
             Ok(()) => Ok(size),
             Err(NoMemory) => {
                 self.count_source_fault();
@@ -134,19 +154,90 @@ impl Outside for MemoryWorld {
         ensures progress { IfOk result (λ n. 0 < length bytes.now → 0 < n) }
         ensures gives { Gives self.old self.new bytes.now result }
         ensures later { self.old.sink_faults ≤ self.new.sink_faults }
-        ensures others { self.new.source_faults ≡ self.old.source_faults }
+        ensures others { (self.new.source_faults ≡ self.old.source_faults)
+            × (self.new.disk_faults ≡ self.old.disk_faults) }
         ensures sink_fault { OnErr result (Rose self.old.sink_faults self.new.sink_faults) }
         ensures told { Gave (memory_view self.old) (memory_view self.new) bytes.now result }
     {
         if self.next_fails() {
-            let _ = self.note_look();
+            let _ = self.log.note_look();
             self.count_sink_fault();
             return Err(Failed);
         }
-        match self.note_give(bytes) {
+        match self.log.note_give(bytes) {
             Ok(()) => Ok(bytes.len()),
             Err(NoMemory) => {
                 self.count_sink_fault();
+                Err(Failed)
+            }
+        }
+    }
+
+    fn size(&mut self, file: FileName) -> Result<u64, Failed>
+        ensures sizes { Sizes self.old self.new file result }
+        ensures later { self.old.disk_faults ≤ self.new.disk_faults }
+        ensures others { (self.new.source_faults ≡ self.old.source_faults)
+            × (self.new.sink_faults ≡ self.old.sink_faults) }
+        ensures disk_fault { OnErr result (Rose self.old.disk_faults self.new.disk_faults) }
+        ensures told { Sized (memory_view self.old) (memory_view self.new) file result }
+    {
+        self.look()?;
+        Ok(self.log.file(file).len() as u64)
+    }
+
+    fn read_at(&mut self, file: FileName, at: u64, buf: &mut [u8]) -> Result<usize, Failed>
+        ensures within { IfOk result (λ n. n ≤ length buf.old) }
+        ensures reads { Reads self.old self.new file at buf.new result }
+        ensures later { self.old.disk_faults ≤ self.new.disk_faults }
+        ensures others { (self.new.source_faults ≡ self.old.source_faults)
+            × (self.new.sink_faults ≡ self.old.sink_faults) }
+        ensures disk_fault { OnErr result (Rose self.old.disk_faults self.new.disk_faults) }
+        ensures told { Read (memory_view self.old) (memory_view self.new) file at buf.new result }
+    {
+        self.look()?;
+        Ok(fill(buf, behind(self.log.file(file), at)))
+    }
+
+    fn write_at(&mut self, file: FileName, at: u64, bytes: &[u8]) -> Result<(), Failed>
+        requires within { at ≤ length ((memory_view self.old).reads file) }
+        ensures writes { Writes self.old self.new file at bytes.now result }
+        ensures later { self.old.disk_faults ≤ self.new.disk_faults }
+        ensures others { (self.new.source_faults ≡ self.old.source_faults)
+            × (self.new.sink_faults ≡ self.old.sink_faults) }
+        ensures disk_fault { OnErr result (Rose self.old.disk_faults self.new.disk_faults) }
+        ensures told { Wrote (memory_view self.old) (memory_view self.new) file at bytes.now result }
+    {
+        if self.next_fails() {
+            let _ = self.log.note_try(file, at, bytes.len());
+            self.count_disk_fault();
+            return Err(Failed);
+        }
+        match self.log.note_write(file, at, bytes) {
+            Ok(()) => Ok(()),
+            Err(NoMemory) => {
+                self.count_disk_fault();
+                Err(Failed)
+            }
+        }
+    }
+
+    fn sync(&mut self, file: FileName) -> Result<(), Failed>
+        ensures syncs { Syncs self.old self.new file result }
+        ensures later { self.old.disk_faults ≤ self.new.disk_faults }
+        ensures others { (self.new.source_faults ≡ self.old.source_faults)
+            × (self.new.sink_faults ≡ self.old.sink_faults) }
+        ensures disk_fault { OnErr result (Rose self.old.disk_faults self.new.disk_faults) }
+        ensures told { Synced (memory_view self.old) (memory_view self.new) file result }
+    {
+        if self.next_fails() {
+            let _ = self.log.note_look();
+            self.count_disk_fault();
+            return Err(Failed);
+        }
+        match self.log.note_sync(file) {
+            Ok(()) => Ok(()),
+            Err(NoMemory) => {
+                self.count_disk_fault();
                 Err(Failed)
             }
         }
@@ -156,48 +247,32 @@ impl Outside for MemoryWorld {
 impl MemoryWorld {
     // Whether the next call is one of those that are to fail.
     fn next_fails(&self) -> bool
-        ensures { result ≡ set.contains self.now.failing (length self.now.calls + 1) }
+        ensures { result ≡ set.contains self.now.failing (length self.now.log.calls + 1) }
     {
-        let number = self.calls.len() as u64 + 1;
+        let number = self.log.count() as u64 + 1;
         self.failing.binary_search(&number).is_ok()
     }
 
-    // The input that is left.
-    fn left(&self) -> &[u8]
-        ensures left { result.now ≡ (memory_view self.now).left }
+    // Notes a call on a file that only asks.
+    fn look(&mut self) -> Result<(), Failed>
+        ensures notes { Notes self.old self.new Looked Looked with_disk_fault result }
+        ensures later { self.old.disk_faults ≤ self.new.disk_faults }
+        ensures others { (self.new.source_faults ≡ self.old.source_faults)
+            × (self.new.sink_faults ≡ self.old.sink_faults) }
+        ensures disk_fault { OnErr result (Rose self.old.disk_faults self.new.disk_faults) }
     {
-        &self.input[self.taken..]
-    }
-
-    // Notes a take of so many bytes.
-    fn note_take(&mut self, size: usize) -> Result<(), NoMemory>
-        requires within { size ≤ length (memory_view self.old).left }
-        ensures ok { OnOk result (self.new ≡ with_call self.old (Taken size)) }
-        ensures err { OnErr result (self.new ≡ self.old) }
-    {
-        self.calls.push(Call::Take(size))?;
-        self.taken += size;
-        Ok(())
-    }
-
-    // Appends these bytes to the output, and notes that.
-    fn note_give(&mut self, bytes: &[u8]) -> Result<(), NoMemory>
-        ensures ok { OnOk result (self.new ≡ with_call self.old (Given bytes.now)) }
-        ensures err { OnErr result (self.new ≡ self.old) }
-    {
-        self.calls.reserve(1)?;
-        self.output.extend_from_slice(bytes)?;
-        self.calls.push(Call::Give(bytes.len())).unwrap();
-        Ok(())
-    }
-
-    // Notes a call of which nothing came.
-    fn note_look(&mut self) -> Result<(), NoMemory>
-        ensures ok { OnOk result (self.new ≡ with_call self.old Looked) }
-        ensures err { OnErr result (self.new ≡ self.old) }
-    {
-        self.calls.push(Call::Look)?;
-        Ok(())
+        if self.next_fails() {
+            let _ = self.log.note_look();
+            self.count_disk_fault();
+            return Err(Failed);
+        }
+        match self.log.note_look() {
+            Ok(()) => Ok(()),
+            Err(NoMemory) => {
+                self.count_disk_fault();
+                Err(Failed)
+            }
+        }
     }
 
     fn count_source_fault(&mut self)
@@ -213,14 +288,11 @@ impl MemoryWorld {
     {
         self.sink_faults = self.sink_faults.saturating_add(1);
     }
-}
 
-// Fills a buffer with the first bytes of a list, as far as both go.
-fn fill(buf: &mut [u8], list: &[u8]) -> usize
-    ensures size { result ≡ min (length buf.old) (length list.now) }
-    ensures bytes { take result buf.new ≡ take result list.now }
-{
-    let size = buf.len().min(list.len());
-    buf[..size].copy_from_slice(&list[..size]);
-    size
+    fn count_disk_fault(&mut self)
+        ensures counted { self.new ≡ with_disk_fault self.old }
+        ensures later { self.old.disk_faults ≤ self.new.disk_faults }
+    {
+        self.disk_faults = self.disk_faults.saturating_add(1);
+    }
 }

@@ -2,10 +2,10 @@
 use Rattle.std.proofs.Common.{◌≡◌, ◌≢◌, ◌↔◌, ℕ, ◌<◌, List, [], ◌∷◌, ◌++◌, get_or, All, Any}
 use Rattle.std.proofs.Common.{Bool, true, false, not, ◌==◌, cond, zero, suc, true≢false}
 use Rattle.std.proofs.Common.{refl, sym, ap, ◌∙◌, subst, inl, inr, arith}
-use Rattle.std.specs.List.{filter, remove}
+use Rattle.std.specs.List.{filter}
 use Rattle.std.proofs.lemmas.Bool.Decides.{nat_tests}
-use Rattle.std.proofs.lemmas.List.{get_or_default}
-use Rattle.std.proofs.lemmas.List.Elements.{All-push, All-filter}
+use Rattle.std.proofs.lemmas.List.{get_or_default, append-nil}
+use Rattle.std.proofs.lemmas.List.Elements.{All-push, All-filter, filter-append}
 use Rattle.std.proofs.lemmas.List.Kept.{AllPairs-filter}
 use Rattle.std.proofs.lemmas.List.Quantifiers.{all_pairs_push}
 use Rattle.grid_base.specs.Point.{GridPoint}
@@ -16,7 +16,7 @@ use Rattle.grid_base.proofs.Elements.{Contains-nil}
 use Rattle.hook_chain.specs.ValidChain.{ValidChain}
 use Rattle.component_registry.specs.Registry.{Holdings, IsSound}
 use Rattle.realm_drawing.specs.declared.shares.Share.{Share}
-use Rattle.realm_drawing.specs.Ids.{IsAscending, LacksId, IsPlaceOf, IsChainOf}
+use Rattle.realm_drawing.specs.Ids.{IsAscending, LacksId, IsChainOf}
 use Rattle.realm_drawing.specs.Chains.{HasValidChain}
 use Rattle.realm_drawing.specs.Kept.{IsKept}
 use Rattle.realm_drawing.specs.Shares.{share_of, Held, HasMore, ListsAlso, IsOfChain}
@@ -131,22 +131,16 @@ pub none_to_remove : (originals : List Original) (id : ℕ) → LacksId original
 none_to_remove originals id lacks =
     all_stay (λ o. not (o.id == id)) originals (λ k d within. (other_id (get_or originals k d).id id).1 (lacks k d within))
 
--- the ids rise, so no other original has the id of the one at place i: it alone goes
-pub without_place : (originals : List Original) → IsAscending originals → (id i : ℕ) → IsPlaceOf originals id i
-    → filter (λ o. not (o.id == id)) originals ≡ remove originals i
-without_place [] rise id i place = absurd (omega (arith, place.within))
-without_place (o ∷ rest) rise id zero place =
-    let goes : not (o.id == id) ≡ false = grind (arith, nat_tests, place.has_id o) in
-    let lacks : LacksId rest id = λ k d within. omega (arith, place.has_id o, rise 0 (suc k) d) in
-    ap (λ b. cond b (o ∷ filter (λ o. not (o.id == id)) rest) (filter (λ o. not (o.id == id)) rest)) goes
-    ∙ none_to_remove rest id lacks
-without_place (o ∷ rest) rise id (suc i) place =
-    let here : IsPlaceOf rest id i = record { within = omega (arith, place.within); has_id = place.has_id } in
-    let later : IsAscending rest = λ k j d before within. rise (suc k) (suc j) d (omega arith) (omega arith) in
-    let other : o.id ≢ id = omega (arith, rise 0 (suc i) o (omega arith) place.within, place.has_id o) in
-    ap (λ b. cond b (o ∷ filter (λ o. not (o.id == id)) rest) (filter (λ o. not (o.id == id)) rest))
-    ((other_id o.id id).1 other)
-    ∙ ap (λ list. o ∷ list) (without_place rest later id i here)
+-- an original that comes last and goes again leaves those that there were
+pub put_and_taken : (originals mid new : List Original) (o : Original) → All (λ p. p.id < o.id) originals
+    → mid ≡ originals ++ o ∷ [] → new ≡ filter (λ p. not (p.id == o.id)) mid → new ≡ originals
+put_and_taken originals mid new o below put taken =
+    let stays = λ (p : Original). not (p.id == o.id) in
+    let gone : stays o ≡ false = grind (arith, nat_tests) in
+    let lacks : LacksId originals o.id = λ k d within. omega (arith, below k d within) in
+    taken ∙ ap (filter stays) put ∙ filter-append stays originals (o ∷ [])
+    ∙ ap (λ left. left ++ filter stays (o ∷ [])) (none_to_remove originals o.id lacks)
+    ∙ ap (λ b. originals ++ cond b (o ∷ []) []) gone ∙ append-nil originals
 
 -- an original that is left had no share that was lost, since the one that goes was alone with its id
 pub kept_without : (points : List GridPoint) (originals : List Original) (old new : Holdings) → IsKept points originals old

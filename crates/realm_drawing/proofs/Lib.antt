@@ -4,8 +4,10 @@ pub mod Elements
 pub mod StraightPieces
 -- the points and the pieces of a drawing with one more straight original
 pub mod Additions
--- a search by id among originals whose ids rise
-pub mod Searches
+-- originals in a map by id
+pub mod ById
+-- a search along the chains of a map of originals
+pub mod ChainSearches
 -- strips along a diagonal
 mod Strips
 -- steep pieces of flat originals

@@ -4,6 +4,8 @@ pub mod Steps
 pub mod Straight
 -- originals by rising id, and the chain that stands for one
 pub mod Ids
+-- originals in a map by id, for this crate's own proofs
+pub mod ById
 -- what every drawing that is kept here is like
 pub mod Kept
 -- drawings whose chains may stand for their originals

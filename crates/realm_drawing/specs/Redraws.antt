@@ -1,5 +1,5 @@
 -- The one or two redrawings of a step. No public clause cites this file.
-use Rattle.std.specs.Prelude.{◌≡◌, ◌≢◌, ◌⊎◌, ◌<◌, ℕ, Option, Some, None, MatchOption, List, length, All, Any, Contains, HoldsAt}
+use Rattle.std.specs.Prelude.{◌≡◌, ◌≢◌, ◌⊎◌, ℕ, Option, Some, None, MatchOption, List, All, Any}
 use Rattle.grid_base.specs.Point.{GridPoint, IsBefore}
 use Rattle.grid_base.specs.Segment.{GridSegment}
 use Rattle.grid_base.specs.Drawing.{HasLink}
@@ -23,12 +23,13 @@ redrawn_by step chain = redrawn_also step.second (redrawn step.first.piece step.
 abbrev pub redrawn_original_by : Redrawings → Original → Original
 redrawn_original_by step o = record o { chain = redrawn_by step o.chain }
 
--- the path may stand for the piece: it leads from its lesser end to its greater, and a chain that may stand for its
--- original still may with the path in it
+-- the path may stand for the piece: it leads from its lesser end to its greater, and a chain that may stand for
+-- its original still may with the path in it
 pub record IsPathFor (r : Redrawing) : Type 0 where
   pub ordered : IsBefore r.piece.a r.piece.b
   pub leads : Leads r.piece.a r.piece.b r.path
-  pub keeps : (o : GridSegment) (chain : List GridPoint) → ValidChain o chain → ValidChain o (redrawn r.piece r.path chain)
+  pub keeps : (o : GridSegment) (chain : List GridPoint) → ValidChain o chain
+      → ValidChain o (redrawn r.piece r.path chain)
 
 -- the two pieces differ, and neither is on the path of the other
 pub record AreApart (first second : Redrawing) : Type 0 where
@@ -49,32 +50,27 @@ IsRedrawn step s = (s ≡ step.first.piece) ⊎ MatchOption step.second ⊥ (λ 
 abbrev pub Becomes : List GridPoint → List GridPoint → Option (List GridPoint) → Type 0
 Becomes chain after found = MatchOption found (after ≡ chain) (λ new. new ≡ after)
 
--- r has the chain with the paths of the step for the original at its place
-pub record IsReplacement (step : Redrawings) (originals : List Original) (r : Replacement) : Type 0 where
-  pub within : r.place < length originals
-  pub chain : HoldsAt (λ o. r.chain ≡ redrawn_by step o.chain) originals r.place
+-- r has the chain with the paths of the step for the original with its id
+abbrev pub IsReplacement : Redrawings → List Original → Replacement → Type 0
+IsReplacement step originals r = All (λ o. o.id ≡ r.id → r.chain ≡ redrawn_by step o.chain) originals
 
--- there is a replacement for place i
+-- there is a replacement for the id
 abbrev pub HasReplacement : List Replacement → ℕ → Type 0
-HasReplacement list i = Any (λ r. r.place ≡ i) list
+HasReplacement list id = Any (λ r. r.id ≡ id) list
 
--- there is one for place i, or the chain of the original there stays
-abbrev pub IsReplacedAt : Redrawings → List Original → List Replacement → ℕ → Type 0
-IsReplacedAt step originals list i =
-    HasReplacement list i ⊎ HoldsAt (λ o. redrawn_by step o.chain ≡ o.chain) originals i
+-- there is one for the original, or its chain stays
+abbrev pub IsReplaced : Redrawings → List Replacement → Original → Type 0
+IsReplaced step list o = HasReplacement list o.id ⊎ (redrawn_by step o.chain ≡ o.chain)
 
 -- the list has replacements alone, and one for each original whose chain is to change
-pub record AreReplacements (step : Redrawings) (originals : List Original) (list : List Replacement) : Type 0 where
-  pub each : All (IsReplacement step originals) list
-  pub all : (i : ℕ) → i < length originals → IsReplacedAt step originals list i
-
--- the list has replacements alone, those it had, and those for the places that are wanted
-pub record AddsReplacements (step : Redrawings) (originals : List Original) (Wanted : ℕ → Type 0) (old new : List Replacement)
+pub record AreReplacements (step : Redrawings) (originals : List Original) (list : List Replacement)
     : Type 0 where
-  pub each : All (IsReplacement step originals) old → All (IsReplacement step originals) new
-  pub stay : (i : ℕ) → HasReplacement old i → HasReplacement new i
-  pub wanted : (i : ℕ) → i < length originals → Wanted i → IsReplacedAt step originals new i
+  pub each : All (IsReplacement step originals) list
+  pub all : All (IsReplaced step list) originals
 
--- the original at place i has one of these ids
-abbrev pub HasOwner : List Original → List ℕ → ℕ → Type 0
-HasOwner originals ids i = HoldsAt (λ o. Contains ids o.id) originals i
+-- the list has replacements alone, those it had, and those for the ids that are wanted
+pub record AddsReplacements (step : Redrawings) (originals : List Original) (Wanted : ℕ → Type 0)
+    (old new : List Replacement) : Type 0 where
+  pub each : All (IsReplacement step originals) old → All (IsReplacement step originals) new
+  pub stay : (id : ℕ) → HasReplacement old id → HasReplacement new id
+  pub wanted : All (λ o. Wanted o.id → IsReplaced step new o) originals

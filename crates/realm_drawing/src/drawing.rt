@@ -1,4 +1,4 @@
-//! The drawing: its explicit points in a set, its originals in a list by rising id, and a registry that knows which
+//! The drawing: its explicit points in a set, its originals in a map by id, and a registry that knows which
 //! originals own each piece. A call that takes memory takes it all before it changes anything.
 ghost use Rattle.std.specs.Prelude.{◌≡◌, ◌⊎◌, ◌↔◌, ℕ, false, IsTrue, All, AllPairs, Contains, Some, Err};
 ghost use Rattle.std.specs.Prelude.{OnOk, OnErr, IfOk, IsNone, IsSome, IfSome};
@@ -11,7 +11,8 @@ ghost use Rattle.realm_drawing.specs.Steps.{Permitted};
 ghost use Rattle.realm_drawing.specs.Straight.{placed, AllBelow};
 ghost use Rattle.realm_drawing.specs.Ids.{IsAscending, LacksId, IsChainOf};
 ghost use Rattle.realm_drawing.specs.Chains.{IsSomeChain, AllStand};
-ghost use Rattle.realm_drawing.specs.Keyed.{empty_drawing, HasKey, KeepsKeys, AddsPoint, TakesPoint, AreKeyed};
+ghost use Rattle.realm_drawing.specs.Keyed.{empty_drawing, HasKey, KeepsKeys, AreKeyed};
+ghost use Rattle.realm_drawing.specs.Keyed.{AddsPoint, TakesPoint};
 ghost use Rattle.realm_drawing.specs.Mending.{IsPermitted, IsMending, HasParts};
 ghost use Rattle.realm_drawing.specs.Draws.{DrawsAnew};
 ghost use Rattle.realm_drawing.specs.Changed.{PlacesChain, with_chain, without_id};
@@ -21,28 +22,29 @@ ghost use Rattle.realm_drawing.specs.declared.errors.StepError.TheVariants.{NotP
 use crate::courses::original_of;
 use crate::errors::{ChainError, StepError};
 use crate::explicit::ExplicitPoints;
-use crate::ids::place_of;
 use crate::keyed::KeyedPiece;
 use crate::leaving::drop_chain;
 use crate::mending::{is_mending, redrawings_of};
+use crate::originals::Originals;
 use crate::redrawing::put_paths;
 use crate::shares::{add_shares, chain_shares};
 use crate::violations::first_violation;
 use component_registry::Registry;
-use grid_base::{Chain, NoMemory, Original, Point, Segment, Step};
+use grid_base::{Chain, NoMemory, Point, Segment, Step};
 use std::alloc::Global;
 use std::marker::Model;
 
-/// Explicit points, and originals by rising id, each with the chain that stands for it. Contracts see them as lists,
-/// beside the list of the pieces with their keys.
+/// Explicit points, and originals by rising id, each with the chain that stands for it. Contracts see them as
+/// lists, beside the list of the pieces with their keys.
 ///
-/// Each chain stands for its original at any time: it leads from the lesser end to the greater, is monotone in both
-/// coordinates, and each of its links is close to the original or one of the two of a corner.
+/// Each chain stands for its original at any time: it leads from the lesser end to the greater, is monotone in
+/// both coordinates, and each of its links is close to the original or one of the two of a corner.
 #[derive(Drop)]
 pub struct Drawing {
     explicit: ExplicitPoints,
-    originals: Vec<Original>,
+    originals: Originals,
     registry: Registry,
+    alloc: Global,
 }
 
 impl Model for Drawing {
@@ -51,9 +53,9 @@ impl Model for Drawing {
 
     ghost Value = { KeyedDrawing };
 
-    ghost view = { λ d. drawn d.explicit d.originals.items d.registry };
+    ghost view = { λ d. drawn d.explicit d.originals d.registry };
 
-    ghost invariant = { λ d. IsKept d.explicit d.originals.items d.registry };
+    ghost invariant = { λ d. IsKept d.explicit d.originals d.registry };
 }
 
 impl Drawing {
@@ -63,8 +65,9 @@ impl Drawing {
     {
         Drawing {
             explicit: ExplicitPoints::new(alloc),
-            originals: Vec::new(alloc),
+            originals: Originals::new(alloc),
             registry: Registry::new(alloc),
+            alloc,
         }
     }
 
@@ -108,9 +111,7 @@ impl Drawing {
         ensures keys { KeepsKeys self.old self.new }
         ensures unchanged { OnErr result (self.new ≡ self.old) }
     {
-        let mut ends = Vec::new(*self.originals.allocator());
-        ends.push(s.a())?;
-        ends.push(s.b())?;
+        let ends = vec![in self.alloc; s.a(), s.b()]?;
         self.place_valid(id, s, ends)
     }
 
@@ -122,7 +123,7 @@ impl Drawing {
         ensures keys { KeepsKeys self.old self.new }
         ensures unchanged { OnErr result (self.new ≡ self.old) }
     {
-        let alloc = *self.originals.allocator();
+        let alloc = self.alloc;
         let Some(s) = original_of(points) else {
             return Err(ChainError::NotAChain);
         };
@@ -139,33 +140,35 @@ impl Drawing {
         ensures keys { KeepsKeys self.old self.new }
         ensures unchanged { OnErr result (self.new ≡ self.old) }
     {
-        let alloc = *self.originals.allocator();
-        self.originals.reserve(1)?;
-        let mut shares = Vec::new(alloc);
+        let mut shares = Vec::new(self.alloc);
         chain_shares(id, &points, &mut shares)?;
-        add_shares(alloc, &mut self.registry, &shares)?;
-        let (a, b) = (s.a(), s.b());
-        let chain = Chain::new(points);
-        self.originals.push_reserved(Original { id, a, b, chain });
-        Ok(())
+        self.originals.put(id, s, Chain::new(points))?;
+        match add_shares(self.alloc, &mut self.registry, &shares) {
+            Ok(_) => Ok(()),
+            Err(NoMemory) => {
+                self.originals.take(id);
+                Err(NoMemory)
+            }
+        }
     }
 
-    /// Takes out the original with this id, and says whether there was one. A piece that no other original has goes.
+    /// Takes out the original with this id, and says whether there was one. A piece that no other original has
+    /// goes.
     pub fn remove(&mut self, id: u32) -> bool
         ensures found { IsTrue result ↔ (LacksId self.old.drawing.originals id → ⊥) }
         ensures removed { self.new.drawing ≡ without_id self.old.drawing id }
         ensures keys { KeepsKeys self.old self.new }
     {
-        let Some(place) = place_of(&self.originals, id) else {
+        let Some(points) = self.originals.chain(id) else {
             return false;
         };
-        drop_chain(&mut self.registry, id, self.originals[place].chain.points());
-        self.originals.remove(place);
+        drop_chain(&mut self.registry, id, points);
+        self.originals.take(id);
         true
     }
 
-    /// Takes a step where it is permitted: in each chain that has a piece of the step, the path of the step stands for
-    /// the piece from then on.
+    /// Takes a step where it is permitted: in each chain that has a piece of the step, the path of the step stands
+    /// for the piece from then on.
     pub fn apply(&mut self, step: &Step) -> Result<(), StepError>
         ensures ok { OnOk result (Permitted self.old.drawing step.now self.new.drawing) }
         ensures not_permitted { (result ≡ Err NotPermitted)
@@ -206,9 +209,13 @@ impl Drawing {
         ensures keys { KeepsKeys self.old self.new }
         ensures unchanged { OnErr result (self.new ≡ self.old) }
     {
-        let alloc = *self.originals.allocator();
-        let redrawings = redrawings_of(alloc, step)?;
-        put_paths(alloc, &mut self.originals, &mut self.registry, &redrawings)
+        let redrawings = redrawings_of(self.alloc, step)?;
+        put_paths(
+            self.alloc,
+            &mut self.originals,
+            &mut self.registry,
+            &redrawings,
+        )
     }
 
     // What is true of a drawing at any time.
@@ -262,8 +269,7 @@ impl Drawing {
         ensures stand { AllStand self.now.drawing }
         ensures rising { IsAscending self.now.drawing.originals }
     {
-        let place = place_of(&self.originals, id)?;
-        Some(self.originals[place].chain.points())
+        self.originals.chain(id)
     }
 
     /// Whether `p` is a point of the drawing: explicit, or a vertex of some chain.
@@ -315,8 +321,8 @@ impl Drawing {
         self.explicit.first_inside(s)
     }
 
-    /// A step that mends a violation, and may be taken; none where there is no violation. Takes no memory, and compares
-    /// every piece with every other.
+    /// A step that mends a violation, and may be taken; none where there is no violation. Takes no memory, and
+    /// compares every piece with every other.
     pub fn first_violation(&self) -> Option<Step>
         ensures none { IsNone result ↔ (HasViolation self.now.drawing → ⊥) }
         ensures permitted { IfSome result (IsPermitted self.now.drawing) }
@@ -340,7 +346,8 @@ impl Drawing {
     /// All pieces, ascending.
     pub fn pieces(&self) -> Result<Vec<Segment>, NoMemory>
         ensures ascending { IfOk result (λ v. AllPairs IsSegmentBefore v.items) }
-        ensures exact { IfOk result (λ v. (t : GridSegment) → Contains v.items t ↔ IsPiece self.now.drawing t) }
+        ensures exact { IfOk result
+            (λ v. (t : GridSegment) → Contains v.items t ↔ IsPiece self.now.drawing t) }
     {
         self.registry.pieces()
     }

@@ -6,11 +6,11 @@ mod courses;
 mod drawing;
 mod errors;
 mod explicit;
-mod ids;
 mod keyed;
 mod laws;
 mod leaving;
 mod mending;
+mod originals;
 mod passages;
 #[cfg(test)]
 mod plain_tests;

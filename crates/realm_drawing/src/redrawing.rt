@@ -1,22 +1,21 @@
 //! The paths of a step, put in the place of its pieces in every chain that has them.
-ghost use Rattle.std.specs.Prelude.{◌≡◌, ◌<◌, IfOk, OnOk, OnErr, All, HoldsAt, length, map};
+ghost use Rattle.std.specs.Prelude.{◌≡◌, IfOk, OnOk, OnErr, All, Contains, map};
 ghost use Rattle.component_registry.specs.Registry.{owners_of};
-ghost use Rattle.realm_drawing.specs.Ids.{IsAscending};
 ghost use Rattle.realm_drawing.specs.Chains.{HasValidChain, IsSomeChain};
 ghost use Rattle.realm_drawing.specs.Kept.{AreKept};
 ghost use Rattle.realm_drawing.specs.Redraws.{redrawn_by, redrawn_original_by, Becomes, AreRedrawings};
-ghost use Rattle.realm_drawing.specs.Redraws.{AreReplacements, AddsReplacements, HasOwner};
+ghost use Rattle.realm_drawing.specs.Redraws.{AreReplacements, AddsReplacements};
 ghost use Rattle.realm_drawing.specs.Shares.{KeepsKeys, ListsAlso, IsGained, IsLost};
 ghost use Rattle.realm_drawing.specs.Fresh.{ListsFresh};
 ghost use Rattle.realm_drawing.specs.StepShares.{Lists, IsGainedBy, IsLostBy};
 
-use crate::ids::place_of;
 use crate::keyed::KeyedPiece;
+use crate::originals::Originals;
 use crate::passages::with_path;
 use crate::shares;
 use crate::shares::{Share, add_shares, drop_shares, gained, lost};
 use component_registry::Registry;
-use grid_base::{Chain, NoMemory, Original, Point, Segment};
+use grid_base::{Chain, NoMemory, Point, Segment};
 use std::alloc::Global;
 
 /// A piece, and the path that is to stand in its place, from its lesser end to its greater.
@@ -33,10 +32,10 @@ pub(crate) struct Redrawings {
     pub(crate) second: Option<Redrawing>,
 }
 
-/// A chain that is to stand for the original at this place of the list.
+/// A chain that is to stand for the original with this id.
 #[derive(Drop)]
 pub(crate) struct Replacement {
-    place: usize,
+    id: u32,
     chain: Chain,
 }
 
@@ -48,22 +47,22 @@ struct Plan {
     less: Vec<Share>,
 }
 
-// Puts the paths of the step in the place of its pieces, in every chain that has them, and the registry after it. The
-// answer is the pieces that are new, each with its key. All memory is taken before the first change that stays.
+// Puts the paths of the step in the place of its pieces, in every chain that has them, and the registry after it.
+// The answer is the pieces that are new, each with its key. All memory is taken before the first change that stays.
 pub(crate) fn put_paths(
     alloc: Global,
-    originals: &mut Vec<Original>,
+    originals: &mut Originals,
     registry: &mut Registry,
     step: &Redrawings,
 ) -> Result<Vec<KeyedPiece>, NoMemory>
-    requires kept { AreKept originals.old.items registry.old }
+    requires kept { AreKept originals.old registry.old }
     requires step { AreRedrawings step.now }
-    ensures ok { OnOk result (originals.new.items ≡ map (redrawn_original_by step.now) originals.old.items) }
+    ensures ok { OnOk result (originals.new ≡ map (redrawn_original_by step.now) originals.old) }
     ensures fresh { IfOk result (λ list. ListsFresh registry.old registry.new list.items) }
-    ensures kept { AreKept originals.new.items registry.new }
+    ensures kept { AreKept originals.new registry.new }
     ensures keys { KeepsKeys registry.old registry.new }
     ensures unchanged { OnErr result
-        ((originals.new.items ≡ originals.old.items) × (registry.new ≡ registry.old)) }
+        ((originals.new ≡ originals.old) × (registry.new ≡ registry.old)) }
 {
     let plan = plan_of(alloc, originals, registry, step)?;
     let fresh = add_shares(alloc, registry, plan.more.as_slice())?;
@@ -75,7 +74,7 @@ pub(crate) fn put_paths(
 // What the step changes.
 fn plan_of(
     alloc: Global,
-    originals: &[Original],
+    originals: &Originals,
     registry: &Registry,
     step: &Redrawings,
 ) -> Result<Plan, NoMemory>
@@ -100,17 +99,16 @@ fn plan_of(
 // What one redrawing of the step changes, for the owners of its piece.
 fn plan_one(
     alloc: Global,
-    originals: &[Original],
+    originals: &Originals,
     registry: &Registry,
     one: &Redrawing,
     step: &Redrawings,
     plan: &mut Plan,
 ) -> Result<(), NoMemory>
-    requires rising { IsAscending originals.now }
     requires valid { All HasValidChain originals.now }
     requires step { AreRedrawings step.now }
     ensures chains { OnOk result (AddsReplacements step.now originals.now
-        (HasOwner originals.now (owners_of registry.now one.now.piece)) plan.old.chains.items plan.new.chains.items) }
+        (Contains (owners_of registry.now one.now.piece)) plan.old.chains.items plan.new.chains.items) }
     ensures more { OnOk result (ListsAlso plan.old.more.items plan.new.more.items
         (IsGained registry.now (owners_of registry.now one.now.piece) one.now.path)) }
     ensures less { OnOk result (ListsAlso plan.old.less.items plan.new.less.items
@@ -126,16 +124,15 @@ fn plan_one(
 // Adds the new chains of the owners.
 fn replace_owners(
     alloc: Global,
-    originals: &[Original],
+    originals: &Originals,
     owners: &[u32],
     step: &Redrawings,
     list: &mut Vec<Replacement>,
 ) -> Result<(), NoMemory>
-    requires rising { IsAscending originals.now }
     requires valid { All HasValidChain originals.now }
     requires step { AreRedrawings step.now }
     ensures { OnOk result (AddsReplacements step.now originals.now
-        (HasOwner originals.now owners.now) list.old.items list.new.items) }
+        (Contains owners.now) list.old.items list.new.items) }
 {
     for id in owners {
         replace_owner(alloc, originals, *id, step, list)?;
@@ -143,42 +140,24 @@ fn replace_owners(
     Ok(())
 }
 
-// Adds the new chain of the original with this id.
+// Adds the new chain of the original with this id, unless the chain stays.
 fn replace_owner(
     alloc: Global,
-    originals: &[Original],
+    originals: &Originals,
     id: u32,
     step: &Redrawings,
     list: &mut Vec<Replacement>,
 ) -> Result<(), NoMemory>
-    requires rising { IsAscending originals.now }
     requires valid { All HasValidChain originals.now }
     requires step { AreRedrawings step.now }
-    ensures { OnOk result (AddsReplacements step.now originals.now
-        (λ i. HoldsAt (λ o. o.id ≡ id) originals.now i) list.old.items list.new.items) }
-{
-    match place_of(originals, id) {
-        Some(place) => replace_at(alloc, originals, place, step, list),
-        None => Ok(()),
-    }
-}
-
-// Adds the new chain of the original at this place, unless it stays.
-fn replace_at(
-    alloc: Global,
-    originals: &[Original],
-    place: usize,
-    step: &Redrawings,
-    list: &mut Vec<Replacement>,
-) -> Result<(), NoMemory>
-    requires valid { All HasValidChain originals.now }
-    requires step { AreRedrawings step.now }
-    requires within { place < length originals.now }
     ensures { OnOk result
-        (AddsReplacements step.now originals.now (λ i. i ≡ place) list.old.items list.new.items) }
+        (AddsReplacements step.now originals.now (λ x. x ≡ id) list.old.items list.new.items) }
 {
-    if let Some(chain) = redrawn(alloc, originals[place].chain.points(), step)? {
-        list.push(Replacement { place, chain })?;
+    let Some(points) = originals.chain(id) else {
+        return Ok(());
+    };
+    if let Some(chain) = redrawn(alloc, points, step)? {
+        list.push(Replacement { id, chain })?;
     }
     Ok(())
 }
@@ -201,11 +180,11 @@ fn redrawn(alloc: Global, points: &[Point], step: &Redrawings) -> Result<Option<
 }
 
 // Puts the new chains in the place of the old ones.
-fn install(originals: &mut Vec<Original>, step: &Redrawings, list: Vec<Replacement>)
-    requires { AreReplacements step.now originals.old.items list.items }
-    ensures { originals.new.items ≡ map (redrawn_original_by step.now) originals.old.items }
+fn install(originals: &mut Originals, step: &Redrawings, list: Vec<Replacement>)
+    requires { AreReplacements step.now originals.old list.items }
+    ensures { originals.new ≡ map (redrawn_original_by step.now) originals.old }
 {
     for replacement in list {
-        originals[replacement.place].chain = replacement.chain;
+        originals.rechain(replacement.id, replacement.chain);
     }
 }

@@ -10,15 +10,16 @@ ghost use Rattle.realm_drawing.specs.Found.{IsViolated, MendsPiece};
 
 use crate::explicit::ExplicitPoints;
 use crate::mending::crossing_step;
-use grid_base::{Original, Point, Segment, Step, in_side};
+use crate::originals::Originals;
+use grid_base::{Point, Segment, Step, in_side};
 
 // A step that mends a violation, and may be taken; none where there is no violation.
-pub(crate) fn first_violation(explicit: &ExplicitPoints, originals: &[Original]) -> Option<Step>
+pub(crate) fn first_violation(explicit: &ExplicitPoints, originals: &Originals) -> Option<Step>
     ensures none { IsNone result ↔ (HasViolation (drawing_of explicit.now originals.now) → ⊥) }
     ensures permitted { IfSome result (IsPermitted (drawing_of explicit.now originals.now)) }
 {
-    for original in originals {
-        if let Some(step) = violation_along(explicit, originals, original.chain.points()) {
+    for placed in originals.placed() {
+        if let Some(step) = violation_along(explicit, originals, placed.chain.points()) {
             return Some(step);
         }
     }
@@ -28,7 +29,7 @@ pub(crate) fn first_violation(explicit: &ExplicitPoints, originals: &[Original])
 // The step for a violation of a link of the chain.
 fn violation_along(
     explicit: &ExplicitPoints,
-    originals: &[Original],
+    originals: &Originals,
     chain: &[Point],
 ) -> Option<Step>
     ensures { MatchOption result (NoLink (IsViolated (drawing_of explicit.now originals.now)) chain.now)
@@ -45,7 +46,7 @@ fn violation_along(
 // The step for a violation of the link between `v` and `w`.
 fn violation_between(
     explicit: &ExplicitPoints,
-    originals: &[Original],
+    originals: &Originals,
     v: &Point,
     w: &Point,
 ) -> Option<Step>
@@ -59,7 +60,7 @@ fn violation_between(
 
 // The step for a violation of `t`, if `t` is a piece: for a point inside it, or else for a piece
 // that crosses it.
-fn violation_of(explicit: &ExplicitPoints, originals: &[Original], t: &Segment) -> Option<Step>
+fn violation_of(explicit: &ExplicitPoints, originals: &Originals, t: &Segment) -> Option<Step>
     ensures { MatchOption result (IsViolated (drawing_of explicit.now originals.now) t.now → ⊥)
         (MendsPiece (drawing_of explicit.now originals.now) t.now) }
 {
@@ -70,7 +71,7 @@ fn violation_of(explicit: &ExplicitPoints, originals: &[Original], t: &Segment) 
 }
 
 // A point of the drawing that is inside `t`.
-fn point_inside(explicit: &ExplicitPoints, originals: &[Original], t: &Segment) -> Option<Point>
+fn point_inside(explicit: &ExplicitPoints, originals: &Originals, t: &Segment) -> Option<Point>
     ensures { MatchOption result
         ((p : GridPoint) → IsPoint (drawing_of explicit.now originals.now) p → Inside p t.now → ⊥)
         (λ p. IsPoint (drawing_of explicit.now originals.now) p × Inside p t.now) }
@@ -82,13 +83,16 @@ fn point_inside(explicit: &ExplicitPoints, originals: &[Original], t: &Segment) 
 }
 
 // A vertex of some chain that is inside `t`.
-fn vertex_inside(originals: &[Original], t: &Segment) -> Option<Point>
+fn vertex_inside(originals: &Originals, t: &Segment) -> Option<Point>
     ensures { MatchOption result (All (λ o. All (λ p. Inside p t.now → ⊥) o.chain) originals.now)
         (λ p. Inside p t.now × Any (λ o. Contains o.chain p) originals.now) }
 {
-    originals
-        .iter()
-        .find_map(|o| vertex_along(o.chain.points(), t))
+    for placed in originals.placed() {
+        if let Some(p) = vertex_along(placed.chain.points(), t) {
+            return Some(p);
+        }
+    }
+    None
 }
 
 // A vertex of the chain that is inside `t`.
@@ -100,13 +104,16 @@ fn vertex_along(chain: &[Point], t: &Segment) -> Option<Point>
 }
 
 // The step for the crossing of `t` and a piece.
-fn crossing_of(originals: &[Original], t: &Segment) -> Option<Step>
+fn crossing_of(originals: &Originals, t: &Segment) -> Option<Step>
     ensures { MatchOption result (All (λ o. NoLink (Cross t.now) o.chain) originals.now)
         (λ step. Any (λ o. SomeLink (λ u. MendsCrossing t.now u step) o.chain) originals.now) }
 {
-    originals
-        .iter()
-        .find_map(|o| crossing_along(o.chain.points(), t))
+    for placed in originals.placed() {
+        if let Some(step) = crossing_along(placed.chain.points(), t) {
+            return Some(step);
+        }
+    }
+    None
 }
 
 // The step for the crossing of `t` and a link of the chain.

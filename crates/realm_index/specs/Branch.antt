@@ -1,5 +1,6 @@
 -- Trees of squares, as clauses see them. No public clause cites this file.
-use Rattle.std.specs.Prelude.{◌≡◌, ℕ, ◌+◌, ◌<◌, ◌≤◌, List, [], ◌∷◌, ◌++◌, IsTrue, All, Bool, cond, nat_lt, length, get_or}
+use Rattle.std.specs.Prelude.{◌≡◌, ℕ, ◌+◌, ◌<◌, ◌≤◌, List, [], ◌∷◌, ◌++◌, IsTrue, All, Bool, cond}
+use Rattle.std.specs.Prelude.{nat_lt, length, get_or}
 use Rattle.std.specs.List.{sum_by}
 use Rattle.std.proofs.Common.{arith}
 use Rattle.std.proofs.lemmas.List.Elements.{All-head, All-tail}

@@ -1,6 +1,6 @@
 //! A tree of squares: each has the entries whose home it is, and the quarters that have entries below it.
-ghost use Rattle.std.specs.Prelude.{◌≡◌, ◌+◌, ◌<◌, ◌≤◌, ℕ, [], IsTrue, false, All, length, get_or};
-ghost use Rattle.std.specs.Prelude.{OnOk, IfOk, MatchOption, MatchResult};
+ghost use Rattle.std.specs.Prelude.{◌≡◌, ◌+◌, ◌<◌, ◌≤◌, ◌++◌, ◌∷◌, ℕ, [], IsTrue, false, All, length, get_or};
+ghost use Rattle.std.specs.Prelude.{OnOk, OnErr, IfOk, MatchOption, MatchResult};
 ghost use Rattle.std.specs.Bool.{OnTrue, OnFalse};
 ghost use Rattle.realm_index.specs.Bounds.{holds};
 ghost use Rattle.realm_index.specs.declared.tree.Entry.{Entry as Item};
@@ -73,7 +73,7 @@ impl Tree {
             (λ _. HasSame self.old.entries self.new.entries) }
     {
         let Some(part) = self.square.part_for(&entry.bounds) else {
-            self.own.push(entry)?;
+            add_own(&mut self.own, entry)?;
             return Ok(());
         };
         let alloc = *self.own.allocator();
@@ -158,6 +158,19 @@ fn drop_bare(parts: &mut Vec<Tree>, place: usize)
     }
 }
 
+// Adds an entry to the list. A full list gets room for half as many more: most lists are short, and stay so.
+fn add_own(own: &mut Vec<Entry>, entry: Entry) -> Result<(), NoMemory>
+    ensures added { OnOk result (own.new.items ≡ own.old.items ++ entry ∷ []) }
+    ensures unchanged { OnErr result (own.new.items ≡ own.old.items) }
+{
+    let room = own.capacity() - own.len();
+    if room == 0 {
+        own.reserve_exact(own.len() / 2 + 1)?;
+    }
+    own.push(entry)?;
+    Ok(())
+}
+
 // Takes an entry out of the list, and says whether it was there.
 fn take_own(own: &mut Vec<Entry>, entry: &Entry) -> bool
     ensures taken { OnTrue result (HasMore own.new.items own.old.items entry.now) }
@@ -192,6 +205,7 @@ fn find_among<L: Ledger>(
     ensures steps { MatchResult result
         (λ _. steps.new ≡ steps.old + length own.now) (λ _. steps.new ≤ steps.old + length own.now) }
 {
+    let near = *near;
     for entry in own {
         steps.tick();
         if near.meets(&entry.bounds) {
@@ -217,6 +231,7 @@ fn place_for(
         return Ok(place);
     }
     let place = parts.len();
+    parts.reserve_exact(1)?;
     parts.push(Tree::new(alloc, part))?;
     Ok(place)
 }

@@ -1,11 +1,10 @@
 -- This file shows which violations the pieces that are still to be looked at cover.
-use Rattle.std.proofs.Common.{◌≡◌, ◌⊎◌, ◌-◌, Option, Some, None, List, [], ◌∷◌, ◌++◌, length, map, Any, Contains, inl, inr}
+use Rattle.std.proofs.Common.{◌≡◌, ◌⊎◌, ◌-◌, Option, Some, None, List, [], ◌∷◌, ◌++◌, length, map, Contains, inl, inr}
 use Rattle.std.proofs.Common.{refl, ap, subst, sym, ◌∙◌, arith}
 use Rattle.std.specs.Option.{option_to_list}
 use Rattle.std.specs.List.{slice_get}
 use Rattle.std.proofs.lemmas.Option.{slice_get_cases}
 use Rattle.std.proofs.lemmas.List.Elements.{Contains-append_left, Contains-append_right, Contains-push_cases}
-use Rattle.grid_base.specs.Point.{GridPoint}
 use Rattle.grid_base.specs.Segment.{GridSegment, IsEnd}
 use Rattle.grid_base.specs.Crossing.{Inside, Cross}
 use Rattle.grid_base.specs.Realm.{PointInside, TwoCross}
@@ -19,10 +18,6 @@ use Rattle.realm_drawing.specs.declared.keyed.KeyedPiece.{KeyedPiece}
 use Rattle.realm_drawing.proofs.Elements.{Any-nil, Any-single, Any-append_cases, Any-append_left, Any-append_right}
 use Rattle.realm_drawing.proofs.Elements.{Any-map, Contains-map}
 use Rattle.realm_insert.specs.Work.{IsCoveredBy, IsClean}
-
--- p is an end of some piece of the list
-abbrev HasEnd : GridPoint → List GridSegment → Type 0
-HasEnd p list = Any (λ s. IsEnd p s) list
 
 -- ---- after a step
 -- A violation with a piece that wasn't there has a piece that the step draws anew, and one with a point that wasn't there

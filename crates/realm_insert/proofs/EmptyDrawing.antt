@@ -13,6 +13,10 @@ use Rattle.realm_drawing.specs.Keyed.{KeyedDrawing, empty_drawing, keyed}
 use Rattle.realm_drawing.proofs.Elements.{Any-nil}
 use Rattle.realm_index.specs.Index.{Entries}
 use Rattle.realm_insert.specs.Kept.{IsAtRest, IsSettled}
+use Rattle.line_grammar.specs.Spellable.{IsName}
+use Rattle.value_table.specs.Table.{NamedValues}
+use Rattle.value_geometry.specs.Parts.{HasParts}
+use Rattle.realm_insert.specs.Values.{AreValuesOf}
 use Rattle.realm_insert.specs.State.{KeptTrace, HasIdsBelow, AreLatest}
 
 -- nothing is drawn, so nothing is violated
@@ -40,10 +44,12 @@ empty_at_rest index is = record {
 }
 
 -- so an engine may begin with it
-pub empty_is_settled : (d : KeyedDrawing) (index : Entries) (traces : List KeptTrace) → d ≡ empty_drawing
-    → index ≡ map.empty → traces ≡ [] → IsSettled d index 1 0 traces
-empty_is_settled d index traces is_d is_index is_traces = record {
+pub empty_is_settled : (d : KeyedDrawing) (index : Entries) (values : NamedValues) (traces : List KeptTrace) → d ≡ empty_drawing
+    → index ≡ map.empty → values ≡ [] → traces ≡ [] → IsSettled d index values 1 0 traces
+empty_is_settled d index values traces is_d is_index is_values is_traces = record {
   rest = subst (λ (e : KeyedDrawing). IsAtRest e index) (sym is_d) (empty_at_rest index is_index);
+  values_fit = subst (AreValuesOf d.drawing) (sym is_values)
+      (All-nil (λ entry. IsName entry.0 × HasParts d.drawing entry.1.kind entry.1.parts));
   ids = subst (λ (e : KeyedDrawing). HasIdsBelow 1 e.drawing) (sym is_d)
       (All-nil (λ (o : Original). (1 ≤ o.id) × (o.id < 1)));
   first_id = omega arith;

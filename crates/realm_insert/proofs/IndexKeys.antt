@@ -1,6 +1,6 @@
 -- This file shows what an index answers once a key is taken out or put in.
 use Rattle.std.proofs.Common.{◌≡◌, ◌≢◌, ◌↔◌, ℕ, Bool, true, false, IsTrue, IsSome, is_some, Option, Some, None, cond}
-use Rattle.std.proofs.Common.{refl, sym, ap, subst, ◌∙◌, eq-eqb, true≢false}
+use Rattle.std.proofs.Common.{refl, sym, ap, ◌∙◌, eq-eqb, true≢false}
 use Rattle.std.specs.Bool.{OnTrue, OnFalse}
 use Rattle.std.specs.Cmp.{unsigned_tied}
 use Rattle.std.specs.FinMap as map

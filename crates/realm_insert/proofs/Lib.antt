@@ -22,11 +22,37 @@ pub mod Covering
 pub mod IndexAfter
 -- steps one after the other
 pub mod StepsTaken
+-- where a trace fails that is taken step by step
+pub mod FailedTraces
+-- that a change leads to one state by one trace
+pub mod SameStates
 -- a drawing with one more straight original
 pub mod PlacedOriginals
 -- a drawing with one more explicit point
 pub mod MarkedPoints
--- the latest traces
-pub mod LatestTraces
 -- the empty drawing, with which an engine begins
 pub mod EmptyDrawing
+-- places that stand next to each other on a path
+pub mod Neighbours
+-- causes of refusals, part by part
+pub mod FirstCauses
+-- places to draw between
+pub mod Drawable
+-- straight originals and explicit points that are placed
+pub mod PlacedLists
+-- an original less, and a point less
+pub mod RemovedOriginals
+-- links of a chain that is read from its front
+pub mod NotedLinks
+-- drawings that a change has become, before the first step
+pub mod PreparedChanges
+-- ids in a row
+pub mod RisingIds
+-- values after each part of a change
+pub mod KeptValues
+-- segments round cycles
+pub mod EvenCycles
+-- values that were there, after a change
+pub mod ChangedValues
+-- the value that a change defines
+pub mod NewValues

@@ -1,20 +1,16 @@
 -- This file shows what one more explicit point makes of a drawing without a violation.
-use Rattle.std.proofs.Common.{◌≡◌, ◌⊎◌, ℕ, ◌<◌, ◌≤◌, List, Contains, All, Any, inl, inr, sym, subst}
+use Rattle.std.proofs.Common.{◌≡◌, ◌⊎◌, ℕ, List, Contains, Any, inl, inr, sym, subst}
 use Rattle.grid_base.specs.Point.{GridPoint}
 use Rattle.grid_base.specs.Segment.{GridSegment}
-use Rattle.grid_base.specs.Crossing.{Inside}
-use Rattle.grid_base.specs.Realm.{PointInside, TwoCross}
-use Rattle.grid_base.specs.Drawing.{HasLink, IsPoint, IsPiece, HasViolation}
+use Rattle.grid_base.specs.Drawing.{HasLink, IsPoint, IsPiece}
 use Rattle.grid_base.specs.declared.original.Original.{Original}
 use Rattle.realm_drawing.specs.Keyed.{KeyedDrawing, HasKey, keyed, AddsPoint, AreKeyed}
 use Rattle.realm_drawing.specs.declared.keyed.KeyedPiece.{KeyedPiece}
 use Rattle.realm_index.specs.Index.{Entries}
 use Rattle.realm_insert.specs.Kept.{IsIndexed}
-use Rattle.realm_insert.specs.State.{HasIdsBelow}
-use Rattle.realm_insert.specs.Work.{IsCoveredBy}
 
 -- the pieces and their keys are as they were
-marked_piece : (old new : KeyedDrawing) (p : GridPoint) → AddsPoint old new p → (s : GridSegment)
+pub marked_piece : (old new : KeyedDrawing) (p : GridPoint) → AddsPoint old new p → (s : GridSegment)
     → IsPiece new.drawing s → IsPiece old.drawing s
 marked_piece old new p adds s piece =
     (piece.0, subst (λ (l : List Original). Any (λ o. HasLink o.chain s) l) adds.originals piece.1)
@@ -47,13 +43,8 @@ indexed_marked old new p index adds indexed s k = (
   λ has. (indexed s k).1 (marked_key old new p adds s k has),
 )
 
-pub below_marked : (old new : KeyedDrawing) (p : GridPoint) (n : ℕ) → AddsPoint old new p → HasIdsBelow n old.drawing
-    → HasIdsBelow n new.drawing
-below_marked old new p n adds below =
-    subst (λ (l : List Original). All (λ o. (1 ≤ o.id) × (o.id < n)) l) (sym adds.originals) below
-
 -- a point afterwards is p or was one before
-marked_point : (old new : KeyedDrawing) (p : GridPoint) → AddsPoint old new p → (q : GridPoint) → IsPoint new.drawing q
+pub marked_point : (old new : KeyedDrawing) (p : GridPoint) → AddsPoint old new p → (q : GridPoint) → IsPoint new.drawing q
     → IsPoint old.drawing q ⊎ (q ≡ p)
 marked_point old new p adds q (inl explicit) = elim ((adds.points q).0 explicit) [
   | inl same ↦ inr same
@@ -61,17 +52,3 @@ marked_point old new p adds q (inl explicit) = elim ((adds.points q).0 explicit)
 ]
 marked_point old new p adds q (inr vertex) =
     inl (inr (subst (λ (l : List Original). Any (λ o. Contains o.chain q) l) adds.originals vertex))
-
--- a violation that wasn't there has p inside a piece
-pub covered_marked : (old new : KeyedDrawing) (p : GridPoint) (list : List GridSegment) → AddsPoint old new p
-    → (HasViolation old.drawing → ⊥)
-    → ((t : GridSegment) → IsPiece new.drawing t → Inside p t → Contains list t) → IsCoveredBy new.drawing list
-covered_marked old new p list adds settled all =
-    let was = marked_piece old new p adds in
-    record {
-      points = λ q t point piece inside. elim (marked_point old new p adds q point) [
-        | inr same ↦ inl (all t piece (subst (λ (r : GridPoint). Inside r t) same inside))
-        | inl old_point ↦ absurd (settled (PointInside q t old_point (was t piece) inside))
-      ];
-      crossings = λ t u piece_t piece_u cross. absurd (settled (TwoCross t u (was t piece_t) (was u piece_u) cross));
-    }

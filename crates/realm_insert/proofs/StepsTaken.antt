@@ -1,6 +1,5 @@
 -- This file shows what steps make of a drawing when they are taken one after the other.
 use Rattle.std.proofs.Common.{◌≡◌, ℕ, ◌-◌, ◌<◌, ◌≤◌, List, [], ◌∷◌, ◌++◌, refl, sym, subst, arith}
-use Rattle.grid_base.specs.Point.{GridPoint}
 use Rattle.grid_base.specs.Drawing.{Drawing, HasViolation}
 use Rattle.grid_base.specs.declared.kinds.Step.{Step}
 use Rattle.realm_drawing.specs.Steps.{Permitted, Settles}
@@ -11,8 +10,8 @@ use Rattle.realm_drawing.proofs.StepOutcomes.{ids_stay, no_violation_no_step}
 use Rattle.realm_drawing.proofs.StepsAdd.{step_adds_link, step_keeps_most, links_are_few}
 use Rattle.realm_index.specs.Index.{Entries}
 use Rattle.realm_insert.specs.Kept.{IsIndexed, IsAtRest}
-use Rattle.realm_insert.specs.State.{HasPointToo, HasIdsBelow}
-use Rattle.realm_insert.specs.Work.{LeadsBy}
+use Rattle.realm_insert.specs.State.{HasIdsBelow}
+use Rattle.realm_insert.specs.Misfits.{LeadsBy}
 
 -- one more step may come at the end
 pub leads_on : (d e f : Drawing) (trace : List Step) (step : Step) → LeadsBy d trace e → Permitted e step f
@@ -48,13 +47,6 @@ pub untouched : (d e : Drawing) (trace : List Step) → Settles d trace e → (H
 untouched d e [] settles settled = (refl, sym settles.0)
 untouched d e (step ∷ trace) settles settled =
     absurd (settled (no_violation_no_step d settles.0 step settles.1))
-
--- and so the drawing with one more point is what the change leads to
-pub unmoved : (old d e : Drawing) (p : GridPoint) (trace : List Step) → HasPointToo old d p → Settles d trace e
-    → (HasViolation d → ⊥) → (trace ≡ []) × HasPointToo old e p
-unmoved old d e p trace with_point settles settled =
-    let (none, same) = untouched d e trace settles settled in
-    (none, subst (λ (f : Drawing). HasPointToo old f p) (sym same) with_point)
 
 -- ids stay as they are
 pub ids_below : (d e : Drawing) (trace : List Step) (n : ℕ) → Settles d trace e → HasIdsBelow n d → HasIdsBelow n e

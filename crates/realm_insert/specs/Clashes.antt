@@ -22,4 +22,5 @@ pub record NoClash (d : Drawing) (s t : GridSegment) : Type 0 where
 
 -- nor do s and any piece with one of the keys
 abbrev pub HasNoClashAmong : KeyedDrawing → GridSegment → List ℕ → Type 0
-HasNoClashAmong d s keys = (k : ℕ) → Contains keys k → (t : GridSegment) → HasKey d t k → NoClash d.drawing s t
+HasNoClashAmong d s keys =
+    (k : ℕ) → Contains keys k → (t : GridSegment) → HasKey d t k → NoClash d.drawing s t

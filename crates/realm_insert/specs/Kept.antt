@@ -6,7 +6,9 @@ use Rattle.grid_base.specs.Drawing.{HasViolation}
 use Rattle.realm_drawing.specs.Chains.{AllValid}
 use Rattle.realm_drawing.specs.Keyed.{KeyedDrawing, HasKey, AreKeyed}
 use Rattle.realm_index.specs.Index.{Entries}
+use Rattle.value_table.specs.Table.{NamedValues}
 use Rattle.realm_insert.specs.State.{KeptTrace, HasIdsBelow, AreLatest}
+use Rattle.realm_insert.specs.Values.{AreValuesOf}
 
 -- the index has each piece under its key, and nothing else
 abbrev pub IsIndexed : KeyedDrawing → Entries → Type 0
@@ -20,8 +22,10 @@ pub record IsAtRest (d : KeyedDrawing) (index : Entries) : Type 0 where
   pub indexed : IsIndexed d index
 
 -- so it is, ids and changes are numbered from 1 on and within their bounds, and the traces are the latest
-pub record IsSettled (d : KeyedDrawing) (index : Entries) (next_id changes : ℕ) (traces : List KeptTrace) : Type 0 where
+pub record IsSettled (d : KeyedDrawing) (index : Entries) (values : NamedValues) (next_id changes : ℕ)
+    (traces : List KeptTrace) : Type 0 where
   pub rest : IsAtRest d index
+  pub values_fit : AreValuesOf d.drawing values
   pub ids : HasIdsBelow next_id d.drawing
   pub first_id : 1 ≤ next_id
   pub most_ids : next_id ≤ 2 ^ 32
@@ -29,5 +33,5 @@ pub record IsSettled (d : KeyedDrawing) (index : Entries) (next_id changes : ℕ
   pub latest : AreLatest changes traces
 
 -- this holds unless the engine is spent
-abbrev pub IsKept : Bool → KeyedDrawing → Entries → ℕ → ℕ → List KeptTrace → Type 0
-IsKept spent d index next_id changes traces = spent ≡ false → IsSettled d index next_id changes traces
+abbrev pub IsKept : Bool → KeyedDrawing → Entries → NamedValues → ℕ → ℕ → List KeptTrace → Type 0
+IsKept spent d index values next_id changes traces = spent ≡ false → IsSettled d index values next_id changes traces

@@ -1,5 +1,17 @@
--- states, and changes of one
+-- states
 pub mod State
+-- what a change asks for, as its line writes it
+pub mod Lines
+-- why a change is refused
+pub mod Refusals
+-- what a change makes of the drawing and of the values
+pub mod Changes
+-- one change of the state
+pub mod Next
+-- traces that don't settle what a change makes
+pub mod Misfits
+-- what values are made of
+pub mod Values
 -- what every engine that isn't spent is like
 pub mod Kept
 -- what is still to be looked at, for this crate's own proofs

@@ -1,20 +1,38 @@
 //! The engine: the drawing, an index of its pieces by their keys, and the numbers of the state. It is spent from the
 //! beginning of a change to its end, so want of memory leaves it spent.
 ghost use Rattle.std.specs.Prelude.{◌≡◌, ◌≢◌, ◌⊎◌, ◌↔◌, ◌+◌, ◌≤◌, ◌<◌, ◌^◌, ℕ, true, false, List, [], ◌∷◌, ◌++◌};
-ghost use Rattle.std.specs.Prelude.{Contains, Err, IfOk, OnOk, MatchResult, IfSome, IsNone};
-ghost use Rattle.grid_base.specs.Drawing.{Drawing as Drawn, HasViolation, IsDrawnRealm};
+ghost use Rattle.std.specs.Prelude.{length, Contains, Err, IfOk, OnOk, MatchResult, MatchOption, IfSome, IsSomeAnd, IsNone};
+ghost use Rattle.grid_base.specs.Drawing.{IsDrawnRealm};
 ghost use Rattle.grid_base.specs.declared.kinds.Step.{Step as Seen};
-ghost use Rattle.realm_drawing.specs.Straight.{placed};
 ghost use Rattle.realm_insert.specs.State.{fresh_state, kept_trace, latest, HasIdsBelow, AreLatest};
-ghost use Rattle.realm_insert.specs.State.{DrawsSegment, HasPointToo, MakesExplicit};
+ghost use Rattle.line_grammar.specs.Spellable.{IsSpellableChange};
+ghost use Rattle.realm_insert.specs.Lines.{IsLet, drawn_between};
+ghost use Rattle.realm_insert.specs.Refusals.{IsAccepted, IsRefusedBy};
+ghost use Rattle.realm_insert.specs.Changes.{IsChangedTo};
+ghost use Rattle.realm_insert.specs.Values.{AreValuesOf, IsGeometryNamed};
+ghost use Rattle.realm_insert.specs.Next.{Next, MakesNoViolation};
+ghost use Rattle.realm_insert.specs.Misfits.{MisfitsAt};
+ghost use Rattle.realm_insert.specs.declared.refusal.Refusal.{Refusal as Word};
+ghost use Rattle.realm_insert.specs.declared.settling.SettleError.TheVariants.{Mismatch};
 
-use crate::applied::{AddError, Applied, Trace};
-use crate::changing::{draw_settled, mark_settled};
-use grid_base::{NoMemory, Point, Segment, Step};
+use crate::applied::{Applied, trace_of};
+use crate::asked::ends_drawn;
+use crate::causes::first_cause;
+use crate::defining::revalue;
+use crate::making::redraw;
+use crate::refusal::{ChangeError, Refusal, ReplayError};
+use crate::settling::SettleError;
+use grid_base::{NoMemory, Step};
+use line_grammar::Change;
 use realm_drawing::Drawing;
 use realm_index::Index;
+use record_codec::Trace;
+use rose_values::Geometry;
 use std::alloc::Global;
 use std::marker::Model;
+use std::thread::Threads;
+use value_geometry::geometry_of;
+use value_table::Table;
 
 /// How many changes may be accepted: 2^63.
 pub const MOST_CHANGES: u64 = 9_223_372_036_854_775_808;
@@ -43,6 +61,7 @@ pub struct Engine {
     alloc: Global,
     drawing: Drawing,
     index: Index,
+    table: Table,
     next_id: u64,
     changes: u64,
     traces: Vec<Kept>,
@@ -56,11 +75,17 @@ impl Model for Engine {
     ghost Value = { SpendableState };
 
     ghost view = { λ e. record {
-      state = record { drawing = e.drawing.drawing; next_id = e.next_id; changes = e.changes; traces = e.traces.items };
+      state = record {
+        drawing = e.drawing.drawing;
+        next_id = e.next_id;
+        values = e.table;
+        changes = e.changes;
+        traces = e.traces.items;
+      };
       spent = e.spent;
     } };
 
-    ghost invariant = { λ e. IsKept e.spent e.drawing e.index e.next_id e.changes e.traces.items };
+    ghost invariant = { λ e. IsKept e.spent e.drawing e.index e.table e.next_id e.changes e.traces.items };
 }
 
 impl Engine {
@@ -72,6 +97,7 @@ impl Engine {
             alloc,
             drawing: Drawing::new(alloc),
             index: Index::new(alloc),
+            table: Table::new(alloc),
             next_id: 1,
             changes: 0,
             traces: Vec::new(alloc),
@@ -95,6 +121,28 @@ impl Engine {
         ensures most_ids { self.now.state.next_id ≤ 2 ^ 32 }
     {
         &self.drawing
+    }
+
+    /// The values by name. Each is made of what is drawn.
+    pub fn table(&self) -> &Table
+        requires ready { self.now.spent ≡ false }
+        ensures table { result.now ≡ self.now.state.values }
+        ensures values_fit { AreValuesOf self.now.state.drawing self.now.state.values }
+    {
+        &self.table
+    }
+
+    /// What the value with this name is made of at present; none where no value has the name. Only the chains of its parts
+    /// are looked at.
+    pub fn geometry(&self, name: &str) -> Result<Option<Geometry>, NoMemory>
+        requires ready { self.now.spent ≡ false }
+        ensures { IfOk result (λ found. IsGeometryNamed self.now.state name.now found) }
+    {
+        let drawing = self.drawing();
+        match self.table().get(name) {
+            Some(value) => Ok(Some(geometry_of(self.alloc, drawing, value)?)),
+            None => Ok(None),
+        }
     }
 
     /// How many changes were accepted.
@@ -133,91 +181,121 @@ impl Engine {
         None
     }
 
-    /// Draws `s` as a new original, and settles the drawing.
-    pub fn add_segment(&mut self, s: Segment) -> Result<Applied, AddError>
-        requires ready { self.old.spent ≡ false }
-        ensures ok { IfOk result (λ applied. DrawsSegment self.old.state s applied.trace self.new.state
-            × (applied.first ≡ self.old.state.next_id) × (applied.added ≡ 1)) }
-        ensures untouched { IfOk result (λ applied.
-            (HasViolation (placed self.old.state.drawing self.old.state.next_id s) → ⊥)
-            → (applied.trace ≡ []) × (self.new.state.drawing ≡ placed self.old.state.drawing self.old.state.next_id s)) }
-        ensures ids { (result ≡ Err AddError.Ids) ↔ (2 ^ 32 ≤ self.old.state.next_id) }
-        ensures changes { (result ≡ Err AddError.Changes)
-            ↔ ((self.old.state.next_id < 2 ^ 32) × (2 ^ 63 ≤ self.old.state.changes)) }
-        ensures refused { (result ≡ Err AddError.Ids) ⊎ (result ≡ Err AddError.Changes) → self.new ≡ self.old }
-        ensures spent { (self.new.spent ≡ true) ↔ (result ≡ Err AddError.NoMemory) }
+    /// Why the change would be refused; none where it would be accepted.
+    pub fn refusal<R: Threads + Sync>(
+        &self,
+        rt: &R,
+        c: &Change,
+    ) -> Result<Option<Refusal>, NoMemory>
+        requires ready { self.now.spent ≡ false }
+        requires spellable { IsSpellableChange c.now }
+        requires not_let { IsLet c.now → ⊥ }
+        ensures { IfOk result (λ found.
+            MatchOption found (IsAccepted c.now self.now.state) (IsRefusedBy c.now self.now.state)) }
     {
-        if self.next_id > u64::from(u32::MAX) {
-            return Err(AddError::Ids);
-        }
-        if self.changes >= MOST_CHANGES {
-            return Err(AddError::Changes);
-        }
-        Ok(self.draw(s)?)
+        let _ = rt;
+        first_cause(self.alloc, self, c)
     }
 
-    /// Makes `p` explicit, and settles the drawing.
-    pub fn add_point(&mut self, p: Point) -> Result<Applied, AddError>
+    /// Makes the change: what it places or takes away, then the steps that settle the drawing, and what it makes of the
+    /// values.
+    pub fn change<R: Threads + Sync>(&mut self, rt: &R, c: &Change) -> Result<Applied, ChangeError>
         requires ready { self.old.spent ≡ false }
-        ensures ok { IfOk result (λ applied. MakesExplicit self.old.state p applied.trace self.new.state
-            × (applied.first ≡ self.old.state.next_id) × (applied.added ≡ 0)) }
-        ensures untouched { IfOk result (λ applied.
-            ((changed : Drawn) → HasPointToo self.old.state.drawing changed p → HasViolation changed → ⊥)
-            → (applied.trace ≡ []) × HasPointToo self.old.state.drawing self.new.state.drawing p) }
-        ensures no_ids { result ≢ Err AddError.Ids }
-        ensures changes { (result ≡ Err AddError.Changes) ↔ (2 ^ 63 ≤ self.old.state.changes) }
-        ensures refused { result ≡ Err AddError.Changes → self.new ≡ self.old }
-        ensures spent { (self.new.spent ≡ true) ↔ (result ≡ Err AddError.NoMemory) }
+        requires spellable { IsSpellableChange c.now }
+        requires not_let { IsLet c.now → ⊥ }
+        ensures next { IfOk result (λ applied. Next self.old.state c.now applied.trace self.new.state) }
+        ensures numbers { IfOk result (λ applied. (applied.first ≡ self.old.state.next_id)
+            × (applied.added ≡ length (drawn_between c.now))) }
+        ensures untouched { IfOk result (λ applied. MakesNoViolation self.old.state c.now
+            → (applied.trace ≡ []) × IsChangedTo c.now self.old.state.drawing self.old.state.next_id self.new.state.drawing) }
+        ensures refused { (word : Word) → result ≡ Err (ChangeError.Refused word)
+            → IsRefusedBy c.now self.old.state word × (self.new ≡ self.old) }
+        ensures spent { (self.new.spent ≡ true) ↔ (result ≡ Err ChangeError.NoMemory) }
     {
-        if self.changes >= MOST_CHANGES {
-            return Err(AddError::Changes);
+        match self.refusal(rt, c) {
+            Ok(None) => match self.make(c, None) {
+                Ok(applied) => Ok(applied),
+                Err(SettleError::NoMemory) => Err(ChangeError::NoMemory),
+                Err(SettleError::Mismatch { .. }) => unreachable!(),
+            },
+            Ok(Some(refusal)) => Err(ChangeError::Refused(refusal)),
+            Err(NoMemory) => {
+                self.spent = true;
+                Err(ChangeError::NoMemory)
+            }
         }
-        Ok(self.mark(p)?)
     }
 
-    // Draws `s`, where an id and a change are left.
-    fn draw(&mut self, s: Segment) -> Result<Applied, NoMemory>
+    /// Makes the change with these steps in the place of those that `change` looks for. The engine is spent after each
+    /// error but a refusal.
+    pub fn replay<R: Threads + Sync>(
+        &mut self,
+        rt: &R,
+        c: &Change,
+        trace: &[Step],
+    ) -> Result<Applied, ReplayError>
         requires ready { self.old.spent ≡ false }
-        requires id_left { self.old.state.next_id < 2 ^ 32 }
-        requires change_left { self.old.state.changes < 2 ^ 63 }
-        ensures ok { IfOk result (λ applied. DrawsSegment self.old.state s applied.trace self.new.state
-            × (applied.first ≡ self.old.state.next_id) × (applied.added ≡ 1)) }
+        requires spellable { IsSpellableChange c.now }
+        requires not_let { IsLet c.now → ⊥ }
+        ensures next { IfOk result (λ applied. Next self.old.state c.now trace.now self.new.state
+            × (applied.trace ≡ trace.now)) }
+        ensures numbers { IfOk result (λ applied. (applied.first ≡ self.old.state.next_id)
+            × (applied.added ≡ length (drawn_between c.now))) }
+        ensures refused { (word : Word) → result ≡ Err (ReplayError.Refused word)
+            → IsRefusedBy c.now self.old.state word × (self.new ≡ self.old) }
+        ensures mismatch { (number : ℕ) → result ≡ Err (ReplayError.Mismatch number)
+            → IsAccepted c.now self.old.state × MisfitsAt c.now self.old.state trace.now number }
+        ensures spent { (self.new.spent ≡ true) ↔ ((result ≡ Err ReplayError.NoMemory)
+            ⊎ ((number : ℕ) × (result ≡ Err (ReplayError.Mismatch number)))) }
+    {
+        match self.refusal(rt, c) {
+            Ok(None) => match self.make(c, Some(trace)) {
+                Ok(applied) => Ok(applied),
+                Err(SettleError::NoMemory) => Err(ReplayError::NoMemory),
+                Err(SettleError::Mismatch { step }) => Err(ReplayError::Mismatch { step }),
+            },
+            Ok(Some(refusal)) => Err(ReplayError::Refused(refusal)),
+            Err(NoMemory) => {
+                self.spent = true;
+                Err(ReplayError::NoMemory)
+            }
+        }
+    }
+
+    // Makes a change that isn't refused, by the given steps if there are any.
+    fn make(&mut self, c: &Change, given: Option<&[Step]>) -> Result<Applied, SettleError>
+        requires ready { self.old.spent ≡ false }
+        requires spellable { IsSpellableChange c.now }
+        requires not_let { IsLet c.now → ⊥ }
+        requires accepted { IsAccepted c.now self.old.state }
+        ensures next { IfOk result (λ applied. Next self.old.state c.now applied.trace self.new.state) }
+        ensures numbers { IfOk result (λ applied. (applied.first ≡ self.old.state.next_id)
+            × (applied.added ≡ length (drawn_between c.now))) }
+        ensures given { IfOk result (λ applied. IfSome given.entry (λ steps. applied.trace ≡ steps.now)) }
+        ensures mismatch { (number : ℕ) → result ≡ Err (Mismatch number)
+            → IsSomeAnd given.entry (λ steps. MisfitsAt c.now self.old.state steps.now number) }
         ensures spent { MatchResult result (λ _. self.new.spent ≡ false) (λ _. self.new.spent ≡ true) }
     {
         self.spent = true;
         let first = self.next_id;
-        let trace = draw_settled(
+        let ends = ends_drawn(self.alloc, c)?;
+        let added = ends.len() as u64;
+        let trace = redraw(
             self.alloc,
             &mut self.drawing,
             &mut self.index,
-            first as u32,
-            s,
+            first,
+            c,
+            &ends,
+            given,
         )?;
+        revalue(self.alloc, &mut self.table, first, added, c)?;
         count(self.alloc, &mut self.traces, &mut self.changes, &trace)?;
-        self.next_id = first + 1;
+        self.next_id = first + added;
         self.spent = false;
         Ok(Applied {
             first,
-            added: 1,
-            trace,
-        })
-    }
-
-    // Makes `p` explicit, where a change is left.
-    fn mark(&mut self, p: Point) -> Result<Applied, NoMemory>
-        requires ready { self.old.spent ≡ false }
-        requires change_left { self.old.state.changes < 2 ^ 63 }
-        ensures ok { IfOk result (λ applied. MakesExplicit self.old.state p applied.trace self.new.state
-            × (applied.first ≡ self.old.state.next_id) × (applied.added ≡ 0)) }
-        ensures spent { MatchResult result (λ _. self.new.spent ≡ false) (λ _. self.new.spent ≡ true) }
-    {
-        self.spent = true;
-        let trace = mark_settled(self.alloc, &mut self.drawing, &mut self.index, p)?;
-        count(self.alloc, &mut self.traces, &mut self.changes, &trace)?;
-        self.spent = false;
-        Ok(Applied {
-            first: self.next_id,
-            added: 0,
+            added,
             trace,
         })
     }
@@ -238,7 +316,7 @@ fn count(
         (traces.new.items ≡ latest (traces.old.items ++ kept_trace (changes.old + 1) trace.now ∷ [])) }
 {
     let number = *changes + 1;
-    let trace = trace.copy(alloc)?;
+    let trace = trace_of(alloc, trace.steps())?;
     if traces.len() == MOST_TRACES {
         traces.remove(0);
     }

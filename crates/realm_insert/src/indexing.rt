@@ -1,5 +1,5 @@
-//! The index of the pieces, kept by their keys. What a change may take away is noted with its keys before it is made, and is
-//! forgotten afterwards where it is gone.
+//! The index of the pieces, kept by their keys. What a change may take away is noted with its keys before it
+//! is made, and is forgotten afterwards where it is gone.
 ghost use Rattle.std.specs.Prelude.{◌≡◌, ◌≢◌, ◌⊎◌, [], ◌∷◌, None, All, AllPairs, IfOk, OnOk};
 ghost use Rattle.std.specs.FinMap as map;
 ghost use Rattle.realm_drawing.specs.Draws.{IsPieceOf};
@@ -47,7 +47,11 @@ fn both_keyed(
 }
 
 // Lists `s` with its key, if it is a piece.
-fn note(drawing: &Drawing, s: &Segment, list: &mut Vec<KeyedPiece>) -> Result<(), NoMemory>
+pub(crate) fn note(
+    drawing: &Drawing,
+    s: &Segment,
+    list: &mut Vec<KeyedPiece>,
+) -> Result<(), NoMemory>
     ensures { OnOk result (ListsWithKey drawing.now s.now list.old.items list.new.items) }
 {
     if let Some(key) = drawing.key(s) {

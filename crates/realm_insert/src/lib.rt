@@ -3,15 +3,24 @@
 #![tactic(auto)]
 
 mod applied;
-mod changing;
+mod asked;
+mod causes;
+mod defining;
 mod engine;
 mod indexing;
+mod laws;
+mod making;
+mod placing;
+mod refusal;
+mod removing;
 mod searching;
 mod settling;
 mod sharing;
-#[cfg(test)]
-mod tests;
 
-pub use applied::{AddError, Applied, Trace};
+pub use applied::Applied;
+pub use asked::is_let;
 pub use engine::{Engine, MOST_CHANGES};
+pub use laws::replay_agrees;
+pub use record_codec::Trace;
+pub use refusal::{ChangeError, Refusal, ReplayError};
 pub use sharing::may_be_shared;

@@ -1,4 +1,5 @@
-//! The search for violations round one segment of the list. Most are pieces; of one that isn't any more only the ends count.
+//! The search for violations round one segment of the list. Most are pieces; of one that isn't any more only
+//! the ends count.
 ghost use Rattle.std.specs.Prelude.{◌≡◌, ◌↔◌, IfOk, MatchOption, Contains};
 ghost use Rattle.grid_base.specs.Point.{InBox};
 ghost use Rattle.grid_base.specs.Segment.{GridSegment, BoxesMeet};
@@ -96,11 +97,12 @@ fn split_by(
     }
 }
 
-// A step that mends a violation of the pieces `s` and one with one of the keys. The search begins in the middle of the
-// keys, so that a long piece that many cross is mostly cut far from its ends.
+// A step that mends a violation of the pieces `s` and one with one of the keys. The search begins in the
+// middle of the keys, so that a long piece that many cross is mostly cut far from its ends.
 fn clash_among(drawing: &Drawing, s: &Segment, keys: &[usize]) -> Option<Step>
     requires piece { IsPiece drawing.now.drawing s.now }
-    ensures { MatchOption result (HasNoClashAmong drawing.now s.now keys.now) (IsPermitted drawing.now.drawing) }
+    ensures { MatchOption result (HasNoClashAmong drawing.now s.now keys.now)
+        (IsPermitted drawing.now.drawing) }
 {
     let middle = keys.len() / 2;
     if let Some(step) = first_clash(drawing, s, &keys[middle..]) {
@@ -112,7 +114,8 @@ fn clash_among(drawing: &Drawing, s: &Segment, keys: &[usize]) -> Option<Step>
 // The same, in the order of the keys.
 fn first_clash(drawing: &Drawing, s: &Segment, keys: &[usize]) -> Option<Step>
     requires piece { IsPiece drawing.now.drawing s.now }
-    ensures { MatchOption result (HasNoClashAmong drawing.now s.now keys.now) (IsPermitted drawing.now.drawing) }
+    ensures { MatchOption result (HasNoClashAmong drawing.now s.now keys.now)
+        (IsPermitted drawing.now.drawing) }
 {
     for key in keys {
         if let Some(step) = clash_at(drawing, s, *key) {
@@ -153,7 +156,8 @@ fn clash(drawing: &Drawing, s: &Segment, t: &Segment) -> Option<Step>
 // The step to an end of `s` inside the piece `t`.
 fn end_inside(drawing: &Drawing, s: &Segment, t: &Segment) -> Option<Step>
     requires piece { IsPiece drawing.now.drawing t.now }
-    ensures { MatchOption result (HasNoEndInside drawing.now.drawing s.now t.now) (IsPermitted drawing.now.drawing) }
+    ensures { MatchOption result (HasNoEndInside drawing.now.drawing s.now t.now)
+        (IsPermitted drawing.now.drawing) }
 {
     if let Some(step) = split_at(drawing, &s.a(), t) {
         return Some(step);

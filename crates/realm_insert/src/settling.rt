@@ -1,24 +1,112 @@
-//! Settling: steps are taken until no violation is left. A list has the pieces that are still to be looked at: each
-//! violation has one of them or an end of one. What a step draws anew joins the list; a piece that a step replaced stays
-//! on it, for its ends.
-ghost use Rattle.std.specs.Prelude.{◌≡◌, ◌++◌, map, IfOk, OnOk, MatchOption};
+//! Settling: steps are taken until no violation is left. A list has the pieces that are still to be looked
+//! at: each violation has one of them or an end of one. What a step draws anew joins the list; a piece that a
+//! step replaced stays on it, for its ends. A trace that is given is taken in the same way, and then the list shows
+//! whether a violation is left.
+ghost use Rattle.std.specs.Prelude.{◌≡◌, ◌++◌, ℕ, map, Err, IfOk, OnOk, MatchOption, IfSome, IsSomeAnd};
 ghost use Rattle.grid_base.specs.Drawing.{HasViolation};
 ghost use Rattle.realm_drawing.specs.Steps.{Permitted, Settles};
 ghost use Rattle.realm_drawing.specs.Chains.{AllValid};
 ghost use Rattle.realm_drawing.specs.Keyed.{AreKeyed};
 ghost use Rattle.realm_drawing.specs.Mending.{IsPermitted};
+ghost use Rattle.realm_drawing.specs.declared.errors.StepError.TheVariants.{NotPermitted};
 ghost use Rattle.realm_insert.specs.Kept.{IsIndexed};
+ghost use Rattle.realm_insert.specs.Misfits.{Misfits};
 ghost use Rattle.realm_insert.specs.Work.{IsCoveredBy};
+ghost use Rattle.realm_insert.specs.declared.settling.SettleError.TheVariants.{Mismatch, NoMemory as NoRoom};
 
+use crate::applied::trace_of;
 use crate::indexing::{forget_gone, keyed_pieces, put_in_index};
 use crate::searching::violation_at;
 use grid_base::{NoMemory, Segment, Step};
 use realm_drawing::{Drawing, KeyedPiece, StepError};
 use realm_index::Index;
+use record_codec::Trace;
 use std::alloc::Global;
 
+// Why a drawing isn't settled.
+#[derive(Clone, Copy, Debug, PartialEq, Eq)]
+pub(crate) enum SettleError {
+    // The given step with this number, from 1, isn't permitted; past the last, a violation is left.
+    Mismatch { step: u64 },
+    NoMemory,
+}
+
+impl From<NoMemory> for SettleError {
+    ghost from_gives = { λ _ e. e ≡ NoRoom };
+
+    fn from(_: NoMemory) -> SettleError {
+        SettleError::NoMemory
+    }
+}
+
+// Settles the drawing by the given steps, or where none are given by steps that are looked for; and answers the trace.
+pub(crate) fn settle_by(
+    alloc: Global,
+    drawing: &mut Drawing,
+    index: &mut Index,
+    fresh: Vec<Segment>,
+    given: Option<&[Step]>,
+) -> Result<Trace, SettleError>
+    requires indexed { IsIndexed drawing.old index.old }
+    requires keyed { AreKeyed drawing.old }
+    requires valid { AllValid drawing.old.drawing }
+    requires covered { IsCoveredBy drawing.old.drawing fresh.items }
+    ensures settles { IfOk result (λ trace. Settles drawing.old.drawing trace drawing.new.drawing) }
+    ensures given { IfOk result (λ trace. IfSome given.entry (λ steps. trace ≡ steps.now)) }
+    ensures mismatch { (number : ℕ) → result ≡ Err (Mismatch number)
+        → IsSomeAnd given.entry (λ steps. Misfits drawing.old.drawing steps.now number) }
+    ensures indexed { OnOk result (IsIndexed drawing.new index.new) }
+    ensures keyed { AreKeyed drawing.new }
+    ensures valid { AllValid drawing.new.drawing }
+{
+    match given {
+        None => Ok(Trace::new(settle(alloc, drawing, index, fresh)?)),
+        Some(steps) => {
+            retrace(alloc, drawing, index, fresh, steps)?;
+            Ok(trace_of(alloc, steps)?)
+        }
+    }
+}
+
+// Takes the steps in their order, and sees that no violation is left.
+fn retrace(
+    alloc: Global,
+    drawing: &mut Drawing,
+    index: &mut Index,
+    fresh: Vec<Segment>,
+    steps: &[Step],
+) -> Result<(), SettleError>
+    requires indexed { IsIndexed drawing.old index.old }
+    requires keyed { AreKeyed drawing.old }
+    requires valid { AllValid drawing.old.drawing }
+    requires covered { IsCoveredBy drawing.old.drawing fresh.items }
+    ensures settles { OnOk result (Settles drawing.old.drawing steps.now drawing.new.drawing) }
+    ensures mismatch { (number : ℕ) → result ≡ Err (Mismatch number)
+        → Misfits drawing.old.drawing steps.now number }
+    ensures indexed { OnOk result (IsIndexed drawing.new index.new) }
+    ensures keyed { AreKeyed drawing.new }
+    ensures valid { AllValid drawing.new.drawing }
+{
+    let mut fresh = fresh;
+    for i in 0..steps.len() {
+        match take(alloc, drawing, index, &steps[i], &mut fresh) {
+            Ok(()) => (),
+            Err(StepError::NoMemory) => return Err(SettleError::NoMemory),
+            Err(StepError::NotPermitted) => {
+                return Err(SettleError::Mismatch { step: i as u64 + 1 });
+            }
+        }
+    }
+    match next_step(alloc, drawing, index, &mut fresh)? {
+        None => Ok(()),
+        Some(_) => Err(SettleError::Mismatch {
+            step: steps.len() as u64 + 1,
+        }),
+    }
+}
+
 // Settles the drawing, and answers the trace.
-pub(crate) fn settle(
+fn settle(
     alloc: Global,
     drawing: &mut Drawing,
     index: &mut Index,
@@ -36,13 +124,14 @@ pub(crate) fn settle(
     let mut fresh = fresh;
     let mut trace = Vec::new(alloc);
     while let Some(step) = next_step(alloc, drawing, index, &mut fresh)? {
-        take(alloc, drawing, index, &step, &mut fresh)?;
+        mend(alloc, drawing, index, &step, &mut fresh)?;
         trace.push(step)?;
     }
     Ok(trace)
 }
 
-// A step that may be taken, and the list without the pieces that were found clean; none where no violation is left.
+// A step that may be taken, and the list without the pieces that were found clean; none where no violation is
+// left.
 fn next_step(
     alloc: Global,
     drawing: &Drawing,
@@ -67,8 +156,8 @@ fn next_step(
     Ok(None)
 }
 
-// Takes the step, in the index too, and adds what it draws anew to the list.
-fn take(
+// Takes a step that is permitted.
+fn mend(
     alloc: Global,
     drawing: &mut Drawing,
     index: &mut Index,
@@ -86,12 +175,34 @@ fn take(
     ensures keyed { AreKeyed drawing.new }
     ensures valid { AllValid drawing.new.drawing }
 {
-    let replaced = keyed_pieces(alloc, drawing, step)?;
-    let drawn = match drawing.redraw(step) {
-        Ok(drawn) => drawn,
-        Err(StepError::NoMemory) => return Err(NoMemory),
+    match take(alloc, drawing, index, step, fresh) {
+        Ok(()) => Ok(()),
+        Err(StepError::NoMemory) => Err(NoMemory),
         Err(StepError::NotPermitted) => unreachable!(),
-    };
+    }
+}
+
+// Takes the step, in the index too, and adds what it draws anew to the list; unless it isn't permitted.
+fn take(
+    alloc: Global,
+    drawing: &mut Drawing,
+    index: &mut Index,
+    step: &Step,
+    fresh: &mut Vec<Segment>,
+) -> Result<(), StepError>
+    requires indexed { IsIndexed drawing.old index.old }
+    requires keyed { AreKeyed drawing.old }
+    requires valid { AllValid drawing.old.drawing }
+    requires covered { IsCoveredBy drawing.old.drawing fresh.old.items }
+    ensures taken { OnOk result (Permitted drawing.old.drawing step.now drawing.new.drawing) }
+    ensures not_permitted { result ≡ Err NotPermitted → IsPermitted drawing.old.drawing step.now → ⊥ }
+    ensures indexed { OnOk result (IsIndexed drawing.new index.new) }
+    ensures covered { OnOk result (IsCoveredBy drawing.new.drawing fresh.new.items) }
+    ensures keyed { AreKeyed drawing.new }
+    ensures valid { AllValid drawing.new.drawing }
+{
+    let replaced = keyed_pieces(alloc, drawing, step)?;
+    let drawn = drawing.redraw(step)?;
     forget_gone(drawing, index, replaced.as_slice());
     put_in_index(index, drawn.as_slice())?;
     list_pieces(drawn.as_slice(), fresh)?;

@@ -15,6 +15,7 @@ pub(crate) fn message_of(status: Status) -> Option<&'static str> {
         Status::Usage => Some("rose: usage: rose run"),
         Status::SourceFault => Some("rose: source fault"),
         Status::SinkFault => Some("rose: sink fault"),
+        Status::DiskFault => Some("rose: disk fault"),
         Status::NoMemory => Some("rose: no memory"),
         Status::InputLimit => Some("rose: input limit"),
     }

@@ -30,6 +30,8 @@ pub(crate) fn perform<R: Threads + Sync, W: Outside>(
         → Rose (W.source_faults world.old) (W.source_faults world.new) }
     ensures sink_fault { result ≡ Status.SinkFault
         → Rose (W.sink_faults world.old) (W.sink_faults world.new) }
+    ensures disk_fault { result ≡ Status.DiskFault
+        → Rose (W.disk_faults world.old) (W.disk_faults world.new) }
     ensures goes_on { GoesOn ⟦<W as Outside>⟧ world.old world.new }
 {
     match words {

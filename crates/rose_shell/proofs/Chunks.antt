@@ -6,7 +6,7 @@ use Rattle.outside_world.specs.View.{View}
 use Rattle.rose_shell.specs.declared.feeding.Halt.{Halt}
 use Rattle.rose_shell.specs.declared.feeding.Halt.TheVariants as halts
 use Rattle.rose_shell.specs.Lines.{lines_from, part_from}
-use Rattle.rose_shell.specs.Desk.{Rule, Stands}
+use Rattle.rose_shell.specs.Desk.{Terms}
 use Rattle.rose_shell.specs.Loop.{Went, Stopped}
 use Rattle.rose_shell.proofs.Cuts.{HasNoFeed, lines_from-append, part_from-append, lines_from-no_feed, part_from-no_feed}
 use Rattle.rose_shell.proofs.Cuts.{lines_from-line, split_at_feed}
@@ -34,39 +34,39 @@ part_at_end part done rest split none =
     ap (λ (l : List ℕ). part_from part l) split ∙ part_from-append part done rest
     ∙ part_from-no_feed (part_from part done) rest none
 
-module _ {S : Type 0} {answers : Rule S} {stands : Stands S} where
+module _ {S : Type 0} {terms : Terms S} where
   -- one line more is answered
   pub went_line : {old mid new : View} {start between end : S} (part done line : List ℕ) → HasNoFeed line
-      → Went answers stands old mid start between (lines_from part done)
-      → Went answers stands mid new between end ((part_from part done ++ line) ∷ [])
-      → Went answers stands old new start end (lines_from part (done ++ (line ++ 10 ∷ [])))
+      → Went terms old mid start between (lines_from part done)
+      → Went terms mid new between end ((part_from part done ++ line) ∷ [])
+      → Went terms old new start end (lines_from part (done ++ (line ++ 10 ∷ [])))
   went_line {old} {new = new} {start} {end = end} part done line none first second =
-      subst (λ (ls : List (List ℕ)). Went answers stands old new start end ls) (sym (lines_from-line part done line none))
+      subst (λ (ls : List (List ℕ)). Went terms old new start end ls) (sym (lines_from-line part done line none))
       (went_then first second)
 
   -- or halts the run, and what is left isn't read
   pub stopped_line : {old mid new : View} {start between end : S} {chunk : List ℕ} {halt : Halt}
       (part done line rest : List ℕ) → HasNoFeed line → chunk ≡ (done ++ (line ++ 10 ∷ [])) ++ rest
-      → Went answers stands old mid start between (lines_from part done)
-      → Stopped answers stands mid new between end ((part_from part done ++ line) ∷ []) halt
-      → Stopped answers stands old new start end (lines_from part chunk) halt
+      → Went terms old mid start between (lines_from part done)
+      → Stopped terms mid new between end ((part_from part done ++ line) ∷ []) halt
+      → Stopped terms old new start end (lines_from part chunk) halt
   stopped_line {old} {new = new} {start} {end = end} {chunk} {halt} part done line rest none split first second =
       let some = done ++ (line ++ 10 ∷ []) in
       let more = lines_from (part_from part some) rest in
       let lines : (lines_from part done ++ (part_from part done ++ line) ∷ []) ++ more ≡ lines_from part chunk =
       ap (λ (ls : List (List ℕ)). ls ++ more) (sym (lines_from-line part done line none))
       ∙ sym (ap (λ (l : List ℕ). lines_from part l) split ∙ lines_from-append part some rest) in
-      subst (λ (ls : List (List ℕ)). Stopped answers stands old new start end ls halt) lines
+      subst (λ (ls : List (List ℕ)). Stopped terms old new start end ls halt) lines
       (stopped_more more (stopped_then first second))
 
   -- no line more ends in the chunk
   pub went_end : {old new : View} {start end : S} {chunk : List ℕ} (part done rest : List ℕ) → chunk ≡ done ++ rest → HasNoFeed rest
-      → Went answers stands old new start end (lines_from part done) → Went answers stands old new start end (lines_from part chunk)
+      → Went terms old new start end (lines_from part done) → Went terms old new start end (lines_from part chunk)
   went_end {old} {new} {start} {end} part done rest split none went =
-      subst (λ (ls : List (List ℕ)). Went answers stands old new start end ls) (sym (lines_at_end part done rest split none)) went
+      subst (λ (ls : List (List ℕ)). Went terms old new start end ls) (sym (lines_at_end part done rest split none)) went
 
   -- and memory runs out for what is left
   pub stopped_end : {old new : View} {start end : S} {chunk : List ℕ} (part done rest : List ℕ) → chunk ≡ done ++ rest → HasNoFeed rest
-      → Went answers stands old new start end (lines_from part done)
-      → Stopped answers stands old new start end (lines_from part chunk) halts.NoMemory
+      → Went terms old new start end (lines_from part done)
+      → Stopped terms old new start end (lines_from part chunk) halts.NoMemory
   stopped_end part done rest split none went = stopped_behind (went_end part done rest split none went)

@@ -1,5 +1,5 @@
 -- This file shows what the loop has done where it ends.
-use Rattle.std.proofs.Common.{◌≡◌, ◌≢◌, ◌⊎◌, inl, inr, ⊎_elim, ℕ, ◌<◌, ◌≤◌, List, [], ◌++◌, length, take}
+use Rattle.std.proofs.Common.{◌≡◌, ◌⊎◌, inl, inr, ⊎_elim, ℕ, ◌<◌, ◌≤◌, List, [], ◌++◌, length, take}
 use Rattle.std.proofs.Common.{refl, sym, ◌∙◌, ap, subst, arith, append_assoc, length-append}
 use Rattle.std.proofs.lemmas.List.{append-nil, length-take}
 use Rattle.std.specs.Prelude.{Ok, Err}
@@ -7,39 +7,19 @@ use Rattle.outside_world.specs.declared.world.Failed.{Failed}
 use Rattle.outside_world.specs.View.{View}
 use Rattle.outside_world.specs.Calls.{Took}
 use Rattle.rose_shell.specs.declared.feeding.Halt.{Halt}
-use Rattle.rose_shell.specs.declared.feeding.Halt.TheVariants as halts
 use Rattle.rose_shell.specs.declared.status.Status.{Status}
-use Rattle.rose_shell.specs.declared.status.Status.TheVariants.{Done, SourceFault, NoMemory, InputLimit}
+use Rattle.rose_shell.specs.declared.status.Status.TheVariants.{Done, SourceFault, InputLimit}
 use Rattle.rose_shell.specs.Lines.{lines_from, part_from, whole_lines, last_line, all_lines, IsKept}
-use Rattle.rose_shell.specs.Desk.{Rule, Stands, AllStand}
-use Rattle.rose_shell.specs.Session.{lines_of, Served}
+use Rattle.rose_shell.specs.Desk.{Terms, AllRest}
+use Rattle.rose_shell.specs.Session.{lines_of, IsCutOff, Served}
 use Rattle.rose_shell.specs.Loop.{Went, Stopped, status_at}
-use Rattle.rose_shell.proofs.Turns.{given_in_part_behind}
+use Rattle.rose_shell.proofs.Turns.{given_in_part_behind, cut_off_behind}
 use Rattle.rose_shell.proofs.Cuts.{lines_from-append}
 use Rattle.rose_shell.proofs.Runs.{run_then, ends_then, replies_then, crash_then}
 use Rattle.rose_shell.proofs.Treatments.{went_empty}
+use Rattle.rose_shell.proofs.Halts.{other_halts, sink_halts, disk_halts, memory_halts}
+use Rattle.rose_shell.proofs.Halts.{halt_is_not_done, halt_is_no_source_fault, halt_is_no_limit}
 use Rattle.rose_shell.proofs.Takes.{Ahead, Keeping, took_some, took_none, took_empty, asked_then, left_then, lines_then}
-
--- which halt a status tells of
-sink_halts : (h : Halt) → status_at h ≢ NoMemory → h ≡ halts.Sink
-sink_halts halts.Sink other = refl
-sink_halts halts.NoMemory other = absurd (other refl)
-
-memory_halts : (h : Halt) → status_at h ≡ NoMemory → h ≡ halts.NoMemory
-memory_halts halts.Sink is = absurd (cc)
-memory_halts halts.NoMemory is = refl
-
-halt_is_not_done : (h : Halt) → status_at h ≢ Done
-halt_is_not_done halts.Sink is = cc
-halt_is_not_done halts.NoMemory is = cc
-
-halt_is_no_source_fault : (h : Halt) → status_at h ≢ SourceFault
-halt_is_no_source_fault halts.Sink is = cc
-halt_is_no_source_fault halts.NoMemory is = cc
-
-halt_is_no_limit : (h : Halt) → status_at h ≢ InputLimit
-halt_is_no_limit halts.Sink is = cc
-halt_is_no_limit halts.NoMemory is = cc
 
 -- a take of no byte into a buffer with room finds the input at its end
 input_ended : {mid between : View} {buf : List ℕ} {n : ℕ} → Took mid between buf (Ok n) → n ≡ 0 → 0 < length buf
@@ -47,10 +27,10 @@ input_ended : {mid between : View} {buf : List ℕ} {n : ℕ} → Took mid betwe
 input_ended {between = between} {buf} call none wide =
     ap (λ (k : ℕ). take k buf ++ between.left) (sym none) ∙ sym call.moved.left ∙ call.ended none wide
 
-module _ {S : Type 0} {answers : Rule S} {stands : Stands S} where
+module _ {S : Type 0} {terms : Terms S} where
   -- the source fails when all whole lines were answered
-  source_failed : {old new : View} {start end : S} {bytes : List ℕ} {budget : ℕ} → Ahead answers stands old new start end bytes []
-      → length bytes ≤ budget → Served answers stands old new start end budget SourceFault
+  source_failed : {old new : View} {start end : S} {bytes : List ℕ} {budget : ℕ} → Ahead terms old new start end bytes []
+      → length bytes ≤ budget → Served terms old new start end budget SourceFault
   source_failed {old} {new} {bytes = bytes} ahead within = record {
     bytes = bytes;
     turns = ahead.turns;
@@ -62,21 +42,22 @@ module _ {S : Type 0} {answers : Rule S} {stands : Stands S} where
     of_lines = ap (λ (l : List (List ℕ)). l ++ last_line (part_from [] bytes)) ahead.of_lines;
     whole = inr ([], append-nil (lines_of ahead.turns) ∙ ahead.of_lines);
     given = append-nil new.given ∙ ahead.made.given;
-    ends = λ _. ahead.made.ends;
+    ends = λ _ _. ahead.made.ends;
     asked = ahead.asked;
     crash = ahead.made.crash;
-    stand = subst (λ (s : S). AllStand stands new s) ahead.made.ends ahead.stand;
+    rest = λ _. subst (λ (s : S). AllRest terms new s) ahead.made.ends ahead.rest;
     done = λ is. absurd (cc);
     source = λ _. (ahead.of_lines, refl);
     sink = λ is. absurd (cc);
+    disk = λ is. absurd (cc);
     memory = λ is. absurd (cc);
     limit = λ is. absurd (cc);
     within = λ _. within;
   }
 
   -- more comes after the budget, and isn't read
-  limited : {old new : View} {start end : S} {bytes more : List ℕ} {budget : ℕ} → Ahead answers stands old new start end bytes more
-      → length bytes ≡ budget → 0 < length more → Served answers stands old new start end budget InputLimit
+  limited : {old new : View} {start end : S} {bytes more : List ℕ} {budget : ℕ} → Ahead terms old new start end bytes more
+      → length bytes ≡ budget → 0 < length more → Served terms old new start end budget InputLimit
   limited {old} {new} {bytes = bytes} {more} ahead all some =
       let rest = lines_from (part_from [] bytes) more in
       let part = last_line (part_from [] (bytes ++ more)) in
@@ -93,13 +74,14 @@ module _ {S : Type 0} {answers : Rule S} {stands : Stands S} where
             ∙ ap (λ (l : List (List ℕ)). l ++ part) (sym (lines_from-append [] bytes more));
         whole = inr (rest, ap (λ (l : List (List ℕ)). l ++ rest) ahead.of_lines ∙ sym (lines_from-append [] bytes more));
         given = append-nil new.given ∙ ahead.made.given;
-        ends = λ _. ahead.made.ends;
+        ends = λ _ _. ahead.made.ends;
         asked = ahead.asked;
         crash = ahead.made.crash;
-        stand = subst (λ (s : S). AllStand stands new s) ahead.made.ends ahead.stand;
+        rest = λ _. subst (λ (s : S). AllRest terms new s) ahead.made.ends ahead.rest;
         done = λ is. absurd (cc);
         source = λ is. absurd (cc);
         sink = λ is. absurd (cc);
+        disk = λ is. absurd (cc);
         memory = λ is. absurd (cc);
         limit = λ _. (bytes, more, refl, all, some, ahead.of_lines, refl);
         within = λ other. absurd (other refl);
@@ -107,9 +89,9 @@ module _ {S : Type 0} {answers : Rule S} {stands : Stands S} where
 
   -- the input has ended, and what had come of a line is answered
   ended : {old mid new : View} {start between end : S} {bytes : List ℕ} {budget : ℕ}
-      → Ahead answers stands old mid start between bytes [] → mid.left ≡ [] → length bytes ≤ budget
-      → Went answers stands mid new between end (last_line (part_from [] bytes))
-      → Served answers stands old new start end budget Done
+      → Ahead terms old mid start between bytes [] → mid.left ≡ [] → length bytes ≤ budget
+      → Went terms mid new between end (last_line (part_from [] bytes))
+      → Served terms old new start end budget Done
   ended {old} {mid} {new} {bytes = bytes} ahead none within went =
       let us = went.turns in
       record {
@@ -124,13 +106,14 @@ module _ {S : Type 0} {answers : Rule S} {stands : Stands S} where
             ∙ ap (λ (l : List (List ℕ)). whole_lines bytes ++ l) went.of_lines;
         whole = inl (went.takes.left ∙ none);
         given = append-nil new.given ∙ went.given ∙ replies_then ahead.made us;
-        ends = λ _. went.ends ∙ ends_then ahead.made us;
+        ends = λ _ _. went.ends ∙ ends_then ahead.made us;
         asked = asked_then ahead went.takes us;
         crash = crash_then ahead.made us new went.crash;
-        stand = subst (λ (s : S). AllStand stands new s) (went.ends ∙ ends_then ahead.made us) went.stand;
+        rest = λ _. subst (λ (s : S). AllRest terms new s) (went.ends ∙ ends_then ahead.made us) went.rest;
         done = λ _. (went.takes.left ∙ none, refl, refl);
         source = λ is. absurd (cc);
         sink = λ is. absurd (cc);
+        disk = λ is. absurd (cc);
         memory = λ is. absurd (cc);
         limit = λ is. absurd (cc);
         within = λ _. within;
@@ -138,11 +121,11 @@ module _ {S : Type 0} {answers : Rule S} {stands : Stands S} where
 
   -- the run halts at a line among those that end in the bytes ahead, or at the last one where the input has ended
   halted : {old mid new : View} {start between end : S} {bytes more : List ℕ} {lines : List (List ℕ)} {budget : ℕ}
-      (halt : Halt) (rest : List (List ℕ)) → Ahead answers stands old mid start between bytes more
-      → Stopped answers stands mid new between end lines halt → whole_lines bytes ++ (lines ++ rest) ≡ all_lines (bytes ++ more)
+      (halt : Halt) (rest : List (List ℕ)) → Ahead terms old mid start between bytes more
+      → Stopped terms mid new between end lines halt → whole_lines bytes ++ (lines ++ rest) ≡ all_lines (bytes ++ more)
       → (mid.left ≡ []) ⊎ (whole_lines bytes ++ lines ≡ whole_lines (bytes ++ more))
-      → length (bytes ++ more) ≤ budget → Served answers stands old new start end budget (status_at halt)
-  halted {new = new} {bytes = bytes} {more} {lines} halt rest ahead stopped all whole within =
+      → length (bytes ++ more) ≤ budget → Served terms old new start end budget (status_at halt)
+  halted {mid = mid} {new} {start} {bytes = bytes} {more} {lines} halt rest ahead stopped all whole within =
       let us = stopped.turns in
       let first : lines_of (ahead.turns ++ us) ++ stopped.unread ≡ whole_lines bytes ++ lines =
       ap (λ (l : List (List ℕ)). l ++ stopped.unread) (lines_then ahead stopped.takes us)
@@ -162,13 +145,17 @@ module _ {S : Type 0} {answers : Rule S} {stands : Stands S} where
             (λ none. inl (stopped.takes.left ∙ none))
             (λ (same : whole_lines bytes ++ lines ≡ whole_lines (bytes ++ more)). inr (stopped.unread, first ∙ same)) whole;
         given = stopped.given ∙ replies_then ahead.made us;
-        ends = λ other. (stopped.sink (sink_halts halt other)).0 ∙ ends_then ahead.made us;
+        ends = λ memory disk. (stopped.sink (other_halts halt memory disk)).0 ∙ ends_then ahead.made us;
         asked = asked_then ahead stopped.takes us;
         crash = crash_then ahead.made us new stopped.crash;
-        stand = subst (λ (s : S). AllStand stands new s) (ends_then ahead.made us) stopped.stand;
+        rest = λ other.
+            subst (λ (s : S). AllRest terms new s) (ends_then ahead.made us) (stopped.rest (λ is. other (ap status_at is)));
         done = λ is. absurd (halt_is_not_done halt is);
         source = λ is. absurd (halt_is_no_source_fault halt is);
-        sink = λ is. given_in_part_behind ahead.turns (stopped.sink (sink_halts halt (λ no. (cc)))).1;
+        sink = λ is. given_in_part_behind ahead.turns (stopped.sink (sink_halts halt is)).1;
+        disk = λ is.
+            cut_off_behind start ahead.turns ahead.made.given
+            (subst (λ (s : S). IsCutOff terms mid new s us stopped.unsent) ahead.made.ends (stopped.disk (disk_halts halt is)));
         memory = λ is. stopped.memory (memory_halts halt is);
         limit = λ is. absurd (halt_is_no_limit halt is);
         within = λ _. within;
@@ -176,23 +163,23 @@ module _ {S : Type 0} {answers : Rule S} {stands : Stands S} where
 
   -- the take fails
   pub served_source : {old mid new : View} {start end : S} {kept buf : List ℕ} {e : Failed} {room budget : ℕ}
-      → Keeping answers stands old mid start end kept room budget → Took mid new buf (Err e)
-      → Served answers stands old new start end budget SourceFault
+      → Keeping terms old mid start end kept room budget → Took mid new buf (Err e)
+      → Served terms old new start end budget SourceFault
   served_source keeping call = source_failed (took_none keeping.ahead call) (omega (arith, keeping.spent))
 
   -- it gives more than is left of the budget
   pub served_limit : {old mid new : View} {start end : S} {kept buf : List ℕ} {n room budget : ℕ}
-      → Keeping answers stands old mid start end kept room budget → Took mid new buf (Ok n) → room ≡ 0 → 0 < n
-      → n ≤ length buf → Served answers stands old new start end budget InputLimit
+      → Keeping terms old mid start end kept room budget → Took mid new buf (Ok n) → room ≡ 0 → 0 < n
+      → n ≤ length buf → Served terms old new start end budget InputLimit
   served_limit {buf = buf} {n} keeping call none some in_buf =
       limited (took_some keeping.ahead call) (omega (arith, keeping.spent)) (omega (arith, length-take n buf))
 
   -- one of its lines halts the run
   pub served_halt : {old mid between new : View} {start before end : S} {kept buf : List ℕ} {n room budget : ℕ} {halt : Halt}
-      {status : Status} → status ≡ status_at halt → Keeping answers stands old mid start before kept room budget
+      {status : Status} → status ≡ status_at halt → Keeping terms old mid start before kept room budget
       → Took mid between buf (Ok n) → n ≤ length buf → n ≤ room
-      → ((part : List ℕ) → IsKept kept part → Stopped answers stands between new before end (lines_from part (take n buf)) halt)
-      → Served answers stands old new start end budget status
+      → ((part : List ℕ) → IsKept kept part → Stopped terms between new before end (lines_from part (take n buf)) halt)
+      → Served terms old new start end budget status
   served_halt {old} {new = new} {start} {end = end} {buf = buf} {n} {budget = budget} {halt} is keeping call in_buf in_room stopped =
       let bytes = keeping.bytes in
       let more = take n buf in
@@ -200,40 +187,40 @@ module _ {S : Type 0} {answers : Rule S} {stands : Stands S} where
       let all : whole_lines bytes ++ (lines_from (part_from [] bytes) more ++ rest) ≡ all_lines (bytes ++ more) =
       sym (append_assoc (whole_lines bytes) (lines_from (part_from [] bytes) more) rest)
       ∙ ap (λ (l : List (List ℕ)). l ++ rest) (sym (lines_from-append [] bytes more)) in
-      subst (λ (s : Status). Served answers stands old new start end budget s) (sym is)
+      subst (λ (s : Status). Served terms old new start end budget s) (sym is)
       (halted halt rest (took_some keeping.ahead call) (stopped (part_from [] bytes) keeping.part) all
       (inr (sym (lines_from-append [] bytes more)))
       (omega (arith, keeping.spent, length-append bytes more, length-take n buf, in_buf, in_room)))
 
   -- it gives nothing, since the input has ended, and what had come of a line is answered
   pub served_all : {old mid between new : View} {start before end : S} {kept buf : List ℕ} {n room budget : ℕ}
-      → Keeping answers stands old mid start before kept room budget → Took mid between buf (Ok n) → n ≡ 0 → 0 < length buf
-      → ((line : List ℕ) → IsKept kept line → Went answers stands between new before end (last_line line))
-      → Served answers stands old new start end budget Done
+      → Keeping terms old mid start before kept room budget → Took mid between buf (Ok n) → n ≡ 0 → 0 < length buf
+      → ((line : List ℕ) → IsKept kept line → Went terms between new before end (last_line line))
+      → Served terms old new start end budget Done
   served_all keeping call none wide went =
       ended (took_empty keeping.ahead call none) (input_ended call none wide) (omega (arith, keeping.spent))
       (went (part_from [] keeping.bytes) keeping.part)
 
   -- nothing had come of a line
   pub served_whole : {old mid between : View} {start before : S} {kept buf : List ℕ} {n room budget : ℕ}
-      → Keeping answers stands old mid start before kept room budget → Took mid between buf (Ok n) → n ≡ 0 → 0 < length buf
-      → length kept ≡ 0 → Served answers stands old between start before budget Done
+      → Keeping terms old mid start before kept room budget → Took mid between buf (Ok n) → n ≡ 0 → 0 < length buf
+      → length kept ≡ 0 → Served terms old between start before budget Done
   served_whole keeping call none wide empty =
-      served_all keeping call none wide (λ line is. went_empty line empty is (took_empty keeping.ahead call none).stand)
+      served_all keeping call none wide (λ line is. went_empty line empty is (took_empty keeping.ahead call none).rest)
 
   -- the line of which something had come halts the run
   pub served_last : {old mid between new : View} {start before end : S} {kept buf : List ℕ} {n room budget : ℕ} {halt : Halt}
-      {status : Status} → status ≡ status_at halt → Keeping answers stands old mid start before kept room budget
+      {status : Status} → status ≡ status_at halt → Keeping terms old mid start before kept room budget
       → Took mid between buf (Ok n) → n ≡ 0 → 0 < length buf
-      → ((line : List ℕ) → IsKept kept line → Stopped answers stands between new before end (last_line line) halt)
-      → Served answers stands old new start end budget status
+      → ((line : List ℕ) → IsKept kept line → Stopped terms between new before end (last_line line) halt)
+      → Served terms old new start end budget status
   served_last {old} {new = new} {start} {end = end} {budget = budget} {halt} is keeping call none wide stopped =
       let bytes = keeping.bytes in
       let last = last_line (part_from [] bytes) in
       let no_more : bytes ≡ bytes ++ [] = sym (append-nil bytes) in
       let all : whole_lines bytes ++ (last ++ []) ≡ all_lines (bytes ++ []) =
       ap (λ (l : List (List ℕ)). whole_lines bytes ++ l) (append-nil last) ∙ ap (λ (l : List ℕ). all_lines l) no_more in
-      subst (λ (s : Status). Served answers stands old new start end budget s) (sym is)
+      subst (λ (s : Status). Served terms old new start end budget s) (sym is)
       (halted halt [] (took_empty keeping.ahead call none) (stopped (part_from [] bytes) keeping.part) all
       (inl (input_ended call none wide))
       (subst (λ (l : List ℕ). length l ≤ budget) no_more (omega (arith, keeping.spent))))

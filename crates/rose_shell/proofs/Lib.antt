@@ -1,13 +1,13 @@
 -- what settles a drawing leaves no violation
 mod Traces
--- what the engine promises of a change
-mod Promises
 -- what the engine answers to a change is what the store answers
 mod ChangeAnswers
--- a command is answered or refused, and so is its line
-mod Commands
--- each state of a session is a realm
-mod Realms
+-- a value that has a geometry is shown by it
+mod ValueAnswers
+-- a store keeps its terms at the desk
+mod Stores
+-- an answer is one step
+mod Steps
 -- bytes are given call by call
 mod Gifts
 -- bytes are cut into lines, some bytes more at a time
@@ -16,6 +16,8 @@ mod Cuts
 mod Keeps
 -- turns are put together
 mod Turns
+-- one line is answered, and its reply given
+mod OneTurn
 -- lines are answered one after another
 mod Runs
 -- a line is treated by its length
@@ -24,5 +26,11 @@ mod Treatments
 mod Chunks
 -- the loop goes on from take to take
 mod Takes
+-- which halt a status tells of
+mod Halts
 -- the loop ends
 mod Exits
+-- what a crash leaves is counted by the changes
+mod Prefixes
+-- sessions of the store
+mod Sessions

@@ -8,30 +8,31 @@ use Rattle.outside_world.specs.View.{View, Asked}
 use Rattle.outside_world.specs.Calls.{Asks, Ticks, SameFiles, Took}
 use Rattle.outside_world.specs.Since.{OnlyAdds, TakesNone}
 use Rattle.rose_shell.specs.Lines.{lines_from, part_from, whole_lines, IsKept}
-use Rattle.rose_shell.specs.Desk.{Rule, Stands, AllStand}
+use Rattle.rose_shell.specs.Desk.{Terms, AllRest}
 use Rattle.rose_shell.specs.Session.{Turn, replies, lines_of, IsAnswered}
 use Rattle.rose_shell.specs.Loop.{Went}
 use Rattle.outside_world.proofs.Moments.{only_nothing, only_wider, only_then, only_of_adds}
 use Rattle.rose_shell.proofs.Turns.{lines_of-append, moment_now}
 use Rattle.rose_shell.proofs.Cuts.{lines_from-append, part_from-append}
-use Rattle.rose_shell.proofs.Runs.{Made, run_then, ends_then, replies_then, crash_then, still_stand}
+use Rattle.rose_shell.proofs.Runs.{Made, run_then, ends_then, replies_then, crash_then}
+use Rattle.rose_shell.proofs.OneTurn.{still_rest}
 
 -- the whole lines among these bytes were answered, and more bytes were taken
-pub record Ahead {S : Type 0} (answers : Rule S) (stands : Stands S) (old new : View) (start end : S)
+pub record Ahead {S : Type 0} (terms : Terms S) (old new : View) (start end : S)
     (bytes more : List ℕ) : Type 0 where
   pub turns : List (Turn S)
-  pub made : Made answers stands old new start end turns
+  pub made : Made terms old new start end turns
   pub of_lines : lines_of turns ≡ whole_lines bytes
   pub left : old.left ≡ bytes ++ (more ++ new.left)
   pub taken : new.taken ≡ old.taken ++ (bytes ++ more)
-  pub stand : AllStand stands new end
+  pub rest : AllRest terms new end
   pub asked : OnlyAdds old.moment old.asked_since new.asked_since (IsAnswered old turns)
 
 -- between two takes no bytes are ahead, what has come of a line is kept, and this room is left of the budget
-pub record Keeping {S : Type 0} (answers : Rule S) (stands : Stands S) (old new : View) (start end : S)
+pub record Keeping {S : Type 0} (terms : Terms S) (old new : View) (start end : S)
     (kept : List ℕ) (room budget : ℕ) : Type 0 where
   pub bytes : List ℕ
-  pub ahead : Ahead answers stands old new start end bytes []
+  pub ahead : Ahead terms old new start end bytes []
   pub part : IsKept kept (part_from [] bytes)
   pub spent : length bytes + room ≡ budget
 
@@ -47,11 +48,11 @@ answered_more {S} ts us a is = record {
   given = is.given;
 }
 
-module _ {S : Type 0} {answers : Rule S} {stands : Stands S} where
+module _ {S : Type 0} {terms : Terms S} where
   -- before the first take
-  pub keeping_none : {v : View} {s : S} {kept : List ℕ} (budget : ℕ) → kept ≡ [] → AllStand stands v s
-      → Keeping answers stands v v s s kept budget budget
-  keeping_none {v} budget none stand = record {
+  pub keeping_none : {v : View} {s : S} {kept : List ℕ} (budget : ℕ) → kept ≡ [] → AllRest terms v s
+      → Keeping terms v v s s kept budget budget
+  keeping_none {v} budget none rest = record {
     bytes = [];
     ahead = record {
       turns = [];
@@ -59,7 +60,7 @@ module _ {S : Type 0} {answers : Rule S} {stands : Stands S} where
       of_lines = refl;
       left = refl;
       taken = sym (append-nil v.taken);
-      stand = stand;
+      rest = rest;
       asked = only_nothing;
     };
     part = none;
@@ -67,14 +68,14 @@ module _ {S : Type 0} {answers : Rule S} {stands : Stands S} where
   }
 
   -- one take, whether it gives anything or fails: all whole lines had been answered when it began
-  took : {old mid new : View} {start end : S} {bytes : List ℕ} (more : List ℕ) → Ahead answers stands old mid start end bytes []
+  took : {old mid new : View} {start end : S} {bytes : List ℕ} (more : List ℕ) → Ahead terms old mid start end bytes []
       → Ticks (Asks mid) mid new → SameFiles mid new → new.given ≡ mid.given → mid.left ≡ more ++ new.left
-      → new.taken ≡ mid.taken ++ more → Ahead answers stands old new start end bytes more
+      → new.taken ≡ mid.taken ++ more → Ahead terms old new start end bytes more
   took {old} {mid} {new} {start} {end} {bytes} more ahead ticks files given left taken =
       let turns = ahead.turns in
       let made = ahead.made in
       let all_taken : mid.taken ≡ old.taken ++ bytes = ahead.taken ∙ ap (λ (l : List ℕ). old.taken ++ l) (append-nil bytes) in
-      let stand : AllStand stands new end = still_stand files.images ahead.stand in
+      let rest : AllRest terms new end = still_rest files.images ahead.rest in
       let given_now : new.given ≡ old.given ++ replies turns = given ∙ made.given in
       record {
         turns = turns;
@@ -84,13 +85,14 @@ module _ {S : Type 0} {answers : Rule S} {stands : Stands S} where
           given = given_now;
           later = omega (arith, made.later, ticks.clock);
           crash = only_then made.crash made.later (only_wider (only_of_adds ticks.crash)
-              (λ m may. moment_now stands start turns old.given m (may.0 ∙ given_now)
-              (subst (λ (s : S). stands s m.files) made.ends (stand.each m.files may.1))));
+              (λ m may. moment_now terms.stands start turns old.given m (may.0 ∙ given_now)
+              (subst (λ (s : S). terms.stands s m.files) made.ends
+              (terms.rest_stands end m.files (rest.each m.files may.1)))));
         };
         of_lines = ahead.of_lines;
         left = ahead.left ∙ ap (λ (l : List ℕ). bytes ++ l) left;
         taken = taken ∙ ap (λ (l : List ℕ). l ++ more) all_taken ∙ append_assoc old.taken bytes more;
-        stand = stand;
+        rest = rest;
         asked = only_then ahead.asked made.later (only_wider (only_of_adds ticks.asked)
             (λ a asks. record {
               bytes = bytes;
@@ -103,23 +105,23 @@ module _ {S : Type 0} {answers : Rule S} {stands : Stands S} where
             }));
       }
 
-  pub took_some : {old mid new : View} {start end : S} {bytes buf : List ℕ} {n : ℕ} → Ahead answers stands old mid start end bytes []
-      → Took mid new buf (Ok n) → Ahead answers stands old new start end bytes (take n buf)
+  pub took_some : {old mid new : View} {start end : S} {bytes buf : List ℕ} {n : ℕ} → Ahead terms old mid start end bytes []
+      → Took mid new buf (Ok n) → Ahead terms old new start end bytes (take n buf)
   took_some {buf = buf} {n} ahead call = took (take n buf) ahead call.ticks call.files call.given call.moved.left call.moved.taken
 
   pub took_none : {old mid new : View} {start end : S} {bytes buf : List ℕ} {e : Failed}
-      → Ahead answers stands old mid start end bytes [] → Took mid new buf (Err e) → Ahead answers stands old new start end bytes []
+      → Ahead terms old mid start end bytes [] → Took mid new buf (Err e) → Ahead terms old new start end bytes []
   took_none ahead call = took [] ahead call.ticks call.files call.given call.failed.left call.failed.taken
 
   pub took_empty : {old mid new : View} {start end : S} {bytes buf : List ℕ} {n : ℕ}
-      → Ahead answers stands old mid start end bytes [] → Took mid new buf (Ok n) → n ≡ 0 → Ahead answers stands old new start end bytes []
+      → Ahead terms old mid start end bytes [] → Took mid new buf (Ok n) → n ≡ 0 → Ahead terms old new start end bytes []
   took_empty {old} {new = new} {start} {end} {bytes} {buf} ahead call none =
-      subst (λ (l : List ℕ). Ahead answers stands old new start end bytes l) (ap (λ (k : ℕ). take k buf) none)
+      subst (λ (l : List ℕ). Ahead terms old new start end bytes l) (ap (λ (k : ℕ). take k buf) none)
       (took_some ahead call)
 
   -- turns after those so far
   module _ {old mid new : View} {start between : S} {bytes more : List ℕ}
-      (ahead : Ahead answers stands old mid start between bytes more) (takes : TakesNone mid new) where
+      (ahead : Ahead terms old mid start between bytes more) (takes : TakesNone mid new) where
     pub asked_then : (us : List (Turn S)) → OnlyAdds old.moment old.asked_since new.asked_since (IsAnswered old (ahead.turns ++ us))
     asked_then us =
         only_then (only_wider ahead.asked (answered_more ahead.turns us)) ahead.made.later
@@ -133,9 +135,9 @@ module _ {S : Type 0} {answers : Rule S} {stands : Stands S} where
     lines_then us = lines_of-append ahead.turns us ∙ ap (λ (l : List (List ℕ)). l ++ lines_of us) ahead.of_lines
 
   -- the lines that end in the bytes ahead are answered
-  fed : {old mid new : View} {start between end : S} {bytes more : List ℕ} → Ahead answers stands old mid start between bytes more
-      → Went answers stands mid new between end (lines_from (part_from [] bytes) more)
-      → Ahead answers stands old new start end (bytes ++ more) []
+  fed : {old mid new : View} {start between end : S} {bytes more : List ℕ} → Ahead terms old mid start between bytes more
+      → Went terms mid new between end (lines_from (part_from [] bytes) more)
+      → Ahead terms old new start end (bytes ++ more) []
   fed {old} {new = new} {bytes = bytes} {more} ahead went =
       let us = went.turns in
       record {
@@ -151,16 +153,16 @@ module _ {S : Type 0} {answers : Rule S} {stands : Stands S} where
             ∙ sym (lines_from-append [] bytes more);
         left = left_then ahead went.takes;
         taken = went.takes.taken ∙ ahead.taken ∙ ap (λ (l : List ℕ). old.taken ++ l) (sym (append-nil (bytes ++ more)));
-        stand = went.stand;
+        rest = went.rest;
         asked = asked_then ahead went.takes us;
       }
 
   -- one turn of the loop: a take that gives something, whose lines are answered
   pub keeping_more : {old mid between new : View} {start before end : S} {kept later_kept buf : List ℕ} {n room budget : ℕ}
-      → Keeping answers stands old mid start before kept room budget → Took mid between buf (Ok n) → n ≤ length buf → n ≤ room
-      → ((part : List ℕ) → IsKept kept part → Went answers stands between new before end (lines_from part (take n buf)))
+      → Keeping terms old mid start before kept room budget → Took mid between buf (Ok n) → n ≤ length buf → n ≤ room
+      → ((part : List ℕ) → IsKept kept part → Went terms between new before end (lines_from part (take n buf)))
       → ((part : List ℕ) → IsKept kept part → IsKept later_kept (part_from part (take n buf)))
-      → Keeping answers stands old new start end later_kept (room - n) budget
+      → Keeping terms old new start end later_kept (room - n) budget
   keeping_more {later_kept = later_kept} {buf} {n} keeping call in_buf in_room went part =
       let bytes = keeping.bytes in
       let more = take n buf in

@@ -1,9 +1,9 @@
 -- This file shows how turns are put together.
-use Rattle.std.proofs.Common.{◌≡◌, inl, inr, ℕ, List, [], ◌∷◌, ◌++◌, refl, sym, ◌∙◌, ap, subst, append_assoc}
+use Rattle.std.proofs.Common.{◌≡◌, ◌⊎◌, inl, inr, ℕ, List, [], ◌∷◌, ◌++◌, refl, sym, ◌∙◌, ap, subst, append_assoc}
 use Rattle.std.proofs.lemmas.List.{append-nil}
-use Rattle.outside_world.specs.View.{Moment}
-use Rattle.rose_shell.specs.Desk.{Rule, Stands}
-use Rattle.rose_shell.specs.Session.{Turn, IsRun, end_of, replies, lines_of, IsMoment, IsGivenInPart}
+use Rattle.outside_world.specs.View.{View, Moment}
+use Rattle.rose_shell.specs.Desk.{Rule, Stands, Terms}
+use Rattle.rose_shell.specs.Session.{Turn, IsRun, end_of, replies, lines_of, IsMoment, IsGivenInPart, IsCutOff}
 
 module _ {S : Type 0} where
   pub end_of-append : (start : S) (ts us : List (Turn S)) → end_of start (ts ++ us) ≡ end_of (end_of start ts) us
@@ -28,6 +28,27 @@ module _ {S : Type 0} where
     in_order = ap (λ (l : List (Turn S)). ts ++ l) part.in_order ∙ sym (append_assoc ts part.before (part.last ∷ []));
     split = part.split;
   }
+
+-- the same of a run that was cut off
+module _ {S : Type 0} {terms : Terms S} {old mid new : View} where
+  pub cut_off_behind : (start : S) (ts : List (Turn S)) {us : List (Turn S)} {unsent : List ℕ}
+      → mid.given ≡ old.given ++ replies ts → IsCutOff terms mid new (end_of start ts) us unsent
+      → IsCutOff terms old new start (ts ++ us) unsent
+  cut_off_behind start ts given cut =
+      let before = cut.before in
+      let same : end_of (end_of start ts) before ≡ end_of start (ts ++ before) = sym (end_of-append start ts before) in
+      record {
+        before = ts ++ before;
+        last = cut.last;
+        in_order = ap (λ (l : List (Turn S)). ts ++ l) cut.in_order ∙ sym (append_assoc ts before (cut.last ∷ []));
+        none_given = cut.none_given;
+        given_before = cut.given_before ∙ ap (λ (l : List ℕ). l ++ replies before) given
+            ∙ append_assoc old.given (replies ts) (replies before)
+            ∙ ap (λ (l : List ℕ). old.given ++ l) (sym (replies-append ts before));
+        may_write = subst (λ (s : S). terms.writes s cut.last.line) same cut.may_write;
+        either = λ files image.
+            subst (λ (s : S). terms.stands s files ⊎ terms.stands cut.last.after files) same (cut.either files image);
+      }
 
 module _ {S : Type 0} (answers : Rule S) where
   pub run-append : (start : S) (ts us : List (Turn S)) → IsRun answers start ts → IsRun answers (end_of start ts) us

@@ -1,9 +1,10 @@
 -- One answer of a desk, and what a crash may leave while it is made.
-use Rattle.std.specs.Prelude.{◌≡◌, ◌⊎◌, ℕ, List, Result, OnOk, OnErr}
-use Rattle.grid_base.specs.declared.memory.NoMemory.{NoMemory}
+use Rattle.std.specs.Prelude.{◌≡◌, ◌⊎◌, ℕ, List, Result, Err, OnOk}
 use Rattle.outside_world.specs.declared.world.FileName.{FileName}
 use Rattle.outside_world.specs.View.{View, Moment}
 use Rattle.outside_world.specs.Since.{TakesNone, LeavesOnly}
+use Rattle.rose_shell.specs.declared.desk.Stop.{Stop}
+use Rattle.rose_shell.specs.declared.desk.Stop.TheVariants.{Disk, NoMemory}
 
 -- the rule of a desk: from the first state, this line may get this reply and lead to the second state
 abbrev pub Rule : Type 0 → Type 1
@@ -13,21 +14,44 @@ Rule S = S → List ℕ → List ℕ → S → Type 0
 abbrev pub Stands : Type 0 → Type 1
 Stands S = S → (FileName → List ℕ) → Type 0
 
--- whatever a crash now leaves of the files stands for the state
-pub record AllStand {S : Type 0} (stands : Stands S) (v : View) (s : S) : Type 0 where
-  pub each : (files : FileName → List ℕ) → ((f : FileName) → v.image f (files f)) → stands s files
+-- what a desk goes by, S being its states
+pub record Terms (S : Type 0) : Type 1 where
+  pub answers : Rule S
+  -- in this state, this line may write to the files
+  pub writes : S → List ℕ → Type 0
+  -- files that stand for this state
+  pub stands : Stands S
+  -- files as a desk in this state leaves them between two answers
+  pub rests : Stands S
+  pub rest_stands : (s : S) (files : FileName → List ℕ) → rests s files → stands s files
+
+-- whatever a crash now leaves of the files is as a desk in this state leaves them between two answers
+pub record AllRest {S : Type 0} (terms : Terms S) (v : View) (s : S) : Type 0 where
+  pub each : (files : FileName → List ℕ) → ((f : FileName) → v.image f (files f)) → terms.rests s files
 
 -- while one answer is made, nothing is given, and the files stand for the state before it or after it
-abbrev pub IsAnswering : {S : Type 0} → Stands S → View → S → S → Moment → Type 0
-IsAnswering stands v start end m = (m.given ≡ v.given) × (stands start m.files ⊎ stands end m.files)
+abbrev pub IsAnswering : {S : Type 0} → Terms S → View → S → S → Moment → Type 0
+IsAnswering terms v start end m = (m.given ≡ v.given) × (terms.stands start m.files ⊎ terms.stands end m.files)
 
--- A line was answered, or memory ran out, and nothing was taken or given. Where memory ran out, the files
--- have stood for the state before the line all the time, and still do.
-pub record Answered {S : Type 0} (stands : Stands S) (old new : View) (start end : S)
-    (result : Result (List ℕ) NoMemory) : Type 0 where
+-- An answer that was begun when the disk failed: the line may write, there is a reply to it, and the files
+-- have stood for the state before it or after it all the time, and still do.
+pub record Begun {S : Type 0} (terms : Terms S) (old new : View) (start : S) (line : List ℕ) : Type 0 where
+  pub reply : List ℕ
+  pub after : S
+  pub answer : terms.answers start line reply after
+  pub may_write : terms.writes start line
+  pub crash : LeavesOnly old new (IsAnswering terms old start after)
+  pub either : (files : FileName → List ℕ) → ((f : FileName) → new.image f (files f))
+      → terms.stands start files ⊎ terms.stands after files
+
+-- A line was answered, or memory ran out, or the disk failed, and nothing was taken or given. Where memory
+-- ran out, the files have stood for the state before the line all the time, and still do.
+pub record Answered {S : Type 0} (terms : Terms S) (old new : View) (start end : S) (line : List ℕ)
+    (result : Result (List ℕ) Stop) : Type 0 where
   pub takes : TakesNone old new
   pub given : new.given ≡ old.given
-  pub stand : OnOk result (AllStand stands new end)
-  pub crash : OnOk result (LeavesOnly old new (IsAnswering stands old start end))
-  pub still_stand : OnErr result (AllStand stands new start)
-  pub still_crash : OnErr result (LeavesOnly old new (IsAnswering stands old start start))
+  pub rest : OnOk result (AllRest terms new end)
+  pub crash : OnOk result (LeavesOnly old new (IsAnswering terms old start end))
+  pub memory : result ≡ Err NoMemory
+      → AllRest terms new start × LeavesOnly old new (IsAnswering terms old start start)
+  pub disk : result ≡ Err Disk → Begun terms old new start line

@@ -6,15 +6,15 @@ pub mod Lines
 pub mod Replies
 -- what each line is answered
 pub mod Answers
--- what a reply tells of a change
-pub mod Changes
 -- bytes that are given, whole or in part
 pub mod Giving
 -- one answer of a desk
 pub mod Desk
 -- a run over many lines
 pub mod Session
--- and a part of one
+-- what a crash leaves of one, counted by the changes
+pub mod Prefixes
+-- a part of a run
 pub mod Loop
 -- what `run` and `serve` promise
 pub mod Running

@@ -1,15 +1,14 @@
 -- A session: lines are answered one by one, and the files stand for the state before an answer or after.
 use Rattle.std.specs.Prelude.{◌≡◌, ◌≢◌, ◌⊎◌, ◌<◌, ◌≤◌, ℕ, List, [], ◌∷◌, ◌++◌, length, nat_lt}
-use Rattle.std.specs.Prelude.{MatchBool}
+use Rattle.std.specs.Prelude.{MatchBool, codes}
+use Rattle.outside_world.specs.declared.world.FileName.{FileName}
 use Rattle.outside_world.specs.View.{View, Asked, Moment}
 use Rattle.outside_world.specs.Since.{OnlyAdds, LeavesOnly}
-use Rattle.rose_shell.specs.declared.refusals.Refusal.TheVariants.{NotBuilt}
 use Rattle.rose_shell.specs.declared.status.Status.{Status}
 use Rattle.rose_shell.specs.declared.status.Status.TheVariants.{Done, SourceFault, SinkFault}
-use Rattle.rose_shell.specs.declared.status.Status.TheVariants.{NoMemory, InputLimit}
-use Rattle.rose_shell.specs.Desk.{Rule, Stands, AllStand}
+use Rattle.rose_shell.specs.declared.status.Status.TheVariants.{DiskFault, NoMemory, InputLimit}
+use Rattle.rose_shell.specs.Desk.{Rule, Stands, Terms, AllRest}
 use Rattle.rose_shell.specs.Lines.{longest_line, whole_lines, all_lines}
-use Rattle.rose_shell.specs.Replies.{no_reply}
 
 -- a line, its reply and the state after it
 pub record Turn (S : Type 0) : Type 0 where
@@ -17,10 +16,14 @@ pub record Turn (S : Type 0) : Type 0 where
   pub reply : List ℕ
   pub after : S
 
--- a line that is too long is refused unread, any other is answered
+-- the reply to a line that is too long
+abbrev pub too_long_reply : List ℕ
+too_long_reply = codes "no too-long" ++ 10 ∷ []
+
+-- a line of more bytes gets this reply and changes nothing, any other is answered
 abbrev pub Treats : {S : Type 0} → Rule S → S → List ℕ → List ℕ → S → Type 0
 Treats answers start line reply end =
-    MatchBool (nat_lt longest_line (length line)) ((reply ≡ no_reply NotBuilt) × (end ≡ start))
+    MatchBool (nat_lt longest_line (length line)) ((reply ≡ too_long_reply) × (end ≡ start))
     (answers start line reply end)
 
 -- the lines are treated one after another, each from the state that the one before has left
@@ -62,6 +65,20 @@ pub record IsGivenInPart {S : Type 0} (turns : List (Turn S)) (unsent : List ℕ
   pub in_order : turns ≡ before ++ last ∷ []
   pub split : last.reply ≡ sent ++ unsent
 
+-- Every reply but the last was given whole, and of the last one nothing: the disk failed while its line was
+-- answered, which may write to the files. Whatever a crash now leaves of them stands for the state before
+-- this line or after it.
+pub record IsCutOff {S : Type 0} (terms : Terms S) (old new : View) (start : S) (turns : List (Turn S))
+    (unsent : List ℕ) : Type 0 where
+  pub before : List (Turn S)
+  pub last : Turn S
+  pub in_order : turns ≡ before ++ last ∷ []
+  pub none_given : unsent ≡ last.reply
+  pub given_before : new.given ≡ old.given ++ replies before
+  pub may_write : terms.writes (end_of start before) last.line
+  pub either : (files : FileName → List ℕ) → ((f : FileName) → new.image f (files f))
+      → terms.stands (end_of start before) files ⊎ terms.stands last.after files
+
 -- a take began when the whole lines among the bytes taken had been answered, and nothing else
 pub record IsAnswered {S : Type 0} (old : View) (turns : List (Turn S)) (a : Asked) : Type 0 where
   pub bytes : List ℕ
@@ -73,7 +90,7 @@ pub record IsAnswered {S : Type 0} (old : View) (turns : List (Turn S)) (a : Ask
   pub given : a.given ≡ old.given ++ replies done
 
 -- a whole run of the loop, with its status
-pub record Served {S : Type 0} (answers : Rule S) (stands : Stands S) (old new : View) (start end : S)
+pub record Served {S : Type 0} (terms : Terms S) (old new : View) (start end : S)
     (budget : ℕ) (status : Status) : Type 0 where
   pub bytes : List ℕ
   pub turns : List (Turn S)
@@ -83,20 +100,21 @@ pub record Served {S : Type 0} (answers : Rule S) (stands : Stands S) (old new :
   pub left : old.left ≡ bytes ++ new.left
   pub taken : new.taken ≡ old.taken ++ bytes
   -- the first lines of theirs were answered, and these replies given but for the unsent end
-  pub is_run : IsRun answers start turns
+  pub is_run : IsRun terms.answers start turns
   pub of_lines : lines_of turns ++ unread ≡ all_lines bytes
   -- an unfinished last line only at the end of the input
   pub whole : (new.left ≡ []) ⊎ ((others : List (List ℕ)) × (lines_of turns ++ others ≡ whole_lines bytes))
   pub given : new.given ++ unsent ≡ old.given ++ replies turns
-  pub ends : status ≢ NoMemory → end ≡ end_of start turns
+  pub ends : status ≢ NoMemory → status ≢ DiskFault → end ≡ end_of start turns
   -- at each take, at each crash since the start, and at a crash now
   pub asked : OnlyAdds old.moment old.asked_since new.asked_since (IsAnswered old turns)
-  pub crash : LeavesOnly old new (IsMoment stands start turns old.given)
-  pub stand : AllStand stands new (end_of start turns)
+  pub crash : LeavesOnly old new (IsMoment terms.stands start turns old.given)
+  pub rest : status ≢ DiskFault → AllRest terms new (end_of start turns)
   -- what each status means
   pub done : status ≡ Done → (new.left ≡ []) × (unread ≡ []) × (unsent ≡ [])
   pub source : status ≡ SourceFault → (lines_of turns ≡ whole_lines bytes) × (unsent ≡ [])
   pub sink : status ≡ SinkFault → IsGivenInPart turns unsent
+  pub disk : status ≡ DiskFault → IsCutOff terms old new start turns unsent
   pub memory : status ≡ NoMemory → unsent ≡ []
   pub limit : status ≡ InputLimit → (first last : List ℕ) × (bytes ≡ first ++ last)
       × (length first ≡ budget) × (0 < length last)

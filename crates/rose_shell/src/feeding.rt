@@ -6,27 +6,31 @@ ghost use Rattle.std.specs.Prelude.{slice_index, Err, MatchOption, IfErr, OnOk, 
 ghost use Rattle.outside_world.specs.Counts.{Rose};
 ghost use Rattle.outside_world.specs.GoesOn.{GoesOn};
 ghost use Rattle.rose_shell.specs.Lines.{lines_from, part_from, IsKept};
-ghost use Rattle.rose_shell.specs.Desk.{AllStand};
-ghost use Rattle.rose_shell.specs.Loop.{Went, Stopped};
+ghost use Rattle.rose_shell.specs.Desk.{AllRest};
+ghost use Rattle.rose_shell.specs.Loop.{Went, Stopped, halt_at};
 
-use crate::desk::Desk;
+use crate::desk::{Desk, Stop};
 use crate::giving::give_all;
 use crate::{LONG_LINE_REFUSAL, LONGEST_LINE};
 use grid_base::NoMemory;
 use outside_world::{Failed, Outside};
 use std::alloc::Global;
+use std::thread::Threads;
 
 /// Why the lines aren't answered on.
 #[derive(Clone, Copy, Debug, PartialEq, Eq)]
 pub(crate) enum Halt {
     /// The output took no more.
     Sink,
+    /// The disk failed.
+    Disk,
     /// Memory ran out.
     NoMemory,
 }
 
 /// Reads a chunk of the input, and answers each line that ends in it.
-pub(crate) fn feed<W: Outside, D: Desk<W>>(
+pub(crate) fn feed<R: Threads + Sync, W: Outside, D: Desk<W>>(
+    rt: &R,
     alloc: Global,
     desk: &mut D,
     world: &mut W,
@@ -34,25 +38,27 @@ pub(crate) fn feed<W: Outside, D: Desk<W>>(
     chunk: &[u8],
 ) -> Result<(), Halt>
     requires ready { D.ready desk.old }
-    requires stand { W.tells world.old → AllStand D.stands (W.view world.old) desk.old }
+    requires rest { W.tells world.old → AllRest D.terms (W.view world.old) desk.old }
     ensures kept { OnOk result ((part : List ℕ) → IsKept kept.old.items part
         → IsKept kept.new.items (part_from part chunk.now)) }
     ensures went { OnOk result ((part : List ℕ) → IsKept kept.old.items part → W.tells world.new
-        → Went D.answers D.stands (W.view world.old) (W.view world.new) desk.old desk.new
+        → Went D.terms (W.view world.old) (W.view world.new) desk.old desk.new
         (lines_from part chunk.now)) }
     ensures stopped { IfErr result (λ halt. (part : List ℕ) → IsKept kept.old.items part
         → W.tells world.new
-        → Stopped D.answers D.stands (W.view world.old) (W.view world.new) desk.old desk.new
+        → Stopped D.terms (W.view world.old) (W.view world.new) desk.old desk.new
         (lines_from part chunk.now) halt) }
     ensures sink_fault { IsErrOf result Halt.Sink
         → Rose (W.sink_faults world.old) (W.sink_faults world.new) }
-    ensures ready { result ≢ Err Halt.NoMemory → D.ready desk.new }
-    ensures stand { OnOk result (W.tells world.new → AllStand D.stands (W.view world.new) desk.new) }
+    ensures disk_fault { IsErrOf result Halt.Disk
+        → Rose (W.disk_faults world.old) (W.disk_faults world.new) }
+    ensures ready { result ≢ Err Halt.NoMemory → result ≢ Err Halt.Disk → D.ready desk.new }
+    ensures rest { OnOk result (W.tells world.new → AllRest D.terms (W.view world.new) desk.new) }
     ensures goes_on { GoesOn ⟦<W as Outside>⟧ world.old world.new }
 {
     let mut rest = chunk;
     while let Some(end) = line_end(rest) {
-        match end_line(alloc, desk, world, kept, &rest[..end]) {
+        match end_line(rt, alloc, desk, world, kept, &rest[..end]) {
             Ok(()) => {}
             Err(halt) => return Err(halt),
         }
@@ -74,7 +80,8 @@ fn line_end(bytes: &[u8]) -> Option<usize>
 }
 
 /// Answers the line that these bytes end.
-fn end_line<W: Outside, D: Desk<W>>(
+fn end_line<R: Threads + Sync, W: Outside, D: Desk<W>>(
+    rt: &R,
     alloc: Global,
     desk: &mut D,
     world: &mut W,
@@ -82,26 +89,28 @@ fn end_line<W: Outside, D: Desk<W>>(
     bytes: &[u8],
 ) -> Result<(), Halt>
     requires ready { D.ready desk.old }
-    requires stand { W.tells world.old → AllStand D.stands (W.view world.old) desk.old }
+    requires rest { W.tells world.old → AllRest D.terms (W.view world.old) desk.old }
     ensures kept { OnOk result (kept.new.items ≡ []) }
     ensures went { OnOk result ((part : List ℕ) → IsKept kept.old.items part → W.tells world.new
-        → Went D.answers D.stands (W.view world.old) (W.view world.new) desk.old desk.new
+        → Went D.terms (W.view world.old) (W.view world.new) desk.old desk.new
         ((part ++ bytes.now) ∷ [])) }
     ensures stopped { IfErr result (λ halt. (part : List ℕ) → IsKept kept.old.items part
         → W.tells world.new
-        → Stopped D.answers D.stands (W.view world.old) (W.view world.new) desk.old desk.new
+        → Stopped D.terms (W.view world.old) (W.view world.new) desk.old desk.new
         ((part ++ bytes.now) ∷ []) halt) }
     ensures sink_fault { IsErrOf result Halt.Sink
         → Rose (W.sink_faults world.old) (W.sink_faults world.new) }
-    ensures ready { result ≢ Err Halt.NoMemory → D.ready desk.new }
-    ensures stand { OnOk result (W.tells world.new → AllStand D.stands (W.view world.new) desk.new) }
+    ensures disk_fault { IsErrOf result Halt.Disk
+        → Rose (W.disk_faults world.old) (W.disk_faults world.new) }
+    ensures ready { result ≢ Err Halt.NoMemory → result ≢ Err Halt.Disk → D.ready desk.new }
+    ensures rest { OnOk result (W.tells world.new → AllRest D.terms (W.view world.new) desk.new) }
     ensures goes_on { GoesOn ⟦<W as Outside>⟧ world.old world.new }
 {
     match keep(kept, bytes) {
         Ok(()) => {}
         Err(NoMemory) => return Err(Halt::NoMemory),
     }
-    match answer_kept(alloc, desk, world, kept) {
+    match answer_kept(rt, alloc, desk, world, kept) {
         Ok(()) => {}
         Err(halt) => return Err(halt),
     }
@@ -120,24 +129,27 @@ fn keep(kept: &mut Vec<u8>, bytes: &[u8]) -> Result<(), NoMemory>
 }
 
 /// Answers the line of which this was kept: refuses it unread where it is too long.
-pub(crate) fn answer_kept<W: Outside, D: Desk<W>>(
+pub(crate) fn answer_kept<R: Threads + Sync, W: Outside, D: Desk<W>>(
+    rt: &R,
     alloc: Global,
     desk: &mut D,
     world: &mut W,
     kept: &[u8],
 ) -> Result<(), Halt>
     requires ready { D.ready desk.old }
-    requires stand { W.tells world.old → AllStand D.stands (W.view world.old) desk.old }
+    requires rest { W.tells world.old → AllRest D.terms (W.view world.old) desk.old }
     ensures went { OnOk result ((line : List ℕ) → IsKept kept.now line → W.tells world.new
-        → Went D.answers D.stands (W.view world.old) (W.view world.new) desk.old desk.new
+        → Went D.terms (W.view world.old) (W.view world.new) desk.old desk.new
         (line ∷ [])) }
     ensures stopped { IfErr result (λ halt. (line : List ℕ) → IsKept kept.now line → W.tells world.new
-        → Stopped D.answers D.stands (W.view world.old) (W.view world.new) desk.old desk.new
+        → Stopped D.terms (W.view world.old) (W.view world.new) desk.old desk.new
         (line ∷ []) halt) }
     ensures sink_fault { IsErrOf result Halt.Sink
         → Rose (W.sink_faults world.old) (W.sink_faults world.new) }
-    ensures ready { result ≢ Err Halt.NoMemory → D.ready desk.new }
-    ensures stand { OnOk result (W.tells world.new → AllStand D.stands (W.view world.new) desk.new) }
+    ensures disk_fault { IsErrOf result Halt.Disk
+        → Rose (W.disk_faults world.old) (W.disk_faults world.new) }
+    ensures ready { result ≢ Err Halt.NoMemory → result ≢ Err Halt.Disk → D.ready desk.new }
+    ensures rest { OnOk result (W.tells world.new → AllRest D.terms (W.view world.new) desk.new) }
     ensures goes_on { GoesOn ⟦<W as Outside>⟧ world.old world.new }
 {
     if kept.len() > LONGEST_LINE {
@@ -146,11 +158,23 @@ pub(crate) fn answer_kept<W: Outside, D: Desk<W>>(
             Err(Failed) => Err(Halt::Sink),
         };
     }
-    match desk.answer(alloc, world, kept) {
-        Err(NoMemory) => Err(Halt::NoMemory),
+    match desk.answer(rt, alloc, world, kept) {
+        Err(stop) => Err(halt_of(stop)),
         Ok(reply) => match give_all(world, reply.bytes()) {
             Ok(()) => Ok(()),
             Err(Failed) => Err(Halt::Sink),
         },
+    }
+}
+
+/// Where a desk that stops halts the lines.
+fn halt_of(stop: Stop) -> Halt
+    ensures halt { result ≡ halt_at stop }
+    ensures disk { result ≡ Halt.Disk → stop ≡ Stop.Disk }
+    ensures never_sink { result ≢ Halt.Sink }
+{
+    match stop {
+        Stop::Disk => Halt::Disk,
+        Stop::NoMemory => Halt::NoMemory,
     }
 }

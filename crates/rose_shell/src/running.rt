@@ -31,11 +31,14 @@ pub fn run<R: Threads + Sync, W: Outside>(
         → Rose (W.source_faults world.old) (W.source_faults world.new) }
     ensures sink_fault { result ≡ Status.SinkFault
         → Rose (W.sink_faults world.old) (W.sink_faults world.new) }
+    ensures disk_fault { result ≡ Status.DiskFault
+        → Rose (W.disk_faults world.old) (W.disk_faults world.new) }
     ensures told { result ≢ Status.Usage → W.tells world.new
         → HasRun (W.view world.old) (W.view world.new) result }
     ensures complete { IsRunWord (map string_bytes words.now) → W.tells world.new
         → ¬ (Rose (W.source_faults world.old) (W.source_faults world.new))
         → ¬ (Rose (W.sink_faults world.old) (W.sink_faults world.new))
+        → ¬ (Rose (W.disk_faults world.old) (W.disk_faults world.new))
         → length (W.view world.old).left ≤ 2 ^ 40
         → (result ≡ Status.Done) ⊎ (result ≡ Status.NoMemory) }
     ensures goes_on { GoesOn ⟦<W as Outside>⟧ world.old world.new }
@@ -66,7 +69,7 @@ fn is_run(word: &str) -> bool
 /// Reads lines to the end of the input, and answers each from this store on. The run ends at the first fault,
 /// at want of memory, and at the first take that gives more after `budget` bytes were taken.
 pub fn serve<R: Threads + Sync, W: Outside>(
-    _rt: &R,
+    rt: &R,
     store: &mut Store,
     world: &mut W,
     budget: u64,
@@ -77,20 +80,23 @@ pub fn serve<R: Threads + Sync, W: Outside>(
         → Rose (W.source_faults world.old) (W.source_faults world.new) }
     ensures sink_fault { result ≡ Status.SinkFault
         → Rose (W.sink_faults world.old) (W.sink_faults world.new) }
+    ensures disk_fault { result ≡ Status.DiskFault
+        → Rose (W.disk_faults world.old) (W.disk_faults world.new) }
     ensures told { W.tells world.new
         → HasServed (W.view world.old) (W.view world.new) store.old store.new budget result }
     // Where no call fails and the input ends within the budget, nothing but memory can be wanting.
     ensures complete { W.tells world.new
         → ¬ (Rose (W.source_faults world.old) (W.source_faults world.new))
         → ¬ (Rose (W.sink_faults world.old) (W.sink_faults world.new))
+        → ¬ (Rose (W.disk_faults world.old) (W.disk_faults world.new))
         → length (W.view world.old).left ≤ budget
         → (result ≡ Status.Done) ⊎ (result ≡ Status.NoMemory) }
-    ensures ready { result ≢ Status.NoMemory → store.new.spent ≡ false }
+    ensures ready { result ≢ Status.NoMemory → result ≢ Status.DiskFault → store.new.spent ≡ false }
     ensures goes_on { GoesOn ⟦<W as Outside>⟧ world.old world.new }
 {
     // The session begins with a realm.
     let _drawing = store.drawing();
     let alloc = store.allocator();
     let mut chunk = [0u8; 65_536];
-    serve_by_chunks(alloc, store, world, budget, &mut chunk)
+    serve_by_chunks(rt, alloc, store, world, budget, &mut chunk)
 }

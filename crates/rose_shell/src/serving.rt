@@ -3,7 +3,7 @@ ghost use Rattle.std.specs.Prelude.{◌≡◌, ◌≢◌, ◌≤◌, ◌<◌, le
 ghost use Rattle.outside_world.specs.Counts.{Rose};
 ghost use Rattle.outside_world.specs.GoesOn.{GoesOn};
 ghost use Rattle.outside_world.specs.Calls.{Took};
-ghost use Rattle.rose_shell.specs.Desk.{AllStand};
+ghost use Rattle.rose_shell.specs.Desk.{AllRest};
 ghost use Rattle.rose_shell.specs.Session.{Served};
 ghost use Rattle.rose_shell.specs.Loop.{status_at};
 
@@ -12,11 +12,13 @@ use crate::feeding::{Halt, answer_kept, feed};
 use crate::status::Status;
 use outside_world::{Failed, Outside};
 use std::alloc::Global;
+use std::thread::Threads;
 
 /// Reads lines to the end of the input, and answers each, with this room for the bytes of one take. What stands
 /// after the last line feed is a line too, where it isn't empty. The run ends at the first fault, at want of
 /// memory, and at the first take that gives more after `budget` bytes were taken.
-pub(crate) fn serve_by_chunks<W: Outside, D: Desk<W>>(
+pub(crate) fn serve_by_chunks<R: Threads + Sync, W: Outside, D: Desk<W>>(
+    rt: &R,
     alloc: Global,
     desk: &mut D,
     world: &mut W,
@@ -25,15 +27,17 @@ pub(crate) fn serve_by_chunks<W: Outside, D: Desk<W>>(
 ) -> Status
     requires room { 0 < length chunk.old }
     requires ready { D.ready desk.old }
-    requires stand { W.tells world.old → AllStand D.stands (W.view world.old) desk.old }
+    requires rest { W.tells world.old → AllRest D.terms (W.view world.old) desk.old }
     ensures told { W.tells world.new
-        → Served D.answers D.stands (W.view world.old) (W.view world.new) desk.old desk.new budget result }
+        → Served D.terms (W.view world.old) (W.view world.new) desk.old desk.new budget result }
     ensures never_usage { result ≢ Status.Usage }
     ensures source_fault { result ≡ Status.SourceFault
         → Rose (W.source_faults world.old) (W.source_faults world.new) }
     ensures sink_fault { result ≡ Status.SinkFault
         → Rose (W.sink_faults world.old) (W.sink_faults world.new) }
-    ensures ready { result ≢ Status.NoMemory → D.ready desk.new }
+    ensures disk_fault { result ≡ Status.DiskFault
+        → Rose (W.disk_faults world.old) (W.disk_faults world.new) }
+    ensures ready { result ≢ Status.NoMemory → result ≢ Status.DiskFault → D.ready desk.new }
     ensures goes_on { GoesOn ⟦<W as Outside>⟧ world.old world.new }
 {
     let mut kept = Vec::new(alloc);
@@ -47,7 +51,7 @@ pub(crate) fn serve_by_chunks<W: Outside, D: Desk<W>>(
             if kept.is_empty() {
                 return Status::Done;
             }
-            match answer_kept(alloc, desk, world, &kept) {
+            match answer_kept(rt, alloc, desk, world, &kept) {
                 Ok(()) => return Status::Done,
                 Err(halt) => return status_of(halt),
             }
@@ -56,7 +60,7 @@ pub(crate) fn serve_by_chunks<W: Outside, D: Desk<W>>(
             return Status::InputLimit;
         }
         room -= n as u64;
-        match feed(alloc, desk, world, &mut kept, &chunk[..n]) {
+        match feed(rt, alloc, desk, world, &mut kept, &chunk[..n]) {
             Ok(()) => {}
             Err(halt) => return status_of(halt),
         }
@@ -85,6 +89,7 @@ fn status_of(halt: Halt) -> Status
 {
     match halt {
         Halt::Sink => Status::SinkFault,
+        Halt::Disk => Status::DiskFault,
         Halt::NoMemory => Status::NoMemory,
     }
 }

@@ -2,8 +2,7 @@
 ghost use Rattle.std.specs.Prelude.{◌≡◌};
 ghost use Rattle.rose_shell.specs.Status.{number_of};
 
-/// How a run ended. No status has the numbers 4 and 5 yet: they are kept for faults of the disk and for
-/// damaged files.
+/// How a run ended. No status has the number 5 yet: it is kept for damaged files.
 #[derive(Clone, Copy, Debug, PartialEq, Eq)]
 pub enum Status {
     /// The input ended, and each line of it was answered.
@@ -14,6 +13,8 @@ pub enum Status {
     SourceFault,
     /// The output took no more.
     SinkFault,
+    /// A file could not be read or written on.
+    DiskFault,
     /// Memory ran out.
     NoMemory,
     /// The input is longer than the run may read.
@@ -30,6 +31,7 @@ impl Status {
             Status::Usage => 1,
             Status::SourceFault => 2,
             Status::SinkFault => 3,
+            Status::DiskFault => 4,
             Status::NoMemory => 6,
             Status::InputLimit => 7,
         }
@@ -48,6 +50,7 @@ mod tests {
             (Status::Usage, 1),
             (Status::SourceFault, 2),
             (Status::SinkFault, 3),
+            (Status::DiskFault, 4),
             (Status::NoMemory, 6),
             (Status::InputLimit, 7),
         ];

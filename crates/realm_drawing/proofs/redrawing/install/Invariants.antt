@@ -3,4 +3,4 @@ use Rattle.realm_drawing.proofs.Installations.{IsInstalling}
 use Rattle.realm_drawing.proofs.redrawing.install.Given as goal
 
 abbrev pub invariant-loop-replacement : goal.invariant-loop-replacement
-invariant-loop-replacement l = IsInstalling l.step l.fn.originals.items l.originals.items l.replacement-iterator.rest.items
+invariant-loop-replacement l = IsInstalling l.step l.fn.originals l.originals l.replacement-iterator.rest.items

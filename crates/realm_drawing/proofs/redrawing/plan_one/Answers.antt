@@ -1,5 +1,5 @@
-use Rattle.std.proofs.Common.{subst}
-use Rattle.realm_drawing.specs.Redraws.{AddsReplacements, HasOwner}
+use Rattle.std.proofs.Common.{Contains, subst}
+use Rattle.realm_drawing.specs.Redraws.{AddsReplacements}
 use Rattle.realm_drawing.specs.Shares.{ListsAlso, IsGained, IsLost}
 use Rattle.realm_drawing.proofs.redrawing.plan_one.Goals as goal
 
@@ -12,7 +12,7 @@ returns c =
     let more = rw c.points.ensures at c.in_ok-gained.ensures.ok in
     let less = rw c.points-2.ensures at c.in_ok-lost.ensures.ok in
     record {
-      chains = subst (λ ids. AddsReplacements c.args.step.now originals (HasOwner originals ids) c.args.plan.now.chains.items
+      chains = subst (λ ids. AddsReplacements c.args.step.now originals (Contains ids) c.args.plan.now.chains.items
           c.replace_owners.new.list.items) is c.in_ok-replace_owners.ensures;
       more = subst (λ ids. ListsAlso c.args.plan.now.more.items c.gained.new.list.items
           (IsGained c.args.registry.now ids one.path)) is more;

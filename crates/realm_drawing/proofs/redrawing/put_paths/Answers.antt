@@ -11,12 +11,6 @@ use Rattle.realm_drawing.proofs.StepShares.{lost_were_pieces}
 use Rattle.realm_drawing.proofs.StepOwners.{ChangesShares, owners_redrawn}
 use Rattle.realm_drawing.proofs.redrawing.put_paths.Goals as goal
 
--- the registry has the owners of the list as it was passed
-pub plan_of-requires-clause-kept : goal.plan_of-requires-clause-kept
-plan_of-requires-clause-kept c =
-    subst (λ (originals : List Original). AreKept originals c.args.registry.now) (sym c.deref.ensures.value)
-    c.requires.kept
-
 -- what an original gains it doesn't own yet
 pub add_shares-requires : goal.add_shares-requires
 add_shares-requires c =
@@ -30,7 +24,7 @@ add_shares-requires c =
 -- without memory for the shares nothing has changed
 pub returns-in_err-fresh-clause-kept : goal.returns-in_err-fresh-clause-kept
 returns-in_err-fresh-clause-kept c =
-    subst (AreKept c.args.originals.now.items) (sym c.in_err-fresh.ensures.unchanged) c.requires.kept
+    subst (AreKept c.args.originals.now) (sym c.in_err-fresh.ensures.unchanged) c.requires.kept
 
 -- the originals are those of the step, their chains may stand for them, and their pieces are theirs
 pub returns-clause-kept : goal.returns-clause-kept
@@ -47,7 +41,7 @@ returns-clause-kept c =
       more = subst (HasMore old mid) c.as_slice.ensures.value c.in_ok-fresh.ensures.owners;
       less = subst (HasFewer mid new) c.as_slice-2.ensures.value c.drop_shares.ensures.owners;
     } in
-    let originals = c.args.originals.now.items in
+    let originals = c.args.originals.now in
     subst (λ (changed : List Original). AreKept changed new) (sym c.install.ensures) (record {
       ids_rise = redrawn_ascending step originals c.requires.kept.ids_rise;
       all_valid = redrawn_all_valid step originals c.requires.step c.requires.kept.all_valid;

@@ -1,13 +1,14 @@
-use Rattle.std.proofs.lemmas.Result.{on_ok_weaker}
-use Rattle.realm_drawing.proofs.Owners.{added_for_id, none_for_id}
+use Rattle.std.proofs.Common.{subst}
+use Rattle.realm_drawing.specs.Redraws.{redrawn_by, Becomes}
+use Rattle.realm_drawing.proofs.Owners.{replaced_for_id}
 use Rattle.realm_drawing.proofs.redrawing.replace_owner.Goals as goal
 
--- the original with the id stands at the place that was found
-pub returns-in-Some : goal.returns-in-Some
-returns-in-Some c =
-    on_ok_weaker _ (added_for_id c.args.step.now c.args.originals.now c.args.id c.in-Some.place _ _ c.requires.rising
-    c.in-Some.ensures) c.replace_at.ensures
-
--- and where none was found there is none
-pub returns-in-None : goal.returns-in-None
-returns-in-None c = none_for_id c.args.step.now c.args.originals.now c.args.id c.args.list.now.items c.in-None.ensures
+-- the new chain is what the step makes of the old one
+pub returns-in_ok-push : goal.returns-in_ok-push
+returns-in_ok-push c =
+    let step = c.args.step.now in
+    let points = c.in-Some.points.now in
+    let made = subst (Becomes points (redrawn_by step points)) c.in-Some-2.is c.in_ok-chain.ensures in
+    rw c.in_ok-push.ensures.items
+    (replaced_for_id step c.args.originals.now c.args.id points c.in-Some-2.chain c.args.list.now.items
+    c.in-Some.ensures.chain made)

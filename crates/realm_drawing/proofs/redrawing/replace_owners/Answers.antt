@@ -1,15 +1,11 @@
 use Rattle.std.proofs.Common.{get_or, take_all}
 use Rattle.std.proofs.lemmas.List.{get_or_default}
-use Rattle.grid_base.proofs.Elements.{Contains-nil}
-use Rattle.realm_drawing.proofs.Owners.{an_element, none_added, owners_next}
+use Rattle.realm_drawing.proofs.Owners.{none_owned, owners_next}
 use Rattle.realm_drawing.proofs.redrawing.replace_owners.Goals as goal
 
 -- no owner yet
 pub loop-id-init : goal.loop-id-init
-loop-id-init c =
-    let originals = c.args.originals.now in
-    none_added c.args.step.now originals _ c.args.list.now.items
-    (λ i within has. let d = an_element originals i within in Contains-nil (get_or originals i d).id (has d))
+loop-id-init c = none_owned c.args.step.now c.args.originals.now c.args.list.now.items
 
 -- one owner more
 pub loop-id-preserved : goal.loop-id-preserved

@@ -1,5 +1,4 @@
-use Rattle.std.proofs.Common.{None, ◌≡◌, sym, ◌∙◌, subst}
-use Rattle.std.specs.FinMap as map
+use Rattle.std.proofs.Common.{sym, ◌∙◌, subst}
 use Rattle.realm_index.specs.Index.{Entries}
 use Rattle.realm_insert.proofs.IndexKeys.{IsPutIn, put_in, none_where_not, some_where}
 use Rattle.realm_insert.proofs.MissingPieces.{adds_no_piece, adds_nothing, adds_missing}

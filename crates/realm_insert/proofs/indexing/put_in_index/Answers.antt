@@ -1,5 +1,4 @@
-use Rattle.std.proofs.Common.{◌≡◌, None, take_all, subst, sym}
-use Rattle.std.specs.FinMap as map
+use Rattle.std.proofs.Common.{take_all, subst, sym}
 use Rattle.realm_index.specs.Index.{Entries}
 use Rattle.realm_insert.proofs.IndexKeys.{IsPutIn, put_in}
 use Rattle.realm_insert.proofs.PutPieces.{puts_none, next_is_new, puts_next}

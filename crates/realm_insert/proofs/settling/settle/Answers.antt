@@ -2,23 +2,23 @@ use Rattle.std.proofs.Common.{Option, MatchOption, List, sym, subst}
 use Rattle.grid_base.specs.Drawing.{HasViolation}
 use Rattle.grid_base.specs.declared.kinds.Step.{Step}
 use Rattle.realm_drawing.specs.Mending.{IsPermitted}
-use Rattle.realm_insert.specs.Work.{LeadsBy}
+use Rattle.realm_insert.specs.Misfits.{LeadsBy}
 use Rattle.realm_insert.proofs.StepsTaken.{leads_on, settles_by, room_shrinks}
 use Rattle.realm_insert.proofs.settling.settle.Goals as goal
 
 -- a step leaves room for fewer links
 pub loop-trace-smaller : goal.loop-trace-smaller
 loop-trace-smaller c =
-    let taken = c.in_ok-take.ensures in
-    room_shrinks c.loop-trace.drawing.drawing c.take.new.drawing.drawing c.in-Some.step c.loop-trace.invariant.valid
+    let taken = c.in_ok-mend.ensures in
+    room_shrinks c.loop-trace.drawing.drawing c.mend.new.drawing.drawing c.in-Some.step c.loop-trace.invariant.valid
     taken.valid taken.taken
 
 -- the step comes last
 pub loop-trace-preserved : goal.loop-trace-preserved
 loop-trace-preserved c =
     let first = c.args.drawing.now.drawing in
-    let last = c.take.new.drawing.drawing in
-    let taken = c.in_ok-take.ensures in
+    let last = c.mend.new.drawing.drawing in
+    let taken = c.in_ok-mend.ensures in
     let leads = leads_on first c.loop-trace.drawing.drawing last c.loop-trace.trace.items c.in-Some.step
     c.loop-trace.invariant.leads taken.taken in
     record {

@@ -3,7 +3,8 @@ use Rattle.realm_drawing.specs.Chains.{AllValid}
 use Rattle.realm_drawing.specs.Keyed.{AreKeyed}
 use Rattle.realm_drawing.specs.Measure.{links_of, most_links_of}
 use Rattle.realm_insert.specs.Kept.{IsIndexed}
-use Rattle.realm_insert.specs.Work.{IsCoveredBy, LeadsBy}
+use Rattle.realm_insert.specs.Misfits.{LeadsBy}
+use Rattle.realm_insert.specs.Work.{IsCoveredBy}
 use Rattle.realm_insert.proofs.settling.settle.Given as goal
 
 -- the steps so far lead to the drawing, whose violations the list covers

@@ -12,7 +12,7 @@ pub put_in_index-requires : goal.put_in_index-requires
 put_in_index-requires c =
     let old = c.args.drawing.now in
     let new = c.redraw.new.self in
-    let done = c.in-Ok.ensures in
+    let done = c.in_ok-drawn.ensures in
     let draws = subst (DrawsAnew c.args.step.now old new) (sym c.as_slice-2.ensures.value) done.anew in
     let noted = subst (ListsKeyed old (IsPieceOf c.args.step.now)) (sym c.as_slice.ensures.value) c.in_ok-replaced.ensures in
     record {
@@ -26,7 +26,7 @@ pub returns-clause-indexed : goal.returns-clause-indexed
 returns-clause-indexed c =
     let old = c.args.drawing.now in
     let new = c.redraw.new.self in
-    let done = c.in-Ok.ensures in
+    let done = c.in_ok-drawn.ensures in
     let draws = subst (DrawsAnew c.args.step.now old new) (sym c.as_slice-2.ensures.value) done.anew in
     let noted = subst (ListsKeyed old (IsPieceOf c.args.step.now)) (sym c.as_slice.ensures.value) c.in_ok-replaced.ensures in
     indexed_after old new done.keys c.requires.keyed done.keyed c.args.step.now c.as_slice-2.result.now c.as_slice.result.now
@@ -38,8 +38,8 @@ pub returns-clause-covered : goal.returns-clause-covered
 returns-clause-covered c =
     let fresh = c.args.fresh.now.items in
     let new = c.redraw.new.self in
-    let done = c.in-Ok.ensures in
-    let covered = covered_after c.args.drawing.now new c.args.step.now fresh c.in-Ok.drawn.items done.keyed
+    let done = c.in_ok-drawn.ensures in
+    let covered = covered_after c.args.drawing.now new c.args.step.now fresh c.in_ok-drawn.drawn.items done.keyed
     c.requires.covered done.anew in
     let longer = c.in_ok-list_pieces.ensures
     ∙ ap (λ (l : List KeyedPiece). fresh ++ map (λ (f : KeyedPiece). f.piece) l) c.as_slice-3.ensures.value in

@@ -15,9 +15,9 @@ loop-end-init g c = record {
   split = refl;
   goes_on = goes_on_none;
   ready = c.requires.ready;
-  stand = c.requires.stand;
+  rest = c.requires.rest;
   kept = λ part is. is;
-  went = λ part is t. went_none (c.requires.stand t);
+  went = λ part is t. went_none (c.requires.rest t);
 }
 
 -- one line more is done, its line feed with it
@@ -33,8 +33,8 @@ loop-end-preserved g c =
       done = done;
       split = cut_at_feed inv.done rest n inv.split at.0 at.1 (take_rest rest (n + 1));
       goes_on = goes_on_then inv.goes_on ens.goes_on;
-      ready = ens.ready (λ is. cc);
-      stand = ens.stand;
+      ready = ens.ready (λ is. cc) (λ is. cc);
+      rest = ens.rest;
       kept = λ part is. kept_none (longest_line + 1) (part_from-line part inv.done (take n rest)) ens.kept;
       went = λ part is t.
           went_line part inv.done (take n rest) at.2 (inv.went part is (ens.goes_on.tells t))

@@ -1,7 +1,7 @@
 use Rattle.std.proofs.Common.{◌≡◌, ℕ, List, ◌++◌, length}
 use Rattle.outside_world.specs.GoesOn.{GoesOn}
 use Rattle.rose_shell.specs.Lines.{lines_from, part_from, IsKept}
-use Rattle.rose_shell.specs.Desk.{AllStand}
+use Rattle.rose_shell.specs.Desk.{AllRest}
 use Rattle.rose_shell.specs.Loop.{Went}
 use Rattle.rose_shell.proofs.feeding.feed.Given as goal
 
@@ -11,10 +11,10 @@ invariant-loop-end g l = record {
   split : l.chunk ≡ done ++ l.rest;
   goes_on : GoesOn g.W.Outside l.fn.world l.world;
   ready : g.D.Desk.ready l.desk;
-  stand : g.W.Outside.tells l.world → AllStand g.D.Desk.stands (g.W.Outside.view l.world) l.desk;
+  rest : g.W.Outside.tells l.world → AllRest g.D.Desk.terms (g.W.Outside.view l.world) l.desk;
   kept : (part : List ℕ) → IsKept l.fn.kept.items part → IsKept l.kept.items (part_from part done);
   went : (part : List ℕ) → IsKept l.fn.kept.items part → g.W.Outside.tells l.world
-      → Went g.D.Desk.answers g.D.Desk.stands (g.W.Outside.view l.fn.world) (g.W.Outside.view l.world)
+      → Went g.D.Desk.terms (g.W.Outside.view l.fn.world) (g.W.Outside.view l.world)
       l.fn.desk l.desk (lines_from part done);
 }
 

@@ -10,8 +10,9 @@ loop-rest-preserved g c =
     let ens = c.in_ok-given.ensures in
     record {
       goes_on = record {
-        source_faults = omega (arith, inv.goes_on.source_faults, ens.others);
+        source_faults = omega (arith, inv.goes_on.source_faults, ens.others.0);
         sink_faults = omega (arith, inv.goes_on.sink_faults, ens.later);
+        disk_faults = omega (arith, inv.goes_on.disk_faults, ens.others.1);
         tells = λ t. inv.goes_on.tells (ens.still t);
       };
       told = λ t. gave_more (take_rest c.loop-rest.rest.now c.in_ok-given.given) (inv.told (ens.still t)) (ens.told t);

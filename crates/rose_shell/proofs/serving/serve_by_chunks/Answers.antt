@@ -1,4 +1,5 @@
 use Rattle.std.proofs.Common.{◌≡◌, ◌<◌, length, arith, rules, ◌∙◌}
+use Rattle.std.proofs.lemmas.Bool.Decides.{nat_tests}
 use Rattle.outside_world.proofs.GoingOn.{goes_on_none, goes_on_then}
 use Rattle.rose_shell.proofs.Takes.{keeping_none, keeping_more}
 use Rattle.rose_shell.proofs.Exits.{served_source, served_limit, served_halt, served_whole, served_all, served_last}
@@ -10,7 +11,7 @@ pub loop-n-init : goal.loop-n-init
 loop-n-init g c = record {
   goes_on = goes_on_none;
   ready = c.requires.ready;
-  keeping = λ t. keeping_none c.args.budget c.new-kept.ensures.items (c.requires.stand t);
+  keeping = λ t. keeping_none c.args.budget c.new-kept.ensures.items (c.requires.rest t);
 }
 
 -- the lines that end in the bytes of this take are answered
@@ -21,7 +22,7 @@ loop-n-preserved g c =
     let ens = c.in-Ok-feed.ensures in
     record {
       goes_on = goes_on_then inv.goes_on (goes_on_then took.goes_on ens.goes_on);
-      ready = ens.ready (λ is. cc);
+      ready = ens.ready (λ is. cc) (λ is. cc);
       keeping = λ t.
           let then = ens.goes_on.tells t in
           keeping_more (inv.keeping (took.goes_on.tells then)) (took.told then) took.within (omega (arith, took.room))
@@ -52,7 +53,7 @@ returns-in-Ok-answer_kept-clause-told g c = λ t.
     let took = c.in-Ok.ensures in
     let ens = c.in-Ok-answer_kept.ensures in
     let then = ens.goes_on.tells t in
-    let some : 0 < length c.loop-n.kept.items = search rules in
+    let some : 0 < length c.loop-n.kept.items = grind (arith, nat_tests, c.is_empty.ensures, c.if-is_empty.false) in
     served_all (c.loop-n.invariant.keeping (took.goes_on.tells then)) (took.told then) c.if-n-eq0.true (omega arith)
     (λ line is. went_last line some is (ens.went line (c.deref.ensures.value ∙ is) t))
 
@@ -62,7 +63,7 @@ returns-in-Err-answer_kept-clause-told g c = λ t.
     let took = c.in-Ok.ensures in
     let ens = c.in-Err-answer_kept.ensures in
     let then = ens.goes_on.tells t in
-    let some : 0 < length c.loop-n.kept.items = search rules in
+    let some : 0 < length c.loop-n.kept.items = grind (arith, nat_tests, c.is_empty.ensures, c.if-is_empty.false) in
     served_last c.status_of.ensures.status (c.loop-n.invariant.keeping (took.goes_on.tells then)) (took.told then)
     c.if-n-eq0.true (omega arith)
     (λ line is. stopped_last line some is (ens.stopped line (c.deref.ensures.value ∙ is) t))

@@ -8,4 +8,4 @@ returns-clause-new c = rw (← c.self.view_is) c.put.ensures.new
 pub returns-clause-added : goal.returns-clause-added
 returns-clause-added c =
     let inside = c.self.inside in
-    rw (← c.self.view_is) (point_added c.put.result _ _ inside.originals.items inside.registry _ c.put.ensures.members)
+    rw (← c.self.view_is) (point_added c.put.result _ _ inside.originals inside.registry _ c.put.ensures.members)

@@ -5,7 +5,7 @@ use Rattle.realm_drawing.proofs.drawing.Drawing.key.Goals as goal
 pub returns-clause-key : goal.returns-clause-key
 returns-clause-key c =
     let inside = c.self.inside in
-    rw (c.key.ensures.key, ← c.self.view_is) (key_is_listed inside.explicit inside.originals.items _ _)
+    rw (c.key.ensures.key, ← c.self.view_is) (key_is_listed inside.explicit inside.originals _ _)
 
 -- and it has one for each piece
 pub returns-clause-piece : goal.returns-clause-piece

@@ -5,9 +5,9 @@ use Rattle.realm_drawing.proofs.drawing.Drawing.place_chain.Goals as goal
 pub returns-in_default-clause-keys : goal.returns-in_default-clause-keys
 returns-in_default-clause-keys c =
     let inside = c.self.inside in
-    rw (← c.self.view_is) (KeepsKeys-itself inside.explicit inside.originals.items inside.registry)
+    rw (← c.self.view_is) (KeepsKeys-itself inside.explicit inside.originals inside.registry)
 
 pub returns-in_err-list-clause-keys : goal.returns-in_err-list-clause-keys
 returns-in_err-list-clause-keys c =
     let inside = c.self.inside in
-    rw (← c.self.view_is) (KeepsKeys-itself inside.explicit inside.originals.items inside.registry)
+    rw (← c.self.view_is) (KeepsKeys-itself inside.explicit inside.originals inside.registry)

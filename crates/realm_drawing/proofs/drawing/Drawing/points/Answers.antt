@@ -16,5 +16,5 @@ returns-clause-exact c =
     let sorted = c.sort_unstable.new.self.items in
     let whole = rw (c.in_ok-points.ensures, c.deref.ensures.value) at c.in_ok-extend_from_slice.ensures.items in
     rw (dedup_is _ _ _ c.dedup.ensures.filtered, ← c.self.view_is)
-    (points_are_listed inside.explicit inside.originals.items _ c.self.invariant c.in_ok-vertices.vertices.items _ sorted
+    (points_are_listed inside.explicit inside.originals _ c.self.invariant c.in_ok-vertices.vertices.items _ sorted
     c.in_ok-vertices.ensures.exact whole c.sort_unstable.ensures.permutation)

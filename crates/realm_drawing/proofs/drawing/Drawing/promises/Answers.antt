@@ -9,5 +9,5 @@ returns c =
     record {
       stand = rw (← c.self.view_is) (all_stand _ c.self.invariant.all_valid);
       keyed = rw (← c.self.view_is) (kept_keyed _ _ _ c.self.invariant);
-      keys = rw (← c.self.view_is) (KeepsKeys-itself inside.explicit inside.originals.items inside.registry);
+      keys = rw (← c.self.view_is) (KeepsKeys-itself inside.explicit inside.originals inside.registry);
     }

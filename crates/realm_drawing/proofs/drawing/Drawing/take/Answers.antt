@@ -23,14 +23,14 @@ returns-in_err-redrawings-clause-keyed c = rw (← c.self.view_is) (kept_keyed _
 pub returns-in_err-redrawings-clause-keys : goal.returns-in_err-redrawings-clause-keys
 returns-in_err-redrawings-clause-keys c =
     let inside = c.self.inside in
-    rw (← c.self.view_is) (KeepsKeys-itself inside.explicit inside.originals.items inside.registry)
+    rw (← c.self.view_is) (KeepsKeys-itself inside.explicit inside.originals inside.registry)
 
 -- the paths are in the place of the pieces
 pub returns-clause-ok : goal.returns-clause-ok
 returns-clause-ok c =
     let inside = c.self.inside in
     let step = c.args.step.now in
-    let d : Drawing = record { points = inside.explicit; originals = inside.originals.items } in
+    let d : Drawing = record { points = inside.explicit; originals = inside.originals } in
     let permitted = rw (← c.self.view_is) at c.requires.permitted in
     let parts = (permitted_mends d _ _ permitted.1).1 in
     rw (← c.self.view_is)
@@ -43,10 +43,10 @@ returns-clause-ok c =
 pub returns-clause-anew : goal.returns-clause-anew
 returns-clause-anew c =
     let inside = c.self.inside in
-    let new = c.put_paths.new.originals.items in
+    let new = c.put_paths.new.originals in
     let kept = kept_with_points inside.explicit new _ c.self.invariant.points_ascend c.put_paths.ensures.kept in
     rw (← c.self.view_is)
-    (draws_anew_if c.args.step.now _ inside.explicit inside.originals.items new _ _ _ c.in_ok-redrawings.ensures
+    (draws_anew_if c.args.step.now _ inside.explicit inside.originals new _ _ _ c.in_ok-redrawings.ensures
     c.self.invariant kept c.put_paths.ensures.ok c.put_paths.ensures.fresh)
 
 -- what is true at any time holds again
@@ -62,6 +62,6 @@ returns-clause-keyed c =
 pub returns-clause-keys : goal.returns-clause-keys
 returns-clause-keys c =
     let inside = c.self.inside in
-    let new = c.put_paths.new.originals.items in
+    let new = c.put_paths.new.originals in
     rw (← c.self.view_is)
-    (keys_are_kept inside.explicit inside.explicit inside.originals.items new _ _ c.put_paths.ensures.keys)
+    (keys_are_kept inside.explicit inside.explicit inside.originals new _ _ c.put_paths.ensures.keys)

@@ -18,7 +18,7 @@ pub invariant_of-self-in_default : goal.invariant_of-self-in_default
 invariant_of-self-in_default t c =
     let sq = ap (λ (b : Branch). b.square) c.self.view_is in
     let within = subst (λ q. IsTrue (holds q c.args.entry.bounds)) (sym sq) c.requires.held in
-    rw c.in_ok-push.ensures.items (branch_own_more c.self.inside.square c.self.inside.own.items c.self.inside.parts.items
+    rw c.in_ok-add_own.ensures.added (branch_own_more c.self.inside.square c.self.inside.own.items c.self.inside.parts.items
     c.self.invariant c.args.entry c.in_default.ensures within)
 
 -- there was no memory for a part

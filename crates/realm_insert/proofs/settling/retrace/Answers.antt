@@ -1,0 +1,55 @@
+use Rattle.std.proofs.Common.{◌≡◌, ◌+◌, Option, MatchOption, length, subst, arith, rules}
+use Rattle.grid_base.specs.Drawing.{HasViolation}
+use Rattle.grid_base.specs.declared.kinds.Step.{Step}
+use Rattle.realm_drawing.specs.Mending.{IsPermitted}
+use Rattle.realm_insert.specs.Misfits.{Misfits}
+use Rattle.realm_insert.proofs.FailedTraces.{leads_next, leads_whole, misfits_at, misfits_past, permitted_at_violation}
+use Rattle.realm_insert.proofs.StepsTaken.{settles_by}
+use Rattle.realm_insert.proofs.settling.retrace.Goals as goal
+
+-- the steps before it lead to where it isn't permitted
+pub returns-in-Err-NotPermitted-clause-mismatch : goal.returns-in-Err-NotPermitted-clause-mismatch
+returns-in-Err-NotPermitted-clause-mismatch c = λ number same.
+    let d = c.args.drawing.now.drawing in
+    let steps = c.args.steps.now in
+    let i = c.loop-i.i in
+    let at : i + 1 ≡ number = cc in
+    let forbidden = c.take.ensures.not_permitted (first_of (search rules, cc)) in
+    subst (Misfits d steps) at
+    (misfits_at d c.loop-i.drawing.drawing steps i c.index-steps-i.result c.loop-i-test.true c.index-steps-i.is
+    c.loop-i.invariant.leads forbidden)
+
+-- one step more
+pub loop-i-preserved : goal.loop-i-preserved
+loop-i-preserved c =
+    let done = c.in-Ok.ensures in
+    record {
+      leads = leads_next c.args.drawing.now.drawing c.loop-i.drawing.drawing c.take.new.drawing.drawing c.args.steps.now c.loop-i.i
+          c.index-steps-i.result c.loop-i-test.true c.index-steps-i.is c.loop-i.invariant.leads done.taken;
+      indexed = done.indexed;
+      keyed = done.keyed;
+      valid = done.valid;
+      covered = done.covered;
+    }
+
+-- where nothing is found after the last step no violation is left
+pub returns-in-None-clause-settles : goal.returns-in-None-clause-settles
+returns-in-None-clause-settles c =
+    let d = c.args.drawing.now.drawing in
+    let e = c.loop-i.drawing.drawing in
+    let steps = c.args.steps.now in
+    let settled = subst (λ (found : Option Step). MatchOption found (HasViolation e → ⊥) (IsPermitted e)) c.in-None.is
+    c.in_ok-next_step.ensures.found in
+    settles_by d e steps (leads_whole d e steps c.loop-i.i (omega (arith, c.loop-i-test.false)) c.loop-i.invariant.leads) settled
+
+-- and what is found mends one
+pub returns-clause-mismatch : goal.returns-clause-mismatch
+returns-clause-mismatch c = λ number same.
+    let d = c.args.drawing.now.drawing in
+    let e = c.loop-i.drawing.drawing in
+    let steps = c.args.steps.now in
+    let at : length steps + 1 ≡ number = cc in
+    let permitted = subst (λ (found : Option Step). MatchOption found (HasViolation e → ⊥) (IsPermitted e)) c.in-Some.is
+    c.in_ok-next_step.ensures.found in
+    let leads = leads_whole d e steps c.loop-i.i (omega (arith, c.loop-i-test.false)) c.loop-i.invariant.leads in
+    subst (Misfits d steps) at (misfits_past d e steps leads (permitted_at_violation e c.in-Some.field-0 permitted))

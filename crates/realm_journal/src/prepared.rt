@@ -1,0 +1,46 @@
+//! A record that is ready to be appended.
+ghost use Rattle.std.specs.Prelude.{◌≡◌, IfOk};
+ghost use Rattle.record_codec.specs.Fitting.{IsRecord};
+ghost use Rattle.record_codec.specs.Spelling.{text_of};
+
+use crate::block::Block;
+use grid_base::NoMemory;
+use record_codec::{Record, encode};
+use std::alloc::Global;
+use std::marker::Model;
+
+/// The block of a record: appending it takes no memory. Contracts see the record.
+#[derive(Drop)]
+pub struct Prepared {
+    block: Block,
+}
+
+impl Model for Prepared {
+    ghost use Rattle.record_codec.specs.declared.record.Record.{Record};
+    ghost use Rattle.realm_journal.specs.PreparedFields.{record_of, IsOfRecord};
+
+    ghost Value = { Record };
+
+    ghost view = { record_of };
+
+    ghost invariant = { IsOfRecord };
+}
+
+/// Makes a record ready to be appended. This takes the memory that appending needs.
+pub fn prepare(alloc: Global, r: &Record) -> Result<Prepared, NoMemory>
+    requires { IsRecord r.now }
+    ensures { IfOk result (λ p. p ≡ r.now) }
+{
+    let text = encode(alloc, r)?;
+    let block = Block::new(alloc, &text)?;
+    Ok(Prepared { block })
+}
+
+impl Prepared {
+    /// The record's text between its gates.
+    pub(crate) fn block(&self) -> &Block
+        ensures text { result.now ≡ text_of self.now }
+    {
+        &self.block
+    }
+}

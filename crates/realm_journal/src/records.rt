@@ -1,0 +1,10 @@
+//! What a scan of a file finds.
+use record_codec::Record;
+
+/// The records in order, the place of the gate behind them, and whether this gate is open.
+#[derive(Drop)]
+pub struct Scan {
+    pub list: Vec<Record>,
+    pub end: u64,
+    pub bad: bool,
+}

@@ -1,0 +1,70 @@
+//! Reads records one after another, until a gate is closed or no whole record follows it.
+ghost use Rattle.std.specs.Prelude.{◌≡◌, ◌<◌, ◌↔◌, ◌^◌, ℕ, List, length, drop, IsTrue, IfOk, IsErrOf};
+ghost use Rattle.outside_world.specs.Counts.{Rose};
+ghost use Rattle.outside_world.specs.GoesOn.{GoesOn};
+ghost use Rattle.realm_journal.specs.Gates.{IsOpenAt};
+ghost use Rattle.realm_journal.specs.Scanning.{Scans, Scanned};
+
+use crate::OPEN;
+use crate::error::ScanError;
+use crate::reading::read_from;
+use crate::records::Scan;
+use outside_world::{FileName, Outside};
+use record_codec::decode;
+use std::alloc::Global;
+
+/// The records of a file from the gate at a place on.
+pub fn scan<W: Outside>(
+    alloc: Global,
+    world: &mut W,
+    file: FileName,
+    at: u64,
+) -> Result<Scan, ScanError>
+    requires room { at < 2 ^ 61 }
+    ensures told { W.tells world.new → Scanned (W.view world.old) (W.view world.new) file at result }
+    ensures disk_fault { IsErrOf result ScanError.Disk
+        → Rose (W.disk_faults world.old) (W.disk_faults world.new) }
+    ensures goes_on { GoesOn ⟦<W as Outside>⟧ world.old world.new }
+{
+    let bytes = read_from(alloc, world, file, at)?;
+    scan_bytes(alloc, &bytes, at)
+}
+
+// The records of these bytes, which stand in a file from a place on.
+fn scan_bytes(alloc: Global, bytes: &[u8], at: u64) -> Result<Scan, ScanError>
+    requires room { at < 2 ^ 61 }
+    requires size { length bytes.now < 2 ^ 63 }
+    ensures scan { IfOk result (λ s. (file : List ℕ) → bytes.now ≡ drop at file
+        → Scans file at s.list.items s.end s.bad) }
+    ensures no_fault { IsErrOf result ScanError.Disk → ⊥ }
+{
+    let mut list = Vec::new(alloc);
+    let mut end = 0;
+    while is_open(bytes, end) {
+        match decode(alloc, &bytes[end + 1..])? {
+            None => {
+                return Ok(Scan {
+                    list,
+                    end: at + end as u64,
+                    bad: true,
+                });
+            }
+            Some((record, size)) => {
+                list.push(record)?;
+                end += 1 + size;
+            }
+        }
+    }
+    Ok(Scan {
+        list,
+        end: at + end as u64,
+        bad: false,
+    })
+}
+
+// Whether an open gate stands at this place.
+fn is_open(bytes: &[u8], at: usize) -> bool
+    ensures { IsTrue result ↔ ((at < length bytes.now) × IsOpenAt at bytes.now) }
+{
+    at < bytes.len() && bytes[at] == OPEN
+}

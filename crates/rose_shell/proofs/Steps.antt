@@ -1,0 +1,58 @@
+-- This file shows that an answer is one step: the state stays, or one change more was accepted, which leaves no violation.
+use Rattle.std.proofs.Common.{◌≡◌, ◌⊎◌, inl, inr, ℕ, ◌+◌, ◌<◌, List, [], ◌∷◌, ◌++◌, length, codes}
+use Rattle.std.proofs.Common.{refl, sym, subst, arith, length-append}
+use Rattle.std.specs.Fmt.{decimal}
+use Rattle.grid_base.specs.Drawing.{HasViolation}
+use Rattle.line_grammar.specs.declared.command.Command.TheVariants as commands
+use Rattle.line_grammar.specs.declared.command.Change.{Change}
+use Rattle.realm_insert.specs.State.{State}
+use Rattle.realm_insert.specs.Lines.{drawn_between}
+use Rattle.rose_shell.specs.Answers.{RefusesChange, MakesChange, AnswersChange, AnswersCommand, AnswersLine}
+use Rattle.rose_shell.specs.Replies.{ok_reply}
+use Rattle.rose_shell.proofs.Traces.{settled_by}
+
+-- of a change that was accepted
+pub record IsAccepted (old : State) (reply : List ℕ) (new : State) : Type 0 where
+  pub changes : new.changes ≡ old.changes + 1
+  pub has_reply : 0 < length reply
+  pub settled : HasViolation new.drawing → ⊥
+
+-- the state stays, or one change more was accepted
+abbrev pub IsOneStep : State → List ℕ → State → Type 0
+IsOneStep old reply new = (new ≡ old) ⊎ IsAccepted old reply new
+
+-- the reply to an accepted change begins with a word
+reply_has_bytes : (change steps first added : ℕ) → 0 < length (ok_reply change steps first added)
+reply_has_bytes change steps first added =
+    let rest = decimal change ++ (codes " steps " ++ (decimal steps ++ (codes " first " ++ (decimal first
+    ++ (codes " new " ++ (decimal added ++ 10 ∷ [])))))) in
+    let word : length (codes "ok ") ≡ 3 = refl in
+    omega (arith, length-append (codes "ok ") rest, word)
+
+-- a change is refused, or is one more and ends with a drawing without a violation
+made_steps : (c : Change) (old : State) (reply : List ℕ) (new : State)
+    → RefusesChange c old reply new ⊎ MakesChange c old reply new → IsOneStep old reply new
+made_steps c old reply new (inl refused) = inl refused.state_stays
+made_steps c old reply new (inr made) =
+    let next = made.next in
+    inr record {
+      changes = next.changes;
+      has_reply = subst (λ (l : List ℕ). 0 < length l) (sym made.reply_is)
+          (reply_has_bytes new.changes (length made.steps) old.next_id (length (drawn_between c)));
+      settled = settled_by next.changed made.steps new.drawing next.settles;
+    }
+
+change_steps : (c : Change) (old : State) (reply : List ℕ) (new : State) → AnswersChange c old reply new → IsOneStep old reply new
+change_steps c old reply new (inl later) = inl later.1.state_stays
+change_steps c old reply new (inr answered) = made_steps c old reply new answered.1
+
+command_steps : (c : commands.the_data) (old : State) (reply : List ℕ) (new : State) → AnswersCommand c old reply new
+    → IsOneStep old reply new
+command_steps (commands.Change c) old reply new answered = change_steps c old reply new answered
+command_steps (commands.Query q) old reply new answered = inl answered.1
+command_steps c old reply new later = inl later.state_stays
+
+-- what a line is answered
+pub line_steps : (old : State) (line reply : List ℕ) (new : State) → AnswersLine old line reply new → IsOneStep old reply new
+line_steps old line reply new (inl said) = command_steps said.0 old reply new said.2
+line_steps old line reply new (inr refused) = inl refused.state_stays

@@ -1,0 +1,14 @@
+-- how often a segment stands in a list
+pub mod Counts
+-- the links of one chain
+mod ChainLinks
+-- the links of the chains of all parts
+mod PartLinks
+-- the part at a place
+mod ListedParts
+-- pieces of a realm
+mod RealmPieces
+-- equal neighbours that cancel each other
+mod Cancelling
+-- what the links of all parts come to
+mod SortedLinks

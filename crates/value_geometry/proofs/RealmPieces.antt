@@ -1,0 +1,33 @@
+-- This file shows that pieces of a realm are noded.
+use Rattle.std.proofs.Common.{◌≡◌, ℕ, List, Any, Contains, sym, subst, inl, inr, refl}
+use Rattle.grid_base.specs.Point.{GridPoint}
+use Rattle.grid_base.specs.Segment.{GridSegment, IsEnd}
+use Rattle.grid_base.specs.Border.{AreNoded}
+use Rattle.grid_base.specs.Drawing.{Drawing, HasLink, IsPoint, IsPiece, IsDrawnRealm}
+use Rattle.grid_base.specs.declared.original.Original.{Original}
+use Rattle.realm_drawing.proofs.Elements.{Any-weaker}
+use Rattle.value_geometry.specs.Geometry.{IsOnChainOf}
+
+-- what is on a chain is a piece
+pub on_chain_is_piece : (d : Drawing) (ids : List ℕ) (s : GridSegment) → Any (IsOnChainOf d s) ids → IsPiece d s
+on_chain_is_piece d ids s (k, id, within, is, (ordered, some)) = (
+  ordered,
+  Any-weaker (λ (o : Original). (o.id ≡ id) × HasLink o.chain s) (λ o. HasLink o.chain s) (λ o both. both.1)
+      d.originals some,
+)
+
+end_is_point : (d : Drawing) → IsDrawnRealm d → (s : GridSegment) (p : GridPoint) → IsPiece d s → IsEnd p s → IsPoint d p
+end_is_point d realm s p piece (inl is_a) = subst (IsPoint d) (sym is_a) (realm.ends_are_points s piece).0
+end_is_point d realm s p piece (inr is_b) = subst (IsPoint d) (sym is_b) (realm.ends_are_points s piece).1
+
+-- some of the pieces of a realm are noded, since no end of one is inside another
+pub pieces_are_noded : (d : Drawing) → IsDrawnRealm d → (list : List GridSegment)
+    → ((s : GridSegment) → Contains list s → IsPiece d s) → AreNoded list
+pieces_are_noded d realm list pieces = record {
+  ends_are_points = λ s there.
+      ((there.0, s, there.1, there.2, inl refl), (there.0, s, there.1, there.2, inr refl));
+  no_point_inside = λ p s (k, t, within, is, end) there inside.
+      realm.no_point_inside p s (end_is_point d realm t p (pieces t (k, within, is)) end) (pieces s there) inside;
+  only_ends_in_common = λ s t q first second differ on_s on_t.
+      realm.only_ends_in_common s t q (pieces s first) (pieces t second) differ on_s on_t;
+}

@@ -1,0 +1,10 @@
+use Rattle.std.proofs.Common.{List, take}
+use Rattle.grid_base.specs.declared.original.Original.{Original}
+use Rattle.value_geometry.specs.Links.{AreLinksOf}
+use Rattle.value_geometry.specs.Parts.{AreOriginals}
+use Rattle.value_geometry.proofs.links.links_of_parts.Given as goal
+
+-- the links of the first parts are there
+abbrev pub invariant-loop-id : goal.invariant-loop-id
+invariant-loop-id l = (parts : List Original) → AreOriginals l.drawing.drawing l.ids parts
+    → AreLinksOf l.drawing.drawing (take l.id-index parts) l.list.items
