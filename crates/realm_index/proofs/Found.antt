@@ -11,12 +11,11 @@ use Rattle.std.proofs.lemmas.List.Elements.{All-contains, All-weaker}
 use Rattle.std.proofs.lemmas.Map.Keys.{non_decreasing_from_sorted}
 use Rattle.grid_base.specs.Segment.{GridSegment}
 use Rattle.realm_index.specs.Square.{whole_grid}
-use Rattle.realm_index.specs.Bounds.{bounds_of, meets, holds, is_near, fits, home}
+use Rattle.realm_index.specs.Bounds.{Bounds, bounds_of, meets, holds, is_near, fits, home}
 use Rattle.realm_index.specs.Branch.{Branch, if_met, if_near, AddsKeys, count_near, HasMore, Lacks}
 use Rattle.realm_index.specs.Index.{HasKeysWhere, HasCountWhere}
 use Rattle.realm_index.specs.Kept.{IsKept}
 use Rattle.realm_index.specs.declared.tree.Entry.{Entry}
-use Rattle.realm_index.specs.declared.bounds.Bounds.{Bounds}
 use Rattle.realm_index.proofs.Homes.{fits_from}
 use Rattle.realm_index.proofs.Sums.{fails, all_pass, none_fails}
 use Rattle.realm_index.proofs.Searches.{zero_sum}

@@ -20,3 +20,5 @@ pub mod Found
 pub mod Counts
 -- the worked case of the tests
 pub mod WorkedCase
+-- what the guards of differences tell
+mod Guards

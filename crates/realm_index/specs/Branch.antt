@@ -6,8 +6,7 @@ use Rattle.std.proofs.Common.{arith}
 use Rattle.std.proofs.lemmas.List.Elements.{All-head, All-tail}
 use denote.Param.Weighed.{most}
 use Rattle.realm_index.specs.Square.{GridSquare}
-use Rattle.realm_index.specs.Bounds.{holds, home, meets, is_near}
-use Rattle.realm_index.specs.declared.bounds.Bounds.{Bounds}
+use Rattle.realm_index.specs.Bounds.{Bounds, holds, home, meets, is_near}
 use Rattle.realm_index.specs.declared.tree.Entry.{Entry}
 
 -- a square, and the entries whose boxes are in it

@@ -1,5 +1,5 @@
 //! A tree of squares: each has the entries whose home it is, and the quarters that have entries below it.
-ghost use Rattle.std.specs.Prelude.{◌≡◌, ◌+◌, ◌<◌, ◌≤◌, ◌++◌, ◌∷◌, ℕ, [], IsTrue, false, All, length, get_or};
+ghost use Rattle.std.specs.Prelude.{◌≡◌, ◌↔◌, ◌+◌, ◌<◌, ◌≤◌, ◌++◌, ◌∷◌, ℕ, [], IsTrue, false, All, length, get_or};
 ghost use Rattle.std.specs.Prelude.{OnOk, OnErr, IfOk, MatchOption, MatchResult};
 ghost use Rattle.std.specs.Bool.{OnTrue, OnFalse};
 ghost use Rattle.realm_index.specs.Bounds.{holds};
@@ -15,7 +15,7 @@ use std::marker::Model;
 use std::sync::ledger::Ledger;
 
 // A key, and the box of the segment under it.
-#[derive(Clone, Copy, Debug, PartialEq, Eq)]
+#[derive(Clone, Copy, Debug)]
 pub(crate) struct Entry {
     pub(crate) key: usize,
     pub(crate) bounds: Bounds,
@@ -191,7 +191,14 @@ fn place_among(own: &[Entry], entry: &Entry) -> Option<usize>
     ensures { MatchOption result (Lacks own.now entry.now)
         (λ place. (place < length own.now) × ((d : Item) → get_or own.now place d ≡ entry.now)) }
 {
-    own.iter().position(|e| e == entry)
+    own.iter().position(|e| is_same(e, entry))
+}
+
+// Whether the two are one entry.
+fn is_same(one: &Entry, other: &Entry) -> bool
+    ensures { IsTrue result ↔ (one.now ≡ other.now) }
+{
+    one.key == other.key && one.bounds.is(&other.bounds)
 }
 
 // Adds the keys of the entries of the list whose boxes meet `near`, each of which is a step.

@@ -1,5 +1,5 @@
 -- This file shows that an entry comes into its place, whether into the square itself or below it.
-use Rattle.std.proofs.Common.{◌≡◌, IsTrue, sym, ap, subst, arith, ◌<◌, ℕ, get_or, length, List, ◌++◌}
+use Rattle.std.proofs.Common.{◌≡◌, IsTrue, sym, ap, subst, arith, ◌<◌, ℕ, get_or, length, List, [], ◌∷◌, ◌++◌}
 use Rattle.std.proofs.lemmas.Result.{MatchResult-from_err, MatchResult-weaker}
 use Rattle.std.specs.List.{slice_set}
 use Rattle.std.proofs.lemmas.List.Elements.{All-set}
@@ -10,7 +10,7 @@ use Rattle.realm_index.proofs.Homes.{least_le, fits_from}
 use Rattle.realm_index.specs.Branch.{Branch, flatten, HasMore, HasSame}
 use Rattle.realm_index.specs.declared.tree.Entry.{Entry}
 use Rattle.realm_index.proofs.Sums.{either, branch_own_more, branch_parts_more, branch_parts_same, more_in_part, same_in_part}
-use Rattle.realm_index.proofs.Sums.{same_then_more, same_then_same, more_behind, same_behind}
+use Rattle.realm_index.proofs.Sums.{same_then_more, same_then_same, more_behind, same_behind, more_before}
 use Rattle.realm_index.proofs.tree.Tree.+put.Goals as goal
 
 -- the entry is the square's own
@@ -20,6 +20,14 @@ invariant_of-self-in_default t c =
     let within = subst (λ q. IsTrue (holds q c.args.entry.bounds)) (sym sq) c.requires.held in
     rw c.in_ok-add_own.ensures.added (branch_own_more c.self.inside.square c.self.inside.own.items c.self.inside.parts.items
     c.self.invariant c.args.entry c.in_default.ensures within)
+
+pub returns-in_default-clause-entries : goal.returns-in_default-clause-entries
+returns-in_default-clause-entries t c =
+    let own = c.self.inside.own.items in
+    let below = flatten c.self.inside.parts.items in
+    let seen = ap (λ (b : Branch). b.entries) c.self.view_is in
+    rw c.in_ok-add_own.ensures.added
+    (subst (λ es. HasMore es ((own ++ c.args.entry ∷ []) ++ below) c.args.entry) seen (more_before own below c.args.entry))
 
 -- there was no memory for a part
 pub invariant_of-self-in_err-place : goal.invariant_of-self-in_err-place
