@@ -6,8 +6,8 @@ mod ChainLinks
 mod PartLinks
 -- the part at a place
 mod ListedParts
--- pieces of a realm
-mod RealmPieces
+-- pieces of a realm, and values that are made of them
+pub mod RealmPieces
 -- equal neighbours that cancel each other
 mod Cancelling
 -- what the links of all parts come to

@@ -1,13 +1,12 @@
 -- This file shows what the links of all parts come to once they are sorted: each kept once, or as its number is odd.
-use Rattle.std.proofs.Common.{◌≡◌, ◌↔◌, ℕ, ◌%◌, Bool, cond, List, [], ◌∷◌, length, map, Any, Contains}
-use Rattle.std.proofs.Common.{count_by, IsPermutation, refl, sym, ap, ◌∙◌, subst, inl, inr, arith}
+use Rattle.std.proofs.Common.{◌≡◌, ◌↔◌, ℕ, ◌%◌, Bool, cond, List, map, Any, Contains}
+use Rattle.std.proofs.Common.{count_by, IsPermutation, sym, ap, ◌∙◌, subst, inl, inr, arith}
 use Rattle.std.specs.List.{dedup}
 use Rattle.std.proofs.lemmas.List.Sorted.{Contains-permutation, IsPermutation-sym, sum_by-IsPermutation}
 use Rattle.grid_base.specs.Segment.{GridSegment}
 use Rattle.grid_base.specs.Border.{AreNoded, is_end, IsEvenBorder}
-use Rattle.grid_base.specs.Drawing.{Drawing, IsPiece, IsDrawnRealm}
+use Rattle.grid_base.specs.Drawing.{Drawing, IsDrawnRealm}
 use Rattle.grid_base.specs.declared.original.Original.{Original}
-use Rattle.grid_base.proofs.Elements.{Contains-here}
 use Rattle.grid_base.proofs.Orders.{is_segment, segments_stay}
 use Rattle.realm_drawing.specs.Straight.{along}
 use Rattle.rose_values.specs.Border.{AreSegmentsAscending}
@@ -17,7 +16,7 @@ use Rattle.value_geometry.specs.Parts.{AreOriginals}
 use Rattle.value_geometry.proofs.Cancelling.{segment_differs}
 use Rattle.value_geometry.proofs.Counts.{AreAscending, once_or_not, IsOnceOrNot}
 use Rattle.value_geometry.proofs.PartLinks.{on_some_chain, ends_of_parts, on_oddly}
-use Rattle.value_geometry.proofs.RealmPieces.{on_chain_is_piece, pieces_are_noded}
+use Rattle.value_geometry.proofs.RealmPieces.{on_chain_is_piece, oddly_is_piece, pieces_are_noded}
 
 module _ (d : Drawing) (ids : List ℕ) (parts : List Original) (are : AreOriginals d ids parts) (list sorted : List GridSegment)
     (all : AreLinksOf d parts list) (moved : IsPermutation list sorted) where
@@ -73,19 +72,9 @@ module _ (d : Drawing) (ids : List ℕ) (parts : List Original) (are : AreOrigin
           λ on. once.1 (same ∙ oddly.1 (subst (λ ns. IsOnOddly d ns s) (sym are.by_id) on)),
         )
 
-    -- what is on an odd number of chains is on one
-    oddly_is_piece : (s : GridSegment) → IsOnOddly d ids s → IsPiece d s
-    oddly_is_piece s on = by on.those refl
-      where
-        by : (those : List ℕ) → on.those ≡ those → IsPiece d s
-        by [] is = let odd = on.odd in let none = ap length is in absurd (omega (arith, odd, none))
-        by (n ∷ those) is =
-            let named = (on.are_those.exact n).0 (subst (λ ns. Contains ns n) (sym is) (Contains-here n those)) in
-            on_chain_is_piece d ids s (named.0.0, n, named.0.1, named.0.2, named.1)
-
     pub oddly_noded : AreAscending ids → IsDrawnRealm d → AreNoded border
     oddly_noded rising realm =
-        pieces_are_noded d realm border (λ s there. oddly_is_piece s ((oddly_on_chains rising s).0 there))
+        pieces_are_noded d realm border (λ s there. oddly_is_piece d ids s ((oddly_on_chains rising s).0 there))
 
     -- where the originals are even as they were given, so is the border
     pub oddly_even : IsEvenBorder (map along parts) → IsEvenBorder border
