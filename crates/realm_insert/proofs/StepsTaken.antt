@@ -2,6 +2,8 @@
 use Rattle.std.proofs.Common.{◌≡◌, ℕ, ◌-◌, ◌<◌, ◌≤◌, List, [], ◌∷◌, ◌++◌, refl, sym, subst, arith}
 use Rattle.grid_base.specs.Drawing.{Drawing, HasViolation}
 use Rattle.grid_base.specs.declared.kinds.Step.{Step}
+use Rattle.grid_base.specs.declared.kinds.Step.TheVariants.{Split, Meet, Corner}
+use Rattle.record_codec.specs.Traces.{IsOrdered}
 use Rattle.realm_drawing.specs.Steps.{Permitted, Settles}
 use Rattle.realm_drawing.specs.Chains.{AllValid}
 use Rattle.realm_drawing.specs.Keyed.{KeyedDrawing, AreKeyed}
@@ -12,6 +14,12 @@ use Rattle.realm_index.specs.Index.{Entries}
 use Rattle.realm_insert.specs.Kept.{IsIndexed, IsAtRest}
 use Rattle.realm_insert.specs.State.{HasIdsBelow}
 use Rattle.realm_insert.specs.Misfits.{LeadsBy}
+
+-- where a step may be taken the lesser of two pieces that meet comes first
+pub in_order : (d e : Drawing) (step : Step) → Permitted d step e → IsOrdered step
+in_order d e (Split p t) permitted = tt
+in_order d e (Meet t u x) permitted = permitted.2
+in_order d e (Corner t u) permitted = tt
 
 -- one more step may come at the end
 pub leads_on : (d e f : Drawing) (trace : List Step) (step : Step) → LeadsBy d trace e → Permitted e step f

@@ -4,6 +4,7 @@ ghost use Rattle.std.specs.Prelude.{◌≡◌, ◌≢◌, ◌⊎◌, ◌↔◌, 
 ghost use Rattle.std.specs.Prelude.{length, Contains, Err, IfOk, OnOk, MatchResult, MatchOption, IfSome, IsSomeAnd, IsNone};
 ghost use Rattle.grid_base.specs.Drawing.{IsDrawnRealm};
 ghost use Rattle.grid_base.specs.declared.kinds.Step.{Step as Seen};
+ghost use Rattle.record_codec.specs.Traces.{IsTrace};
 ghost use Rattle.realm_insert.specs.State.{fresh_state, kept_trace, latest, HasIdsBelow, AreLatest};
 ghost use Rattle.line_grammar.specs.Spellable.{IsSpellableChange};
 ghost use Rattle.realm_insert.specs.Lines.{IsLet, drawn_between};
@@ -15,7 +16,7 @@ ghost use Rattle.realm_insert.specs.Misfits.{MisfitsAt};
 ghost use Rattle.realm_insert.specs.declared.refusal.Refusal.{Refusal as Word};
 ghost use Rattle.realm_insert.specs.declared.settling.SettleError.TheVariants.{Mismatch};
 
-use crate::applied::{Applied, trace_of};
+use crate::applied::Applied;
 use crate::asked::ends_drawn;
 use crate::causes::first_cause;
 use crate::defining::revalue;
@@ -169,6 +170,7 @@ impl Engine {
     pub fn trace(&self, number: u64) -> Option<&[Step]>
         requires ready { self.now.spent ≡ false }
         ensures trace { IfSome result (λ steps. Contains self.now.state.traces (kept_trace number steps.now)) }
+        ensures fits { IfSome result (λ steps. IsTrace steps.now) }
         ensures latest { AreLatest self.now.state.changes self.now.state.traces }
         ensures none { IsNone result
             ↔ ((steps : List Seen) → Contains self.now.state.traces (kept_trace number steps) → ⊥) }
@@ -316,7 +318,7 @@ fn count(
         (traces.new.items ≡ latest (traces.old.items ++ kept_trace (changes.old + 1) trace.now ∷ [])) }
 {
     let number = *changes + 1;
-    let trace = trace_of(alloc, trace.steps())?;
+    let trace = trace.copied(alloc)?;
     if traces.len() == MOST_TRACES {
         traces.remove(0);
     }

@@ -14,7 +14,6 @@ ghost use Rattle.realm_insert.specs.Misfits.{Misfits};
 ghost use Rattle.realm_insert.specs.Work.{IsCoveredBy};
 ghost use Rattle.realm_insert.specs.declared.settling.SettleError.TheVariants.{Mismatch, NoMemory as NoRoom};
 
-use crate::applied::trace_of;
 use crate::indexing::{forget_gone, keyed_pieces, put_in_index};
 use crate::searching::violation_at;
 use grid_base::{NoMemory, Segment, Step};
@@ -60,27 +59,25 @@ pub(crate) fn settle_by(
     ensures valid { AllValid drawing.new.drawing }
 {
     match given {
-        None => Ok(Trace::new(settle(alloc, drawing, index, fresh)?)),
-        Some(steps) => {
-            retrace(alloc, drawing, index, fresh, steps)?;
-            Ok(trace_of(alloc, steps)?)
-        }
+        None => Ok(settle(alloc, drawing, index, fresh)?),
+        Some(steps) => retrace(alloc, drawing, index, fresh, steps),
     }
 }
 
-// Takes the steps in their order, and sees that no violation is left.
+// Takes the steps in their order, sees that no violation is left, and answers them.
 fn retrace(
     alloc: Global,
     drawing: &mut Drawing,
     index: &mut Index,
     fresh: Vec<Segment>,
     steps: &[Step],
-) -> Result<(), SettleError>
+) -> Result<Trace, SettleError>
     requires indexed { IsIndexed drawing.old index.old }
     requires keyed { AreKeyed drawing.old }
     requires valid { AllValid drawing.old.drawing }
     requires covered { IsCoveredBy drawing.old.drawing fresh.items }
-    ensures settles { OnOk result (Settles drawing.old.drawing steps.now drawing.new.drawing) }
+    ensures settles { IfOk result (λ trace. Settles drawing.old.drawing trace drawing.new.drawing) }
+    ensures same { IfOk result (λ trace. trace ≡ steps.now) }
     ensures mismatch { (number : ℕ) → result ≡ Err (Mismatch number)
         → Misfits drawing.old.drawing steps.now number }
     ensures indexed { OnOk result (IsIndexed drawing.new index.new) }
@@ -88,9 +85,11 @@ fn retrace(
     ensures valid { AllValid drawing.new.drawing }
 {
     let mut fresh = fresh;
+    let mut trace = Trace::new(alloc);
     for i in 0..steps.len() {
-        match take(alloc, drawing, index, &steps[i], &mut fresh) {
-            Ok(()) => (),
+        let step = &steps[i];
+        match take(alloc, drawing, index, step, &mut fresh) {
+            Ok(()) => trace.push(*step)?,
             Err(StepError::NoMemory) => return Err(SettleError::NoMemory),
             Err(StepError::NotPermitted) => {
                 return Err(SettleError::Mismatch { step: i as u64 + 1 });
@@ -98,7 +97,7 @@ fn retrace(
         }
     }
     match next_step(alloc, drawing, index, &mut fresh)? {
-        None => Ok(()),
+        None => Ok(trace),
         Some(_) => Err(SettleError::Mismatch {
             step: steps.len() as u64 + 1,
         }),
@@ -111,18 +110,18 @@ fn settle(
     drawing: &mut Drawing,
     index: &mut Index,
     fresh: Vec<Segment>,
-) -> Result<Vec<Step>, NoMemory>
+) -> Result<Trace, NoMemory>
     requires indexed { IsIndexed drawing.old index.old }
     requires keyed { AreKeyed drawing.old }
     requires valid { AllValid drawing.old.drawing }
     requires covered { IsCoveredBy drawing.old.drawing fresh.items }
-    ensures settles { IfOk result (λ trace. Settles drawing.old.drawing trace.items drawing.new.drawing) }
+    ensures settles { IfOk result (λ trace. Settles drawing.old.drawing trace drawing.new.drawing) }
     ensures indexed { OnOk result (IsIndexed drawing.new index.new) }
     ensures keyed { AreKeyed drawing.new }
     ensures valid { AllValid drawing.new.drawing }
 {
     let mut fresh = fresh;
-    let mut trace = Vec::new(alloc);
+    let mut trace = Trace::new(alloc);
     while let Some(step) = next_step(alloc, drawing, index, &mut fresh)? {
         mend(alloc, drawing, index, &step, &mut fresh)?;
         trace.push(step)?;

@@ -7,7 +7,7 @@ use Rattle.grid_base.specs.Point.{GridPoint, OnGrid, IsBefore, is_before, is_poi
 use Rattle.grid_base.specs.Segment.{GridSegment, IsSegmentBefore}
 use Rattle.grid_base.proofs.Orders.{is_point-same, is_point-itself}
 use Rattle.record_codec.specs.Spelling.{point, segment}
-use Rattle.record_codec.specs.Fitting.{IsSegment}
+use Rattle.record_codec.specs.Traces.{IsSegment}
 use Rattle.record_codec.specs.Reading.{is_on_grid, is_segment_before, point_at, segment_at, ordered_at}
 use Rattle.record_codec.proofs.Bytes.{four_bytes}
 use Rattle.record_codec.proofs.Codecs.{IsCodec, text_of_both, both_codec, made_codec, tested_codec, renamed_codec, number_codec}

@@ -14,7 +14,8 @@ use Rattle.record_codec.specs.declared.snapshot.Named.{Named}
 use Rattle.record_codec.specs.declared.snapshot.Kept.{Kept}
 use Rattle.record_codec.specs.declared.snapshot.Snapshot.{Snapshot}
 use Rattle.record_codec.specs.Spelling.{point, step, list}
-use Rattle.record_codec.specs.Fitting.{IsList, IsStep}
+use Rattle.record_codec.specs.Traces.{IsStep}
+use Rattle.record_codec.specs.Fitting.{IsList}
 use Rattle.record_codec.specs.Reading.{Reader, ◌>>=◌, both, made, tested, byte_at, front_at}
 use Rattle.record_codec.specs.Reading.{number_at, list_at, point_at, step_at}
 

@@ -367,7 +367,7 @@ fn a_turned_byte_of_a_payload_is_told(rt: HostRuntime) -> Result<(), Fail> {
 fn lists_give_back_what_they_were_made_of(rt: HostRuntime) -> Result<(), Fail> {
     let list = ListOf::new(Vec::from_slice(rt.alloc(), &[point(1, 2)?, point(3, 4)?])?);
     assert_eq!(rt; list.into_items().len(), 2);
-    let trace = Trace::new(Vec::new(rt.alloc()));
+    let trace = Trace::new(rt.alloc());
     assert!(rt; trace.steps().is_empty());
     assert!(rt; trace.into_steps().is_empty());
     Ok(())

@@ -10,7 +10,7 @@ use Rattle.realm_insert.proofs.settling.settle.Given as goal
 -- the steps so far lead to the drawing, whose violations the list covers
 abbrev pub invariant-loop-trace : goal.invariant-loop-trace
 invariant-loop-trace l = record {
-  leads : LeadsBy l.fn.drawing.drawing l.trace.items l.drawing.drawing;
+  leads : LeadsBy l.fn.drawing.drawing l.trace l.drawing.drawing;
   indexed : IsIndexed l.drawing l.index;
   keyed : AreKeyed l.drawing;
   valid : AllValid l.drawing.drawing;
