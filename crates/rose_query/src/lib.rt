@@ -1,0 +1,13 @@
+//! Queries: what each is answered about a state in memory, which it doesn't change.
+//! Begin at `answer`, then read what a query is answered in `specs/Answers.antt`.
+#![tactic(auto)]
+
+mod answering;
+mod evaluating;
+mod printing;
+mod refusals;
+#[cfg(test)]
+mod tests;
+
+pub use answering::{answer, answer_alone};
+pub use refusals::{refuse, refuse_unbuilt};
