@@ -21,7 +21,7 @@ pub use error::{JournalError, ScanError};
 pub use prepared::{Prepared, prepare};
 pub use reading::read_from;
 pub use records::Scan;
-pub use scanning::scan;
+pub use scanning::{scan, scan_bytes};
 pub use shutting::shut_gate;
 
 /// The byte of an open gate. Every other byte is a closed one.

@@ -30,8 +30,8 @@ pub fn scan<W: Outside>(
     scan_bytes(alloc, &bytes, at)
 }
 
-// The records of these bytes, which stand in a file from a place on.
-fn scan_bytes(alloc: Global, bytes: &[u8], at: u64) -> Result<Scan, ScanError>
+/// The records of these bytes, which stand in a file from a place on.
+pub fn scan_bytes(alloc: Global, bytes: &[u8], at: u64) -> Result<Scan, ScanError>
     requires room { at < 2 ^ 61 }
     requires size { length bytes.now < 2 ^ 63 }
     ensures scan { IfOk result (λ s. (file : List ℕ) → bytes.now ≡ drop at file

@@ -19,7 +19,7 @@ use Rattle.realm_store.specs.Stands.{Counts, HoldsRecords, StandsFor, first_head
 use Rattle.realm_store.specs.Keeping.{AllRest}
 use Rattle.realm_store.specs.Committing.{Committed, at_gate}
 use Rattle.realm_store.proofs.Heads.{head_size}
-use Rattle.realm_store.proofs.Fronts.{written_front, records_reach, records_closed, records_front, records_more, whole_within}
+use Rattle.realm_store.proofs.Fronts.{written_front, led_reach, led_front, led_more, whole_closed, whole_within}
 
 -- the front of a file that counts makes another count
 counts_front : (c d : List ℕ) (next : ℕ) → first_gate ≤ next → take next d ≡ take next c → Counts c → Counts d
@@ -33,32 +33,34 @@ counts_front c d next reach front counts = record {
 pub holds_front : (c d : List ℕ) (state : State) (next : ℕ) → HoldsRecords c state next → take next d ≡ take next c → IsClosedAt next d
     → HoldsRecords d state next
 holds_front c d state next holds front shut =
-    let reach = records_reach empty_state holds.records first_gate c state next holds.lead in
+    let reach = led_reach empty_state holds.records first_gate c state next holds.lead.0 in
     record {
       counts = counts_front c d next reach front holds.counts;
       has_head = written_front 1 (header_text first_head) c d next (omega (arith, head_size first_head, reach)) front holds.has_head;
       records = holds.records;
-      lead = records_front empty_state holds.records first_gate c d state next holds.lead front shut;
+      lead = (led_front empty_state holds.records first_gate c d state next holds.lead.0 front, shut);
     }
 
 -- the record stands whole behind the open gate: the file stands for the state after it
 pub holds_more : (c d : List ℕ) (state after : State) (next : ℕ) (r : Record) → HoldsRecords c state next → take next d ≡ take next c
     → IsRecord r → Leads state r after → IsWholeAt next (text_of r) d → HoldsRecords d after (next + 1 + length (text_of r))
 holds_more c d state after next r holds front is_record lead whole =
-    let reach = records_reach empty_state holds.records first_gate c state next holds.lead in
+    let reach = led_reach empty_state holds.records first_gate c state next holds.lead.0 in
     record {
       counts = counts_front c d next reach front holds.counts;
       has_head = written_front 1 (header_text first_head) c d next (omega (arith, head_size first_head, reach)) front holds.has_head;
       records = holds.records ++ r ∷ [];
-      lead = records_more empty_state holds.records first_gate c d state next r after holds.lead front is_record lead whole;
+      lead = (
+        led_more empty_state holds.records first_gate c d state next r after holds.lead.0 front is_record lead whole,
+        whole_closed next (text_of r) d whole,
+      );
     }
 
 -- file A at rest has a closed gate within it, in each image
 pub shut_at_rest : (v : View) (state : State) (next : ℕ) → v.image A (v.reads A) → AllRest (at_gate state next) v → IsShut v A next
 shut_at_rest v state next reads rest = record {
   within = (rest (v.reads A) reads).reach.1 refl;
-  closed = λ c image. let holds = (rest c image).stands in
-      records_closed empty_state holds.records first_gate c state next holds.lead;
+  closed = λ c image. (rest c image).stands.lead.1;
 }
 
 -- while a record is appended, file A stands for the state before it or after it
@@ -94,7 +96,7 @@ module _ (old : View) (state after : State) (next : ℕ) (r : Record) (is_record
   committed new has_gate result appended placed = record {
     takes = appended.writes.takes;
     given = appended.writes.given;
-    crash = λ _. only_wider appended.writes.crash (λ m is. (is.given, either_way (m.files A) is.named));
+    crash = only_wider appended.writes.crash (λ m is. (is.given, λ _. either_way (m.files A) is.named));
     rest = at_ok result appended.whole placed;
     either = λ _ c image. either_way c (appended.writes.named c image);
   }

@@ -8,7 +8,7 @@ use Rattle.record_codec.specs.Spelling.{text_of}
 use Rattle.realm_insert.specs.State.{State}
 use Rattle.realm_journal.specs.Gates.{open_gate, closed_gate, IsWrittenAt, IsClosedAt, IsWholeAt}
 use Rattle.realm_store.specs.Leading.{Leads}
-use Rattle.realm_store.specs.Records.{IsRecords}
+use Rattle.realm_store.specs.Records.{AreLed}
 
 -- what stands between two places is decided by what stands up to the second
 between : (at n : ℕ) (c : List ℕ) (end : ℕ) → at + n ≤ end → take n (drop at c) ≡ drop at (take (at + n) (take end c))
@@ -37,49 +37,42 @@ whole_closed at text c (rest, is) =
 pub whole_within : (at : ℕ) (text c : List ℕ) → IsWholeAt at text c → at + 1 + length text < length c
 whole_within at text c (rest, is) = omega (arith, ap length is, length-drop at c, length-append text (closed_gate ∷ rest))
 
-pub records_reach : (start : State) (rs : List Record) (at : ℕ) (c : List ℕ) (end : State) (next : ℕ)
-    → IsRecords start rs at c end next → at ≤ next
-records_reach start [] at c end next is = omega (arith, is.1)
-records_reach start (r ∷ rs) at c end next (mid, is, leads, written, later) =
-    omega (arith, records_reach mid rs (at + 1 + length (text_of r)) c end next later)
+pub led_reach : (start : State) (rs : List Record) (at : ℕ) (c : List ℕ) (end : State) (next : ℕ)
+    → AreLed start rs at c end next → at ≤ next
+led_reach start [] at c end next is = omega (arith, is.1)
+led_reach start (r ∷ rs) at c end next (mid, is, leads, written, later) =
+    omega (arith, led_reach mid rs (at + 1 + length (text_of r)) c end next later)
 
--- the next gate is closed
-pub records_closed : (start : State) (rs : List Record) (at : ℕ) (c : List ℕ) (end : State) (next : ℕ)
-    → IsRecords start rs at c end next → IsClosedAt next c
-records_closed start [] at c end next (same, is, closed) = subst (λ k. IsClosedAt k c) (sym is) closed
-records_closed start (r ∷ rs) at c end next (mid, is, leads, written, later) =
-    records_closed mid rs (at + 1 + length (text_of r)) c end next later
-
--- another file with the same front and a closed gate behind it has the same records
-pub records_front : (start : State) (rs : List Record) (at : ℕ) (c d : List ℕ) (end : State) (next : ℕ)
-    → IsRecords start rs at c end next → take next d ≡ take next c → IsClosedAt next d → IsRecords start rs at d end next
-records_front start [] at c d end next (same, is, closed) front shut = (same, is, subst (λ k. IsClosedAt k d) is shut)
-records_front start (r ∷ rs) at c d end next (mid, is, leads, written, later) front shut =
-    let reach = records_reach mid rs (at + 1 + length (text_of r)) c end next later in (
+-- another file with the same front has the same records before the next gate
+pub led_front : (start : State) (rs : List Record) (at : ℕ) (c d : List ℕ) (end : State) (next : ℕ)
+    → AreLed start rs at c end next → take next d ≡ take next c → AreLed start rs at d end next
+led_front start [] at c d end next led front = led
+led_front start (r ∷ rs) at c d end next (mid, is, leads, written, later) front =
+    let reach = led_reach mid rs (at + 1 + length (text_of r)) c end next later in (
       mid,
       is,
       leads,
       written_front at (open_gate ∷ text_of r) c d next (omega (arith, reach)) front written,
-      records_front mid rs (at + 1 + length (text_of r)) c d end next later front shut,
+      led_front mid rs (at + 1 + length (text_of r)) c d end next later front,
     )
 
 -- and one with a record more behind it has one more
-pub records_more : (start : State) (rs : List Record) (at : ℕ) (c d : List ℕ) (end : State) (next : ℕ) (r : Record) (last : State)
-    → IsRecords start rs at c end next → take next d ≡ take next c → IsRecord r → Leads end r last → IsWholeAt next (text_of r) d
-    → IsRecords start (rs ++ r ∷ []) at d last (next + 1 + length (text_of r))
-records_more start [] at c d end next r last (same, is, closed) front is_record leads_on whole =
+pub led_more : (start : State) (rs : List Record) (at : ℕ) (c d : List ℕ) (end : State) (next : ℕ) (r : Record) (last : State)
+    → AreLed start rs at c end next → take next d ≡ take next c → IsRecord r → Leads end r last → IsWholeAt next (text_of r) d
+    → AreLed start (rs ++ r ∷ []) at d last (next + 1 + length (text_of r))
+led_more start [] at c d end next r last (same, is) front is_record leads_on whole =
     let text = text_of r in (
       last,
       is_record,
       subst (λ s. Leads s r last) same leads_on,
       subst (λ k. IsWrittenAt k (open_gate ∷ text) d) is (whole_written next text d whole),
-      (refl, ap (λ k. k + 1 + length text) is, subst (λ k. IsClosedAt (k + 1 + length text) d) is (whole_closed next text d whole)),
+      (refl, ap (λ k. k + 1 + length text) is),
     )
-records_more start (q ∷ rs) at c d end next r last (mid, is, leads, written, later) front is_record leads_on whole =
-    let reach = records_reach mid rs (at + 1 + length (text_of q)) c end next later in (
+led_more start (q ∷ rs) at c d end next r last (mid, is, leads, written, later) front is_record leads_on whole =
+    let reach = led_reach mid rs (at + 1 + length (text_of q)) c end next later in (
       mid,
       is,
       leads,
       written_front at (open_gate ∷ text_of q) c d next (omega (arith, reach)) front written,
-      records_more mid rs (at + 1 + length (text_of q)) c d end next r last later front is_record leads_on whole,
+      led_more mid rs (at + 1 + length (text_of q)) c d end next r last later front is_record leads_on whole,
     )

@@ -41,7 +41,7 @@ holds_first c whole =
       };
       has_head = ap (λ l. take (length head) (drop 1 l)) is ∙ take_at head (closed_gate ∷ whole.0) (length head) refl;
       records = [];
-      lead = (refl, refl, subst (λ k. IsClosedAt k c) gate (whole_closed 0 head c whole));
+      lead = ((refl, refl), subst (λ k. IsClosedAt k c) gate (whole_closed 0 head c whole));
     }
 
 -- while the gate of a file that doesn't count is shut, it stands for the empty state
@@ -98,8 +98,8 @@ pub stays_committed : (old mid new : View) (has_gate : Bool) (state after : Stat
 stays_committed old mid new has_gate state after r stays commit = record {
   takes = none_taken_then stays.takes commit.takes;
   given = commit.given ∙ stays.given;
-  crash = λ has. only_then (only_wider stays.crash (λ m is. (is.0, inl is.1))) stays.takes.later
-      (only_wider (commit.crash has) (λ m is. (is.0 ∙ stays.given, is.1)));
+  crash = only_then (only_wider stays.crash (λ m is. (is.0, λ _. inl is.1))) stays.takes.later
+      (only_wider commit.crash (λ m is. (is.0 ∙ stays.given, is.1)));
   rest = commit.rest;
   either = commit.either;
 }

@@ -4,8 +4,7 @@ use Rattle.std.proofs.Common.{sym, ◌∙◌, ap, subst, arith}
 use Rattle.std.specs.Prelude.{Result, Ok, Err, IsErr}
 use Rattle.outside_world.specs.declared.world.FileName.TheVariants.{A}
 use Rattle.outside_world.specs.View.{View}
-use Rattle.outside_world.specs.Since.{TakesNone}
-use Rattle.outside_world.proofs.Moments.{only_wider, none_taken_then}
+use Rattle.outside_world.proofs.Moments.{only_wider, only_then, none_taken_then}
 use Rattle.record_codec.specs.Heads.{header_text}
 use Rattle.realm_insert.specs.State.{State, empty_state}
 use Rattle.realm_journal.specs.declared.error.JournalError.{JournalError}
@@ -53,7 +52,7 @@ committed_early (Ok n) no_error stays = absurd (place_not_ok n no_error)
 committed_early (Err e) is_error stays = record {
   takes = stays.takes;
   given = stays.given;
-  crash = λ _. only_wider stays.crash (λ m is. (is.0, inl is.1));
+  crash = only_wider stays.crash (λ m is. (is.0, λ _. inl is.1));
   rest = tt;
   either = λ _ c image. inl (stays.now c image);
 }
@@ -64,6 +63,7 @@ pub added : {old new : View} {state : State} {at : ℕ} (r : Result Unit Journal
 added {old} {new} {state} {at} (Ok x) current rest shut = record {
   takes = shut.writes.takes;
   given = shut.writes.given;
+  crash = only_wider shut.writes.crash (λ m is. is.given);
   rest = λ c image.
       let same : c ≡ new.reads A = shut.stable c image in
       let front : take at c ≡ take at (old.reads A) = ap (λ l. take at l) same ∙ shut.front in
@@ -73,29 +73,36 @@ added {old} {new} {state} {at} (Ok x) current rest shut = record {
         reach = (omega (arith, within), λ _. within);
       };
 }
-added (Err e) current rest shut = record { takes = shut.writes.takes; given = shut.writes.given; rest = tt }
+added (Err e) current rest shut = record {
+  takes = shut.writes.takes;
+  given = shut.writes.given;
+  crash = only_wider shut.writes.crash (λ m is. is.given);
+  rest = tt;
+}
 
 no_gate : {P : Type 0} → false ≡ true → P
 no_gate is = absurd cc
 
--- of crashes while a gate is added nothing is said
-pub committed_cut : {old new : View} {state after : State} (r : Result ℕ JournalError) → IsErr r → TakesNone old new
-    → new.given ≡ old.given → Committed old new false state after r
-committed_cut (Ok n) no_error takes given = absurd (place_not_ok n no_error)
-committed_cut (Err e) is_error takes given = record {
-  takes = takes;
-  given = given;
-  crash = λ has. no_gate has;
-  rest = tt;
-  either = λ has. no_gate has;
-}
+-- of the files that crashes leave while a gate is added nothing is said
+module _ {old mid : View} {state : State} {at : ℕ} where
+  pub committed_cut : {after : State} {e : Result Unit JournalError} (r : Result ℕ JournalError) → IsErr r
+      → AddedGate old mid state at e → Committed old mid false state after r
+  committed_cut (Ok n) no_error gate = absurd (place_not_ok n no_error)
+  committed_cut (Err e) is_error gate = record {
+    takes = gate.takes;
+    given = gate.given;
+    crash = only_wider gate.crash (λ m is. (is, λ has. no_gate has));
+    rest = tt;
+    either = λ has. no_gate has;
+  }
 
-pub committed_behind : {old mid new : View} {state after : State} {r : Result ℕ JournalError} → TakesNone old mid → mid.given ≡ old.given
-    → Committed mid new true state after r → Committed old new false state after r
-committed_behind takes given commit = record {
-  takes = none_taken_then takes commit.takes;
-  given = commit.given ∙ given;
-  crash = λ has. no_gate has;
-  rest = commit.rest;
-  either = λ has. no_gate has;
-}
+  pub committed_behind : {new : View} {after : State} {e : Result Unit JournalError} {r : Result ℕ JournalError}
+      → AddedGate old mid state at e → Committed mid new true state after r → Committed old new false state after r
+  committed_behind gate commit = record {
+    takes = none_taken_then gate.takes commit.takes;
+    given = commit.given ∙ gate.given;
+    crash = only_then (only_wider gate.crash (λ m is. (is, λ has. no_gate has))) gate.takes.later
+        (only_wider commit.crash (λ m is. (is.0 ∙ gate.given, λ has. no_gate has)));
+    rest = commit.rest;
+    either = λ has. no_gate has;
+  }

@@ -12,6 +12,10 @@ pub record Kept : Type 0 where
   pub next : Option ℕ
   pub has_gate : Bool
 
+-- the same place, with this state
+abbrev pub with_state : State → Kept → Kept
+with_state state kept = record { state = state; next = kept.next; has_gate = kept.has_gate }
+
 -- the file stands for this state and place, and reaches to its next gate
 pub record RestsAt (kept : Kept) (file : List ℕ) : Type 0 where
   pub stands : StandsAt file kept.state kept.next
@@ -20,3 +24,8 @@ pub record RestsAt (kept : Kept) (file : List ℕ) : Type 0 where
 -- so it is with whatever a crash may leave now
 abbrev pub AllRest : Kept → View → Type 0
 AllRest kept v = (c : List ℕ) → v.image A c → RestsAt kept c
+
+-- a store: what it keeps of the files, and whether it is spent, so that nothing is said of that
+pub record SpendableKept : Type 0 where
+  pub kept : Kept
+  pub spent : Bool

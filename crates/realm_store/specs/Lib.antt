@@ -4,7 +4,23 @@ pub mod Leading
 pub mod Records
 -- what file A stands for
 pub mod Stands
+-- files that stand for no state
+pub mod Damages
 -- what is kept of the files
 pub mod Keeping
+-- the reply to a change
+pub mod Replies
+-- what a change makes of what is kept
+pub mod Making
+-- the gate behind which the next record is to be written
+pub mod NextGates
 -- what the writing of a change does
 pub mod Committing
+-- what the start of a store tells
+pub mod Starting
+-- records whose changes are made again
+pub mod Replaying
+-- file A when a store is started
+pub mod Opening
+-- why a file that can't be read starts no store
+pub mod StartErrors

@@ -1,14 +1,15 @@
 //! Writes a record to file A, behind the gate that waits for it. Where file A doesn't count, a first
 //! generation with no record is put on it before; where the gate's byte is missing, it is added before.
-ghost use Rattle.std.specs.Prelude.{◌≡◌, ◌<◌, ◌^◌, ℕ, List, IfOk, OnErr, true, false};
+ghost use Rattle.std.specs.Prelude.{◌≡◌, ◌<◌, ◌+◌, ◌^◌, ℕ, List, length, IfOk, OnErr, true, false};
 ghost use Rattle.outside_world.specs.Counts.{Rose};
 ghost use Rattle.outside_world.specs.GoesOn.{GoesOn};
 ghost use Rattle.outside_world.specs.declared.world.FileName.TheVariants.{A};
 ghost use Rattle.record_codec.specs.Fitting.{IsRecord};
 ghost use Rattle.record_codec.specs.Heads.{header_text};
+ghost use Rattle.record_codec.specs.Spelling.{text_of};
 ghost use Rattle.realm_insert.specs.State.{State, empty_state};
 ghost use Rattle.realm_store.specs.Leading.{Leads};
-ghost use Rattle.realm_store.specs.Stands.{Counts, first_head};
+ghost use Rattle.realm_store.specs.Stands.{Counts, first_head, first_gate};
 ghost use Rattle.realm_store.specs.Keeping.{AllRest};
 ghost use Rattle.realm_store.specs.Committing.{Committed, BeganFile, AddedGate, at_gate, before_gate};
 
@@ -18,11 +19,11 @@ use realm_journal::{Block, JournalError, Prepared, append, append_block, shut_ga
 use record_codec::{Header, encode_header};
 use std::alloc::Global;
 
-// The place of the first record's gate, behind the head.
-const FIRST_GATE: u64 = 4_096;
+/// The place of the first record's gate, behind the head.
+pub(crate) const FIRST_GATE: u64 = 4_096;
 
 // The head of a first generation: it has no page.
-const FIRST: Header = Header {
+pub(crate) const FIRST: Header = Header {
     generation: 1,
     pages: 0,
     length: 0,
@@ -46,6 +47,7 @@ pub fn write_first<W: Outside>(
     requires none { W.tells world.old → (c : List ℕ) → (W.view world.old).image A c → Counts c → ⊥ }
     ensures told { W.tells world.new → (after : State) → Leads empty_state p.now after
         → Committed (W.view world.old) (W.view world.new) true empty_state after result }
+    ensures place { IfOk result (λ next. next ≡ first_gate + 1 + length (text_of p.now)) }
     ensures disk_fault { OnErr result (Rose (W.disk_faults world.old) (W.disk_faults world.new)) }
     ensures goes_on { GoesOn ⟦<W as Outside>⟧ world.old world.new }
 {
@@ -74,6 +76,7 @@ pub fn write_at_end<W: Outside>(world: &mut W, at: u64, p: &Prepared) -> Result<
     ensures told { W.tells world.new → (state after : State)
         → AllRest (before_gate state at) (W.view world.old) → Leads state p.now after
         → Committed (W.view world.old) (W.view world.new) false state after result }
+    ensures place { IfOk result (λ next. next ≡ at + 1 + length (text_of p.now)) }
     ensures disk_fault { OnErr result (Rose (W.disk_faults world.old) (W.disk_faults world.new)) }
     ensures goes_on { GoesOn ⟦<W as Outside>⟧ world.old world.new }
 {
@@ -100,6 +103,7 @@ pub fn write_record<W: Outside>(world: &mut W, at: u64, p: &Prepared) -> Result<
     requires rest { W.tells world.old → (state : State) × AllRest (at_gate state at) (W.view world.old) }
     ensures told { W.tells world.new → (state after : State) → AllRest (at_gate state at) (W.view world.old)
         → Leads state p.now after → Committed (W.view world.old) (W.view world.new) true state after result }
+    ensures place { IfOk result (λ next. next ≡ at + 1 + length (text_of p.now)) }
     ensures disk_fault { OnErr result (Rose (W.disk_faults world.old) (W.disk_faults world.new)) }
     ensures goes_on { GoesOn ⟦<W as Outside>⟧ world.old world.new }
 {

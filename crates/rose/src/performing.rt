@@ -3,6 +3,9 @@ ghost use Rattle.std.specs.Prelude.{◌≡◌, ◌≢◌, ◌↔◌, IsOk, IfOk,
 ghost use Rattle.std.specs.Process.{exit_status};
 ghost use Rattle.outside_world.specs.Counts.{Rose};
 ghost use Rattle.outside_world.specs.GoesOn.{GoesOn};
+ghost use Rattle.outside_world.specs.declared.world.FileName.TheVariants.{A};
+ghost use Rattle.realm_store.specs.Damages.{IsDamaged};
+ghost use Rattle.realm_store.specs.declared.damage.Damage.{Damage};
 ghost use Rattle.rose_shell.specs.Running.{IsRunWord, HasRun};
 ghost use Rattle.rose_shell.specs.Status.{number_of};
 
@@ -32,6 +35,8 @@ pub(crate) fn perform<R: Threads + Sync, W: Outside>(
         → Rose (W.sink_faults world.old) (W.sink_faults world.new) }
     ensures disk_fault { result ≡ Status.DiskFault
         → Rose (W.disk_faults world.old) (W.disk_faults world.new) }
+    ensures damaged { (d : Damage) → result ≡ Status.Damaged d → W.tells world.new
+        → IsDamaged d ((W.view world.old).reads A) }
     ensures goes_on { GoesOn ⟦<W as Outside>⟧ world.old world.new }
 {
     match words {

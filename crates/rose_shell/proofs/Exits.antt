@@ -36,6 +36,7 @@ module _ {S : Type 0} {terms : Terms S} where
     turns = ahead.turns;
     unread = last_line (part_from [] bytes);
     unsent = [];
+    later = ahead.made.later;
     left = ahead.left;
     taken = ahead.taken ∙ ap (λ (l : List ℕ). old.taken ++ l) (append-nil bytes);
     is_run = ahead.made.is_run;
@@ -66,6 +67,7 @@ module _ {S : Type 0} {terms : Terms S} where
         turns = ahead.turns;
         unread = rest ++ part;
         unsent = [];
+        later = ahead.made.later;
         left = ahead.left ∙ sym (append_assoc bytes more new.left);
         taken = ahead.taken;
         is_run = ahead.made.is_run;
@@ -99,6 +101,7 @@ module _ {S : Type 0} {terms : Terms S} where
         turns = ahead.turns ++ us;
         unread = [];
         unsent = [];
+        later = omega (arith, ahead.made.later, went.takes.later);
         left = left_then ahead went.takes ∙ ap (λ (l : List ℕ). l ++ new.left) (append-nil bytes);
         taken = went.takes.taken ∙ ahead.taken ∙ ap (λ (l : List ℕ). old.taken ++ l) (append-nil bytes);
         is_run = run_then ahead.made us went.is_run;
@@ -136,6 +139,7 @@ module _ {S : Type 0} {terms : Terms S} where
         turns = ahead.turns ++ us;
         unread = stopped.unread ++ rest;
         unsent = stopped.unsent;
+        later = omega (arith, ahead.made.later, stopped.takes.later);
         left = left_then ahead stopped.takes;
         taken = stopped.takes.taken ∙ ahead.taken;
         is_run = run_then ahead.made us stopped.is_run;

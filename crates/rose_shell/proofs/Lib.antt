@@ -1,6 +1,6 @@
 -- what settles a drawing leaves no violation
 mod Traces
--- what the engine answers to a change is what the store answers
+-- what the store answers to a change is an answer to its line
 mod ChangeAnswers
 -- a value that has a geometry is shown by it
 mod ValueAnswers
@@ -34,3 +34,7 @@ mod Exits
 mod Prefixes
 -- sessions of the store
 mod Sessions
+-- a session that begins after file A was read
+mod Openings
+-- how a run ends that counts no fault
+mod Rises

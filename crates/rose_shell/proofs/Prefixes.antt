@@ -76,6 +76,14 @@ module _ {S T : Type 0} (state_of : S → T) (is_change : S → Turn S → Bool)
         → Around start turns zero files
     around_now start turns files stand = inl (subst (λ t. stands_for t files) (sym (state_after-zero start turns)) stand)
 
+    -- so where nothing of a reply was given
+    pub start_is_prefix : (start : S) (turns : List (Turn S)) (given : List ℕ) (m : Moment) → m.given ≡ given
+        → stands_for (state_of start) m.files → IsPrefixMoment state_of is_change stands_for start turns given m
+    start_is_prefix start turns given m is stand =
+        let none : 0 ≡ length m.given - length given = omega (arith, ap length is) in
+        subst (λ n. Around start turns (Begun start turns n) m.files) none
+        (subst (λ k. Around start turns k m.files) (sym (begun-zero start turns)) (around_now start turns m.files stand))
+
     -- the next change was made, and its reply hasn't begun
     around_next : (start : S) (turn : Turn S) (turns : List (Turn S)) (files : FileName → List ℕ) (c : Bool) → is_change start turn ≡ c
         → MatchBool c (0 < length turn.reply) (state_of turn.after ≡ state_of start) → stands_for (state_of turn.after) files

@@ -1,21 +1,28 @@
--- This file shows that each turn of a session is one step, so each state on the way is a realm, and its changes are counted.
-use Rattle.std.proofs.Common.{◌≡◌, inl, inr, nat_lt, ℕ, ◌+◌, ◌<◌, Bool, true, false, MatchBool, List, [], ◌∷◌, length, All}
-use Rattle.std.proofs.Common.{sym, ap, subst, arith}
+-- This file shows that each turn of a session is one step, so each state on the way is a realm, its changes are counted, and
+-- each crash leaves the state after a prefix of them.
+use Rattle.std.proofs.Common.{◌≡◌, inl, inr, nat_lt, ℕ, ◌+◌, ◌<◌, Bool, true, false, MatchBool, List, [], ◌∷◌, ◌++◌, length, All}
+use Rattle.std.proofs.Common.{sym, ◌∙◌, ap, subst, arith}
+use Rattle.std.specs.Prelude.{◌≢◌}
 use Rattle.std.proofs.lemmas.Bool.Decides.{nat_tests}
 use Rattle.std.proofs.lemmas.List.Elements.{All-nil, All-cons}
 use Rattle.grid_base.specs.Drawing.{IsDrawnRealm}
 use Rattle.grid_base.proofs.RealmLaw.{drawn_realm_by}
-use Rattle.outside_world.specs.View.{View}
+use Rattle.outside_world.specs.declared.world.FileName.TheVariants.{A, B}
+use Rattle.outside_world.specs.View.{View, Moment}
 use Rattle.outside_world.specs.Since.{LeavesOnly}
 use Rattle.outside_world.proofs.Moments.{only_wider}
-use Rattle.realm_insert.specs.State.{State, SpendableState}
+use Rattle.realm_store.specs.Stands.{StandsFor}
+use Rattle.realm_store.specs.Keeping.{Kept, SpendableKept, AllRest}
 use Rattle.rose_shell.specs.declared.status.Status.{Status}
+use Rattle.rose_shell.specs.declared.status.Status.TheVariants.{DiskFault, NoMemory}
 use Rattle.rose_shell.specs.Answers.{StoreAnswers}
 use Rattle.rose_shell.specs.Lines.{longest_line}
+use Rattle.rose_shell.specs.Desk.{Stands}
 use Rattle.rose_shell.specs.Session.{Turn, Treats, IsRun, IsMoment, Served}
-use Rattle.rose_shell.specs.Prefixes.{IsCounted, IsPrefixMoment}
-use Rattle.rose_shell.specs.Running.{AnyFiles, StoreTerms, state_of, is_accepted, HasServed}
+use Rattle.rose_shell.specs.Prefixes.{IsCounted}
+use Rattle.rose_shell.specs.Running.{StoreTerms, kept_of, is_accepted, StandsInA, IsCrashOf, HasServed}
 use Rattle.rose_shell.proofs.Steps.{IsOneStep, line_steps}
+use Rattle.rose_shell.proofs.Stores.{rests_in_a}
 use Rattle.rose_shell.proofs.Prefixes.{moment_is_prefix}
 
 -- whichever of two answers a test chooses
@@ -24,27 +31,27 @@ either true P Q R first second chosen = first chosen
 either false P Q R first second chosen = second chosen
 
 -- each turn is one step
-turn_steps : (old : SpendableState) (line reply : List ℕ) (new : SpendableState) → Treats StoreAnswers old line reply new
-    → IsOneStep old.state reply new.state
+turn_steps : (old : SpendableKept) (line reply : List ℕ) (new : SpendableKept) → Treats StoreAnswers old line reply new
+    → IsOneStep old.kept reply new.kept
 turn_steps old line reply new treated =
-    either (nat_lt longest_line (length line)) _ _ (IsOneStep old.state reply new.state)
-    (λ refused. inl (ap state_of refused.1))
-    (λ answered. line_steps old.state line reply new.state answered.outcome)
+    either (nat_lt longest_line (length line)) _ _ (IsOneStep old.kept reply new.kept)
+    (λ refused. inl (ap kept_of refused.1))
+    (λ answered. line_steps old.kept line reply new.kept answered.outcome)
     treated
 
 -- a step leads from a realm to a realm
-step_realm : (old : State) (reply : List ℕ) (new : State) → IsOneStep old reply new → IsDrawnRealm old.drawing
-    → IsDrawnRealm new.drawing
-step_realm old reply new (inl same) realm = subst (λ (s : State). IsDrawnRealm s.drawing) (sym same) realm
-step_realm old reply new (inr accepted) realm = drawn_realm_by new.drawing accepted.settled
+step_realm : (old : Kept) (reply : List ℕ) (new : Kept) → IsOneStep old reply new → IsDrawnRealm old.state.drawing
+    → IsDrawnRealm new.state.drawing
+step_realm old reply new (inl same) realm = subst (λ (k : Kept). IsDrawnRealm k.state.drawing) (sym same) realm
+step_realm old reply new (inr accepted) realm = drawn_realm_by new.state.drawing accepted.settled
 
-run_realms : (start : SpendableState) (turns : List (Turn SpendableState)) → IsRun StoreAnswers start turns
-    → IsDrawnRealm start.state.drawing → All (λ turn. IsDrawnRealm turn.after.state.drawing) turns
-run_realms start [] run realm = All-nil (λ turn. IsDrawnRealm turn.after.state.drawing)
+run_realms : (start : SpendableKept) (turns : List (Turn SpendableKept)) → IsRun StoreAnswers start turns
+    → IsDrawnRealm start.kept.state.drawing → All (λ turn. IsDrawnRealm turn.after.kept.state.drawing) turns
+run_realms start [] run realm = All-nil (λ turn. IsDrawnRealm turn.after.kept.state.drawing)
 run_realms start (turn ∷ turns) run realm =
     let step = turn_steps start turn.line turn.reply turn.after run.0 in
-    let after = step_realm start.state turn.reply turn.after.state step realm in
-    All-cons (λ t. IsDrawnRealm t.after.state.drawing) turn turns after (run_realms turn.after turns run.1 after)
+    let after = step_realm start.kept turn.reply turn.after.kept step realm in
+    All-cons (λ t. IsDrawnRealm t.after.kept.state.drawing) turn turns after (run_realms turn.after turns run.1 after)
 
 -- the test of the numbers of changes
 is_same : (m n : ℕ) → n ≡ m → nat_lt m n ≡ false
@@ -54,37 +61,67 @@ is_more : (m n : ℕ) → n ≡ m + 1 → nat_lt m n ≡ true
 is_more m n more = grind (arith, nat_tests)
 
 -- and tells whether a step was a change
-step_counted : (old : State) (reply : List ℕ) (new : State) → IsOneStep old reply new
-    → MatchBool (nat_lt old.changes new.changes) (0 < length reply) (new ≡ old)
+step_counted : (old : Kept) (reply : List ℕ) (new : Kept) → IsOneStep old reply new
+    → MatchBool (nat_lt old.state.changes new.state.changes) (0 < length reply) (new ≡ old)
 step_counted old reply new (inl same) =
     subst (λ (b : Bool). MatchBool b (0 < length reply) (new ≡ old))
-    (sym (is_same old.changes new.changes (ap (λ (s : State). s.changes) same))) same
+    (sym (is_same old.state.changes new.state.changes (ap (λ (k : Kept). k.state.changes) same))) same
 step_counted old reply new (inr accepted) =
     subst (λ (b : Bool). MatchBool b (0 < length reply) (new ≡ old))
-    (sym (is_more old.changes new.changes accepted.changes)) accepted.has_reply
+    (sym (is_more old.state.changes new.state.changes accepted.changes)) accepted.has_reply
 
-run_counted : (start : SpendableState) (turns : List (Turn SpendableState)) → IsRun StoreAnswers start turns
-    → IsCounted state_of is_accepted start turns
+run_counted : (start : SpendableKept) (turns : List (Turn SpendableKept)) → IsRun StoreAnswers start turns
+    → IsCounted kept_of is_accepted start turns
 run_counted start [] run = tt
 run_counted start (turn ∷ turns) run = (
-  step_counted start.state turn.reply turn.after.state (turn_steps start turn.line turn.reply turn.after run.0),
+  step_counted start.kept turn.reply turn.after.kept (turn_steps start turn.line turn.reply turn.after run.0),
   run_counted turn.after turns run.1,
 )
 
--- so each crash leaves the state after a prefix of the changes
-run_prefix : (old new : View) (start : SpendableState) (turns : List (Turn SpendableState)) → IsRun StoreAnswers start turns
-    → LeavesOnly old new (IsMoment StoreTerms.stands start turns old.given)
-    → LeavesOnly old new (IsPrefixMoment state_of is_accepted AnyFiles start turns old.given)
-run_prefix old new start turns run crash =
-    only_wider crash (λ m is. moment_is_prefix state_of is_accepted AnyFiles StoreTerms.stands
-    (λ s files stands. stands) start turns old.given m is (run_counted start turns run))
+-- a gate that is there stays there
+step_gate : (old : Kept) (reply : List ℕ) (new : Kept) → IsOneStep old reply new → old.has_gate ≡ true → new.has_gate ≡ true
+step_gate old reply new (inl same) has = ap (λ (k : Kept). k.has_gate) same ∙ has
+step_gate old reply new (inr accepted) has = accepted.has_gate
+
+-- so file A stands for the state at each moment of the run
+abbrev InA : Stands SpendableKept
+InA s files = StandsFor (files A) s.kept.state
+
+moment_in_a : (start : SpendableKept) (turns : List (Turn SpendableKept)) (given : List ℕ) (m : Moment)
+    → IsRun StoreAnswers start turns → start.kept.has_gate ≡ true → IsMoment StoreTerms.stands start turns given m
+    → IsMoment InA start turns given m
+moment_in_a start [] given m run has is = (is.0, is.1 has)
+moment_in_a start (turn ∷ turns) given m run has (inl before) = inl (before.0, before.1 has)
+moment_in_a start (turn ∷ turns) given m run has (inr (inl (sent, unsent, split, is, stand))) =
+    let step = turn_steps start turn.line turn.reply turn.after run.0 in
+    inr (inl (sent, unsent, split, is, stand (step_gate start.kept turn.reply turn.after.kept step has)))
+moment_in_a start (turn ∷ turns) given m run has (inr (inr later)) =
+    let step = turn_steps start turn.line turn.reply turn.after run.0 in
+    inr (inr (moment_in_a turn.after turns (given ++ turn.reply) m run.1
+    (step_gate start.kept turn.reply turn.after.kept step has) later))
+
+-- and each crash leaves the state after a prefix of the changes
+run_prefix : (old new : View) (start : SpendableKept) (turns : List (Turn SpendableKept)) → IsRun StoreAnswers start turns
+    → LeavesOnly old new (IsMoment StoreTerms.stands start turns old.given) → start.kept.has_gate ≡ true
+    → LeavesOnly old new (IsCrashOf start turns old.given)
+run_prefix old new start turns run crash has =
+    only_wider crash (λ m is. moment_is_prefix kept_of is_accepted StandsInA InA
+    (λ s files stands. stands) start turns old.given m (moment_in_a start turns old.given m run has is)
+    (run_counted start turns run))
 
 -- what a store has served that begins with a realm
-pub has_served : (old new : View) (start end : SpendableState) (budget : ℕ) (status : Status) → IsDrawnRealm start.state.drawing
-    → Served StoreTerms old new start end budget status → HasServed old new start end budget status
-has_served old new start end budget status realm served = record {
+pub has_served : (old new : View) (start end : SpendableKept) (budget : ℕ) (status : Status) → IsDrawnRealm start.kept.state.drawing
+    → new.image B (new.reads B) → Served StoreTerms old new start end budget status → HasServed old new start end budget status
+has_served old new start end budget status realm other served = record {
   session = served;
   realms = run_realms start served.turns served.is_run realm;
   counted = run_counted start served.turns served.is_run;
   prefix = run_prefix old new start served.turns served.is_run served.crash;
+  rest = λ no_fault. rests_in_a other (served.rest no_fault);
 }
+
+-- a store that can go on is at rest
+pub rests_in_the_end : {old new : View} {start end : SpendableKept} {budget : ℕ} {status : Status} → new.image B (new.reads B)
+    → Served StoreTerms old new start end budget status → status ≢ NoMemory → status ≢ DiskFault → AllRest end.kept new
+rests_in_the_end {new = new} other served no_memory no_fault =
+    subst (λ (s : SpendableKept). AllRest s.kept new) (sym (served.ends no_memory no_fault)) (rests_in_a other (served.rest no_fault))

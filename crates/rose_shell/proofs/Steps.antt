@@ -1,24 +1,26 @@
--- This file shows that an answer is one step: the state stays, or one change more was accepted, which leaves no violation.
-use Rattle.std.proofs.Common.{◌≡◌, ◌⊎◌, inl, inr, ℕ, ◌+◌, ◌<◌, List, [], ◌∷◌, ◌++◌, length, codes}
+-- This file shows that an answer is one step: what is kept stays, or one change more was accepted, which leaves no violation.
+use Rattle.std.proofs.Common.{◌≡◌, ◌⊎◌, inl, inr, ℕ, ◌+◌, ◌<◌, true, List, [], ◌∷◌, ◌++◌, length, codes}
 use Rattle.std.proofs.Common.{refl, sym, subst, arith, length-append}
 use Rattle.std.specs.Fmt.{decimal}
 use Rattle.grid_base.specs.Drawing.{HasViolation}
 use Rattle.line_grammar.specs.declared.command.Command.TheVariants as commands
 use Rattle.line_grammar.specs.declared.command.Change.{Change}
-use Rattle.realm_insert.specs.State.{State}
 use Rattle.realm_insert.specs.Lines.{drawn_between}
-use Rattle.rose_shell.specs.Answers.{RefusesChange, MakesChange, AnswersChange, AnswersCommand, AnswersLine}
-use Rattle.rose_shell.specs.Replies.{ok_reply}
+use Rattle.realm_store.specs.Keeping.{Kept}
+use Rattle.realm_store.specs.Making.{IsMade}
+use Rattle.realm_store.specs.Replies.{ok_reply}
+use Rattle.rose_shell.specs.Answers.{RefusesChange, AnswersChange, AnswersCommand, AnswersLine}
 use Rattle.rose_shell.proofs.Traces.{settled_by}
 
 -- of a change that was accepted
-pub record IsAccepted (old : State) (reply : List ℕ) (new : State) : Type 0 where
-  pub changes : new.changes ≡ old.changes + 1
+pub record IsAccepted (old : Kept) (reply : List ℕ) (new : Kept) : Type 0 where
+  pub changes : new.state.changes ≡ old.state.changes + 1
   pub has_reply : 0 < length reply
-  pub settled : HasViolation new.drawing → ⊥
+  pub settled : HasViolation new.state.drawing → ⊥
+  pub has_gate : new.has_gate ≡ true
 
--- the state stays, or one change more was accepted
-abbrev pub IsOneStep : State → List ℕ → State → Type 0
+-- what is kept stays, or one change more was accepted
+abbrev pub IsOneStep : Kept → List ℕ → Kept → Type 0
 IsOneStep old reply new = (new ≡ old) ⊎ IsAccepted old reply new
 
 -- the reply to an accepted change begins with a word
@@ -30,29 +32,30 @@ reply_has_bytes change steps first added =
     omega (arith, length-append (codes "ok ") rest, word)
 
 -- a change is refused, or is one more and ends with a drawing without a violation
-made_steps : (c : Change) (old : State) (reply : List ℕ) (new : State)
-    → RefusesChange c old reply new ⊎ MakesChange c old reply new → IsOneStep old reply new
-made_steps c old reply new (inl refused) = inl refused.state_stays
+made_steps : (c : Change) (old : Kept) (reply : List ℕ) (new : Kept)
+    → RefusesChange c old reply new ⊎ IsMade c old reply new → IsOneStep old reply new
+made_steps c old reply new (inl refused) = inl refused.kept_stays
 made_steps c old reply new (inr made) =
-    let next = made.next in
+    let next = made.makes.next in
     inr record {
       changes = next.changes;
       has_reply = subst (λ (l : List ℕ). 0 < length l) (sym made.reply_is)
-          (reply_has_bytes new.changes (length made.steps) old.next_id (length (drawn_between c)));
-      settled = settled_by next.changed made.steps new.drawing next.settles;
+          (reply_has_bytes new.state.changes (length made.steps) old.state.next_id (length (drawn_between c)));
+      settled = settled_by next.changed made.steps new.state.drawing next.settles;
+      has_gate = made.makes.has_gate;
     }
 
-change_steps : (c : Change) (old : State) (reply : List ℕ) (new : State) → AnswersChange c old reply new → IsOneStep old reply new
-change_steps c old reply new (inl later) = inl later.1.state_stays
+change_steps : (c : Change) (old : Kept) (reply : List ℕ) (new : Kept) → AnswersChange c old reply new → IsOneStep old reply new
+change_steps c old reply new (inl later) = inl later.1.kept_stays
 change_steps c old reply new (inr answered) = made_steps c old reply new answered.1
 
-command_steps : (c : commands.the_data) (old : State) (reply : List ℕ) (new : State) → AnswersCommand c old reply new
+command_steps : (c : commands.the_data) (old : Kept) (reply : List ℕ) (new : Kept) → AnswersCommand c old reply new
     → IsOneStep old reply new
 command_steps (commands.Change c) old reply new answered = change_steps c old reply new answered
 command_steps (commands.Query q) old reply new answered = inl answered.1
-command_steps c old reply new later = inl later.state_stays
+command_steps c old reply new later = inl later.kept_stays
 
 -- what a line is answered
-pub line_steps : (old : State) (line reply : List ℕ) (new : State) → AnswersLine old line reply new → IsOneStep old reply new
+pub line_steps : (old : Kept) (line reply : List ℕ) (new : Kept) → AnswersLine old line reply new → IsOneStep old reply new
 line_steps old line reply new (inl said) = command_steps said.0 old reply new said.2
-line_steps old line reply new (inr refused) = inl refused.state_stays
+line_steps old line reply new (inr refused) = inl refused.kept_stays

@@ -1,37 +1,109 @@
--- This file shows that a store keeps its terms at the desk: it makes no call on the world.
-use Rattle.std.proofs.Common.{ℕ, List, refl}
-use Rattle.std.specs.Prelude.{Ok, Err}
+-- This file shows that a store keeps its terms at the desk.
+use Rattle.std.proofs.Common.{◌≡◌, ◌⊎◌, inl, inr, ⊎_elim, ℕ, List, Bool, true, false, refl}
+use Rattle.std.specs.Prelude.{◌≢◌, Result, Ok, Err}
+use Rattle.outside_world.specs.declared.world.FileName.{FileName}
+use Rattle.outside_world.specs.declared.world.FileName.TheVariants.{A, B}
 use Rattle.outside_world.specs.View.{View}
-use Rattle.outside_world.proofs.Moments.{only_nothing, none_taken}
-use Rattle.realm_insert.specs.State.{SpendableState}
-use Rattle.rose_shell.specs.declared.desk.Stop.TheVariants.{NoMemory}
+use Rattle.outside_world.proofs.Moments.{only_nothing, only_wider, none_taken}
+use Rattle.line_grammar.specs.Spelling.{change_text}
+use Rattle.line_grammar.specs.Spellable.{IsSpellableChange}
+use Rattle.line_grammar.specs.declared.command.Change.{Change}
+use Rattle.line_grammar.specs.declared.command.Command.TheVariants as commands
+use Rattle.realm_insert.specs.Lines.{IsLet}
+use Rattle.realm_store.specs.Keeping.{Kept, SpendableKept, AllRest as RestsInA}
+use Rattle.realm_store.specs.Making.{IsMade}
+use Rattle.realm_store.specs.Committing.{IsWritten}
+use Rattle.rose_shell.specs.declared.desk.Stop.{Stop}
+use Rattle.rose_shell.specs.declared.desk.Stop.TheVariants.{Disk, NoMemory}
 use Rattle.rose_shell.specs.Desk.{AllRest, Answered}
-use Rattle.rose_shell.specs.Running.{StoreTerms}
+use Rattle.rose_shell.specs.Running.{StoreTerms, ready_store}
 
--- any files are at rest for any state
-pub store_rests : {v : View} {s : SpendableState} → AllRest StoreTerms v s
-store_rests = record { each = λ files may. tt }
+-- what the store keeps of file A is all that the desk asks of both files,
+pub rests_at_desk : {v : View} {s : SpendableKept} → RestsInA s.kept v → AllRest StoreTerms v s
+rests_at_desk rest = record { each = λ files may. rest (files A) (may A) }
 
--- a line was answered
-pub store_answered : {v : View} {start end : SpendableState} {line reply : List ℕ}
-    → Answered StoreTerms v v start end line (Ok reply)
-store_answered = record {
+-- and the desk says as much of file A, as file B is left as something
+abbrev two_files : List ℕ → List ℕ → FileName → List ℕ
+two_files a b A = a
+two_files a b B = b
+
+two_left : (v : View) (a b : List ℕ) → v.image A a → v.image B b → (f : FileName) → v.image f (two_files a b f)
+two_left v a b one other A = one
+two_left v a b one other B = other
+
+pub rests_in_a : {v : View} {s : SpendableKept} → v.image B (v.reads B) → AllRest StoreTerms v s → RestsInA s.kept v
+rests_in_a {v} other rest = λ c image. rest.each (two_files c (v.reads B)) (two_left v c (v.reads B) image other)
+
+-- an answer that comes of no call on the world and leaves the store as it was
+pub still_answered : {v : View} {s : SpendableKept} {line : List ℕ} (r : Result (List ℕ) Stop) → r ≢ Err Disk → RestsInA s.kept v
+    → Answered StoreTerms v v s s line r
+still_answered (Ok reply) never rest = record {
   takes = none_taken;
   given = refl;
-  rest = store_rests;
+  rest = rests_at_desk rest;
   crash = only_nothing;
   memory = λ is. absurd (cc);
   disk = λ is. absurd (cc);
 }
-
--- or memory ran out
-pub store_stopped : {v : View} {start end : SpendableState} {line : List ℕ}
-    → Answered StoreTerms v v start end line (Err NoMemory)
-store_stopped = record {
+still_answered (Err NoMemory) never rest = record {
   takes = none_taken;
   given = refl;
   rest = tt;
   crash = tt;
-  memory = λ _. (store_rests, only_nothing);
+  memory = λ _. (rests_at_desk rest, only_nothing);
   disk = λ is. absurd (cc);
+}
+still_answered (Err Disk) never rest = absurd (never refl)
+
+-- memory ran out before anything was written, whatever has become of the store
+pub store_stopped : {v : View} {start end : SpendableKept} {line : List ℕ} → RestsInA start.kept v
+    → Answered StoreTerms v v start end line (Err NoMemory)
+store_stopped rest = record {
+  takes = none_taken;
+  given = refl;
+  rest = tt;
+  crash = tt;
+  memory = λ _. (rests_at_desk rest, only_nothing);
+  disk = λ is. absurd (cc);
+}
+
+-- of two states file A stands for one, where the gate is there
+either_stands : (has : Bool) (P Q E : Type 0) → (has ≡ true → P ⊎ Q) → (has ≡ true → P) ⊎ (E → Q)
+either_stands true P Q E two = ⊎_elim (λ p. inl (λ _. p)) (λ q. inr (λ _. q)) (two refl)
+either_stands false P Q E two = inl (λ is. absurd (cc))
+
+-- a change was made, and is stable
+pub change_written : {old new : View} {start end : SpendableKept} {line reply : List ℕ} → IsWritten old new start.kept end.kept
+    → RestsInA end.kept new → Answered StoreTerms old new start end line (Ok reply)
+change_written {start = start} written rest = record {
+  takes = written.takes;
+  given = written.given;
+  rest = rests_at_desk rest;
+  crash = only_wider written.crash (λ m is. (is.0, either_stands start.kept.has_gate _ _ _ is.1));
+  memory = λ is. absurd (cc);
+  disk = λ is. absurd (cc);
+}
+
+-- or the disk failed meanwhile
+pub change_cut_off : {old new : View} {start end : SpendableKept} {reply : List ℕ} {after : Kept} (c : Change)
+    → IsSpellableChange c → (IsLet c → ⊥) → start.spent ≡ false → IsMade c start.kept reply after
+    → IsWritten old new start.kept after → Answered StoreTerms old new start end (change_text c) (Err Disk)
+change_cut_off {start = start} {reply = reply} {after} c spellable other ready made written = record {
+  takes = written.takes;
+  given = written.given;
+  rest = tt;
+  crash = tt;
+  memory = λ is. absurd (cc);
+  disk = λ _. record {
+    reply = reply;
+    after = ready_store after;
+    answer = record {
+      was_ready = ready;
+      is_ready = refl;
+      outcome = inl (commands.Change c, (spellable, refl), inr (other, inr made));
+    };
+    may_write = (c, (spellable, refl));
+    crash = only_wider written.crash (λ m is. (is.0, either_stands start.kept.has_gate _ _ _ is.1));
+    either = λ files image. either_stands start.kept.has_gate _ _ _ (λ has. written.either has (files A) (image A));
+  };
 }

@@ -5,7 +5,9 @@ use Rattle.outside_world.specs.Since.{TakesNone, LeavesOnly}
 use Rattle.rose_shell.specs.declared.feeding.Halt.{Halt}
 use Rattle.rose_shell.specs.declared.feeding.Halt.TheVariants as halts
 use Rattle.rose_shell.specs.declared.status.Status.{Status}
-use Rattle.rose_shell.specs.declared.status.Status.TheVariants.{SinkFault, DiskFault, NoMemory}
+use Rattle.rose_shell.specs.declared.status.Status.TheVariants.{SinkFault, DiskFault, Damaged, NoMemory}
+use Rattle.realm_store.specs.declared.error.StartError.{StartError}
+use Rattle.realm_store.specs.declared.error.StartError.TheVariants as starts
 use Rattle.rose_shell.specs.declared.desk.Stop.{Stop}
 use Rattle.rose_shell.specs.declared.desk.Stop.TheVariants as stops
 use Rattle.rose_shell.specs.Desk.{Terms, AllRest}
@@ -50,3 +52,9 @@ status_at halts.NoMemory = NoMemory
 abbrev pub halt_at : Stop → Halt
 halt_at stops.Disk = halts.Disk
 halt_at stops.NoMemory = halts.NoMemory
+
+-- the status that a run ends with whose store isn't started
+abbrev pub status_unstarted : StartError → Status
+status_unstarted starts.Disk = DiskFault
+status_unstarted (starts.Damaged d) = Damaged d
+status_unstarted starts.NoMemory = NoMemory

@@ -1,54 +1,102 @@
--- What `run` and `serve` promise: each line is answered by the table of lines, and each state on the way is a
--- realm.
-use Rattle.std.specs.Prelude.{◌≡◌, ◌^◌, ℕ, Bool, List, [], ◌∷◌, All, codes, nat_lt}
-use Rattle.outside_world.specs.View.{View}
+-- What `run` and `serve` promise: each line is answered by the table of lines, each state on the way is a
+-- realm, and each crash leaves a file A that stands for the state after the changes answered so far, or
+-- after one more.
+use Rattle.std.specs.Prelude.{◌≡◌, ◌≢◌, ◌⊎◌, ◌≤◌, ◌^◌, ℕ, Bool, true, false}
+use Rattle.std.specs.Prelude.{List, [], ◌∷◌, All, codes, nat_lt}
+use Rattle.outside_world.specs.View.{View, Moment}
 use Rattle.outside_world.specs.Since.{LeavesOnly}
 use Rattle.outside_world.specs.declared.world.FileName.{FileName}
+use Rattle.outside_world.specs.declared.world.FileName.TheVariants.{A}
 use Rattle.grid_base.specs.Drawing.{IsDrawnRealm}
-use Rattle.realm_insert.specs.State.{State, SpendableState, fresh_state}
+use Rattle.line_grammar.specs.Lines.{Says}
+use Rattle.line_grammar.specs.declared.command.Change.{Change}
+use Rattle.line_grammar.specs.declared.command.Command.TheVariants as commands
+use Rattle.realm_journal.specs.Reading.{OnlyAsks}
+use Rattle.realm_store.specs.Stands.{StandsFor}
+use Rattle.realm_store.specs.Keeping.{Kept, SpendableKept, RestsAt, AllRest}
+use Rattle.realm_store.specs.Starting.{KnowsGate}
+use Rattle.realm_store.specs.Damages.{IsDamaged}
+use Rattle.realm_store.specs.declared.damage.Damage.{Damage}
 use Rattle.rose_shell.specs.Answers.{StoreAnswers}
 use Rattle.rose_shell.specs.Desk.{Terms}
-use Rattle.rose_shell.specs.Session.{Turn, Served}
+use Rattle.rose_shell.specs.Session.{Turn, end_of, Served}
 use Rattle.rose_shell.specs.Prefixes.{IsCounted, IsPrefixMoment}
 use Rattle.rose_shell.specs.declared.status.Status.{Status}
+use Rattle.rose_shell.specs.declared.status.Status.TheVariants.{DiskFault, Damaged, NoMemory}
 
 -- the words are the one word `run`
 abbrev pub IsRunWord : List (List ℕ) → Type 0
 IsRunWord words = words ≡ codes "run" ∷ []
 
--- the store keeps no files yet: any files stand for any state
-abbrev pub AnyFiles : State → (FileName → List ℕ) → Type 0
-AnyFiles state files = Unit {0}
+-- the line is the text of a change
+abbrev pub IsChangeLine : List ℕ → Type 0
+IsChangeLine line = (c : Change) × Says line (commands.Change c)
 
--- what the store goes by at the desk: no line writes to files
-abbrev pub StoreTerms : Terms SpendableState
+-- What the store goes by at the desk: only a change writes, and to file A alone. Where the byte of the next
+-- gate is missing, nothing is said of what file A stands for in a crash, until a change has added it.
+abbrev pub StoreTerms : Terms SpendableKept
 StoreTerms = record {
   answers = StoreAnswers;
-  writes = λ s line. ⊥;
-  stands = λ s files. AnyFiles s.state files;
-  rests = λ s files. AnyFiles s.state files;
-  rest_stands = λ s files rests. rests;
+  writes = λ s line. IsChangeLine line;
+  stands = λ s files. s.kept.has_gate ≡ true → StandsFor (files A) s.kept.state;
+  rests = λ s files. RestsAt s.kept (files A);
+  rest_stands = λ s files rests has. (s.kept.next, rests.stands);
 }
 
--- this much of a store is to be kept in the files
-abbrev pub state_of : SpendableState → State
-state_of s = s.state
+-- what a store keeps
+abbrev pub kept_of : SpendableKept → Kept
+kept_of s = s.kept
 
 -- from a store, this turn was an accepted change
-abbrev pub is_accepted : SpendableState → Turn SpendableState → Bool
-is_accepted start turn = nat_lt start.state.changes turn.after.state.changes
+abbrev pub is_accepted : SpendableKept → Turn SpendableKept → Bool
+is_accepted start turn = nat_lt start.kept.state.changes turn.after.kept.state.changes
+
+-- file A stands for what is kept
+abbrev pub StandsInA : Kept → (FileName → List ℕ) → Type 0
+StandsInA kept files = StandsFor (files A) kept.state
+
+-- a crash of this session at which k accepted changes had replies that had begun: file A stands for the
+-- state after k accepted changes, or after k + 1
+abbrev pub IsCrashOf : SpendableKept → List (Turn SpendableKept) → List ℕ → Moment → Type 0
+IsCrashOf start turns given m = IsPrefixMoment kept_of is_accepted StandsInA start turns given m
 
 -- The store has served the world. After each line its drawing is a realm. Each turn was an accepted change
--- with a reply, or has left the state as it was. At each crash since the start the files stand for the
--- state after as many accepted changes as had replies that had begun, or after one more.
-pub record HasServed (old new : View) (start end : SpendableState) (budget : ℕ) (status : Status)
+-- with a reply, or has left what is kept as it was. Where the byte of the next gate was there at the start,
+-- each crash since is one of this session. But for a disk fault all is at rest in the end, as it is kept
+-- after the last line.
+pub record HasServed (old new : View) (start end : SpendableKept) (budget : ℕ) (status : Status)
     : Type 0 where
   pub session : Served StoreTerms old new start end budget status
-  pub realms : All (λ turn. IsDrawnRealm turn.after.state.drawing) session.turns
-  pub counted : IsCounted state_of is_accepted start session.turns
-  pub prefix : LeavesOnly old new (IsPrefixMoment state_of is_accepted AnyFiles start session.turns old.given)
+  pub realms : All (λ turn. IsDrawnRealm turn.after.kept.state.drawing) session.turns
+  pub counted : IsCounted kept_of is_accepted start session.turns
+  pub prefix : start.kept.has_gate ≡ true → LeavesOnly old new (IsCrashOf start session.turns old.given)
+  pub rest : status ≢ DiskFault → AllRest (end_of start session.turns).kept new
 
--- a store has served the world from the empty state on, with the budget of a run
-pub record HasRun (old new : View) (status : Status) : Type 0 where
-  pub end : SpendableState
-  pub served : HasServed old new fresh_state end (2 ^ 40) status
+-- File A was synced and read, and nothing else happened: the disk failed meanwhile, memory ran out, or the
+-- file is damaged as is told.
+pub record IsNotBegun (old new : View) (status : Status) : Type 0 where
+  pub asks : OnlyAsks old new
+  pub cause : (status ≡ DiskFault) ⊎ ((status ≡ NoMemory)
+      ⊎ ((d : Damage) × (status ≡ Damaged d) × IsDamaged d (old.reads A)))
+
+-- a store that keeps this and isn't spent
+abbrev pub ready_store : Kept → SpendableKept
+ready_store kept = record { kept = kept; spent = false }
+
+-- What file A stands for at the call is what is served from, with the budget of a run. From some moment on
+-- each crash is one of this session; before it, a crash leaves what it could at the call.
+pub record HasBegun (old new : View) (status : Status) : Type 0 where
+  pub start : Kept
+  pub rests : RestsAt start (old.reads A)
+  pub knows : KnowsGate start (old.reads A)
+  pub end : SpendableKept
+  pub served : HasServed old new (ready_store start) end (2 ^ 40) status
+  pub since : ℕ
+  pub begun : old.moment ≤ since
+  pub by_now : since ≤ new.moment
+  pub settled : start.has_gate ≡ true → (m : Moment) → new.left_since since m
+      → IsCrashOf (ready_store start) served.session.turns old.given m
+
+-- what a run has done
+abbrev pub HasRun : View → View → Status → Type 0
+HasRun old new status = IsNotBegun old new status ⊎ HasBegun old new status

@@ -96,6 +96,8 @@ pub record Served {S : Type 0} (terms : Terms S) (old new : View) (start end : S
   pub turns : List (Turn S)
   pub unread : List (List ℕ)
   pub unsent : List ℕ
+  -- the clock went on
+  pub later : old.moment ≤ new.moment
   -- these bytes were taken
   pub left : old.left ≡ bytes ++ new.left
   pub taken : new.taken ≡ old.taken ++ bytes

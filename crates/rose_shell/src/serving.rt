@@ -3,6 +3,7 @@ ghost use Rattle.std.specs.Prelude.{◌≡◌, ◌≢◌, ◌≤◌, ◌<◌, le
 ghost use Rattle.outside_world.specs.Counts.{Rose};
 ghost use Rattle.outside_world.specs.GoesOn.{GoesOn};
 ghost use Rattle.outside_world.specs.Calls.{Took};
+ghost use Rattle.realm_store.specs.declared.damage.Damage.{Damage};
 ghost use Rattle.rose_shell.specs.Desk.{AllRest};
 ghost use Rattle.rose_shell.specs.Session.{Served};
 ghost use Rattle.rose_shell.specs.Loop.{status_at};
@@ -31,6 +32,7 @@ pub(crate) fn serve_by_chunks<R: Threads + Sync, W: Outside, D: Desk<W>>(
     ensures told { W.tells world.new
         → Served D.terms (W.view world.old) (W.view world.new) desk.old desk.new budget result }
     ensures never_usage { result ≢ Status.Usage }
+    ensures never_damaged { (d : Damage) → result ≢ Status.Damaged d }
     ensures source_fault { result ≡ Status.SourceFault
         → Rose (W.source_faults world.old) (W.source_faults world.new) }
     ensures sink_fault { result ≡ Status.SinkFault

@@ -2,7 +2,9 @@
 ghost use Rattle.std.specs.Prelude.{◌≡◌};
 ghost use Rattle.rose_shell.specs.Status.{number_of};
 
-/// How a run ended. No status has the number 5 yet: it is kept for damaged files.
+use realm_store::Damage;
+
+/// How a run ended.
 #[derive(Clone, Copy, Debug, PartialEq, Eq)]
 pub enum Status {
     /// The input ended, and each line of it was answered.
@@ -15,6 +17,8 @@ pub enum Status {
     SinkFault,
     /// A file could not be read or written on.
     DiskFault,
+    /// The files stand for no state.
+    Damaged(Damage),
     /// Memory ran out.
     NoMemory,
     /// The input is longer than the run may read.
@@ -32,6 +36,7 @@ impl Status {
             Status::SourceFault => 2,
             Status::SinkFault => 3,
             Status::DiskFault => 4,
+            Status::Damaged(_) => 5,
             Status::NoMemory => 6,
             Status::InputLimit => 7,
         }
@@ -41,6 +46,7 @@ impl Status {
 #[cfg(test)]
 mod tests {
     use super::*;
+    use outside_world::FileName;
 
     // The numbers are those of the program's manual.
     #[test]
@@ -51,6 +57,13 @@ mod tests {
             (Status::SourceFault, 2),
             (Status::SinkFault, 3),
             (Status::DiskFault, 4),
+            (
+                Status::Damaged(Damage::BadPage {
+                    file: FileName::A,
+                    page: 0,
+                }),
+                5,
+            ),
             (Status::NoMemory, 6),
             (Status::InputLimit, 7),
         ];

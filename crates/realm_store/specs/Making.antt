@@ -1,0 +1,53 @@
+-- What a change makes of what is kept of the files, and what it is answered.
+use Rattle.std.specs.Prelude.{◌≡◌, ◌⊎◌, ◌+◌, ◌≤◌, ◌^◌, ℕ, true, List, length, Option, Some, None}
+use Rattle.grid_base.specs.declared.kinds.Step.{Step}
+use Rattle.line_grammar.specs.declared.command.Change.{Change}
+use Rattle.line_grammar.specs.Spelling.{change_text}
+use Rattle.record_codec.specs.declared.record.Record.{Record}
+use Rattle.record_codec.specs.Spelling.{text_of}
+use Rattle.realm_insert.specs.Lines.{drawn_between}
+use Rattle.realm_insert.specs.Next.{Next}
+use Rattle.realm_insert.specs.Refusals.{IsAccepted, IsRefusedBy}
+use Rattle.realm_insert.specs.declared.refusal.Refusal.{Refusal}
+use Rattle.realm_insert.specs.declared.refusal.Refusal.TheVariants.{Full}
+use Rattle.realm_store.specs.Keeping.{Kept}
+use Rattle.realm_store.specs.Replies.{ok_reply}
+use Rattle.realm_store.specs.Stands.{first_gate}
+
+-- the place where the next record's gate stands, or will stand where the file doesn't count yet
+abbrev pub next_gate : Option ℕ → ℕ
+next_gate None = first_gate
+next_gate (Some next) = next
+
+-- the record of the change with this number, which these steps settled
+abbrev pub record_of : Change → List Step → ℕ → Record
+record_of c steps number = record { number = number; line = change_text c; trace = steps }
+
+-- the record stands behind the gate that waited, with a gate behind it
+abbrev pub kept_behind : Kept → Record → Kept
+kept_behind kept r = record {
+  state = kept.state;
+  next = Some (next_gate kept.next + 1 + length (text_of r));
+  has_gate = true;
+}
+
+-- the change is made by these steps; its record stands behind the gate that waited, with a gate behind it
+pub record Makes (c : Change) (steps : List Step) (old new : Kept) : Type 0 where
+  pub next : Next old.state c steps new.state
+  pub place : new.next ≡ Some (next_gate old.next + 1 + length (text_of (record_of c steps new.state.changes)))
+  pub has_gate : new.has_gate ≡ true
+
+-- the change is made by some steps, and gets this reply
+pub record IsMade (c : Change) (old : Kept) (reply : List ℕ) (new : Kept) : Type 0 where
+  pub steps : List Step
+  pub makes : Makes c steps old new
+  pub reply_is : reply ≡ ok_reply new.state.changes (length steps) old.state.next_id (length (drawn_between c))
+
+-- no record more may be written: the place of its gate would be too far
+abbrev pub IsFull : Kept → Type 0
+IsFull kept = 2 ^ 61 ≤ next_gate kept.next
+
+-- a cause in the state refuses the change, or it has none and the file is full
+abbrev pub IsRefusedFor : Change → Kept → Refusal → Type 0
+IsRefusedFor c kept word =
+    IsRefusedBy c kept.state word ⊎ (IsAccepted c kept.state × IsFull kept × (word ≡ Full))

@@ -1,0 +1,45 @@
+-- Records whose changes are made again one after another, wherever they stand.
+use Rattle.std.specs.Prelude.{◌≡◌, ℕ, Bool, true, false, List, [], ◌∷◌, ◌++◌, length}
+use Rattle.line_grammar.specs.declared.command.Change.{Change}
+use Rattle.line_grammar.specs.Spelling.{change_text}
+use Rattle.line_grammar.specs.Spellable.{IsSpellableChange}
+use Rattle.record_codec.specs.declared.record.Record.{Record}
+use Rattle.realm_insert.specs.Lines.{IsLet}
+use Rattle.realm_insert.specs.State.{State, SpendableState}
+use Rattle.realm_store.specs.Leading.{Leads}
+
+-- the line is the text of the change, which is made by no operator
+pub record IsReplayable (line : List ℕ) (change : Change) : Type 0 where
+  pub spellable : IsSpellableChange change
+  pub is_text : line ≡ change_text change
+  pub not_let : IsLet change → ⊥
+
+-- each of these records leads on, from the first state to the second
+abbrev pub LeadOn : State → List Record → State → Type 0
+LeadOn start [] end = end ≡ start
+LeadOn start (r ∷ rs) end = (mid : State) × Leads start r mid × LeadOn mid rs end
+
+-- the record leads from the state to none
+abbrev pub LeadsNowhere : State → Record → Type 0
+LeadsNowhere state r = (after : State) → Leads state r after → ⊥
+
+-- the record led the engine from the state to its own; or it leads from it to none
+pub record Remade (state : State) (r : Record) (leads : Bool) (engine : SpendableState) : Type 0 where
+  pub ready : leads ≡ true → engine.spent ≡ false
+  pub led : leads ≡ true → Leads state r engine.state
+  pub nowhere : leads ≡ false → LeadsNowhere state r
+
+-- none is left, and the engine has the state; or the first that is left leads from it to none
+abbrev pub IsRest : State → List Record → SpendableState → Type 0
+IsRest state [] engine = (engine.spent ≡ false) × (engine.state ≡ state)
+IsRest state (r ∷ more) engine = LeadsNowhere state r
+
+-- so many of the records, from the first on, led the engine from this state to one, and the next leads from that to none
+pub record Replayed (start : State) (records : List Record) (count : ℕ) (engine : SpendableState) : Type 0 where
+  pub before : List Record
+  pub left : List Record
+  pub in_order : records ≡ before ++ left
+  pub count_is : count ≡ length before
+  pub reached : State
+  pub lead : LeadOn start before reached
+  pub rest : IsRest reached left engine

@@ -1,0 +1,67 @@
+//! Why a store isn't started, and why a change isn't committed.
+ghost use Rattle.std.specs.Prelude.{◌≡◌};
+ghost use Rattle.realm_store.specs.declared.error.CommitError.TheVariants.{Disk as Unwritten, NoMemory as NoCommit};
+ghost use Rattle.realm_store.specs.declared.error.StartError.TheVariants.{NoMemory as NoRoom};
+ghost use Rattle.realm_store.specs.StartErrors.{start_error};
+
+use crate::damage::Damage;
+use grid_base::NoMemory;
+use realm_insert::Refusal;
+use realm_journal::{JournalError, ScanError};
+
+/// Why a store isn't started. Nothing was written.
+#[derive(Clone, Copy, Debug, PartialEq, Eq)]
+pub enum StartError {
+    /// The disk failed.
+    Disk,
+    /// The files stand for no state.
+    Damaged(Damage),
+    /// Memory ran out.
+    NoMemory,
+}
+
+impl From<NoMemory> for StartError {
+    ghost from_gives = { λ _ e. e ≡ NoRoom };
+
+    fn from(_: NoMemory) -> StartError {
+        StartError::NoMemory
+    }
+}
+
+impl From<ScanError> for StartError {
+    ghost from_gives = { λ why e. e ≡ start_error why };
+
+    fn from(why: ScanError) -> StartError {
+        match why {
+            ScanError::Disk => StartError::Disk,
+            ScanError::NoMemory => StartError::NoMemory,
+        }
+    }
+}
+
+/// Why a change isn't committed.
+#[derive(Clone, Copy, Debug, PartialEq, Eq)]
+pub enum CommitError {
+    /// It is refused. The store and the files are unchanged.
+    Refused(Refusal),
+    /// The disk failed: the files stand for the state before the change or after it. The store is spent.
+    Disk,
+    /// Memory ran out before anything was written. The store is spent.
+    NoMemory,
+}
+
+impl From<NoMemory> for CommitError {
+    ghost from_gives = { λ _ e. e ≡ NoCommit };
+
+    fn from(_: NoMemory) -> CommitError {
+        CommitError::NoMemory
+    }
+}
+
+impl From<JournalError> for CommitError {
+    ghost from_gives = { λ _ e. e ≡ Unwritten };
+
+    fn from(_: JournalError) -> CommitError {
+        CommitError::Disk
+    }
+}

@@ -1,0 +1,85 @@
+//! Makes the changes of records again. A record is asked for its number, its line and its trace; that it stands in a
+//! file doesn't matter here.
+ghost use Rattle.std.specs.Prelude.{◌≡◌, ◌+◌, false, IfOk, MatchOption};
+ghost use Rattle.line_grammar.specs.declared.command.Change.{Change as Seen};
+ghost use Rattle.line_grammar.specs.Spelling.{change_text};
+ghost use Rattle.line_grammar.specs.Spellable.{IsSpellableChange};
+ghost use Rattle.realm_insert.specs.Lines.{IsLet};
+ghost use Rattle.realm_store.specs.Replaying.{Remade, Replayed, IsReplayable};
+
+use grid_base::NoMemory;
+use line_grammar::{Change, Command, LineError, read_line};
+use realm_insert::{Engine, ReplayError, is_let};
+use record_codec::Record;
+use std::alloc::Global;
+use std::thread::Threads;
+
+/// Makes the changes of these records again, and answers how many of them lead on.
+pub(crate) fn replay_all<R: Threads + Sync>(
+    rt: &R,
+    alloc: Global,
+    engine: &mut Engine,
+    records: &[Record],
+) -> Result<usize, NoMemory>
+    requires ready { engine.old.spent ≡ false }
+    ensures { IfOk result (λ count. Replayed engine.old.state records.now count engine.new) }
+{
+    for (i, record) in records.iter().enumerate() {
+        if !replay_one(rt, alloc, engine, record)? {
+            return Ok(i);
+        }
+    }
+    Ok(records.len())
+}
+
+// Makes the change of a record again, and answers whether the record leads on.
+fn replay_one<R: Threads + Sync>(
+    rt: &R,
+    alloc: Global,
+    engine: &mut Engine,
+    record: &Record,
+) -> Result<bool, NoMemory>
+    requires ready { engine.old.spent ≡ false }
+    ensures { IfOk result (λ leads. Remade engine.old.state record.now leads engine.new) }
+{
+    if record.number != engine.changes() + 1 {
+        return Ok(false);
+    }
+    match replayable(alloc, record.line.bytes())? {
+        Some(change) => remake(rt, engine, &change, record),
+        None => Ok(false),
+    }
+}
+
+// Makes this change again by the trace of its record, and answers whether the record leads on.
+fn remake<R: Threads + Sync>(
+    rt: &R,
+    engine: &mut Engine,
+    change: &Change,
+    record: &Record,
+) -> Result<bool, NoMemory>
+    requires ready { engine.old.spent ≡ false }
+    requires number { record.now.number ≡ engine.old.state.changes + 1 }
+    requires of_line { IsReplayable record.now.line change.now }
+    ensures { IfOk result (λ leads. Remade engine.old.state record.now leads engine.new) }
+{
+    match engine.replay(rt, change, record.trace.steps()) {
+        Ok(_) => Ok(true),
+        Err(ReplayError::Refused(_)) => Ok(false),
+        Err(ReplayError::Mismatch { .. }) => Ok(false),
+        Err(ReplayError::NoMemory) => Err(NoMemory),
+    }
+}
+
+// The change of which the line is the text; none where it is the text of none, or of one by an operator.
+fn replayable(alloc: Global, line: &[u8]) -> Result<Option<Change>, NoMemory>
+    ensures { IfOk result (λ found. MatchOption found
+        ((change : Seen) → IsReplayable line.now change → ⊥) (λ change. IsReplayable line.now change)) }
+{
+    match read_line(alloc, line) {
+        Ok(Command::Change(change)) => Ok(if is_let(&change) { None } else { Some(change) }),
+        Ok(_) => Ok(None),
+        Err(LineError::Bad { .. }) => Ok(None),
+        Err(LineError::NoMemory) => Err(NoMemory),
+    }
+}

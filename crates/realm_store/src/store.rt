@@ -1,0 +1,206 @@
+//! The store: the engine, and the files that keep its state.
+ghost use Rattle.std.specs.Prelude.{◌≡◌, ◌⊎◌, ◌↔◌, ◌≤◌, ◌<◌, ◌^◌, ℕ, List, true, false, length, Err, IfOk, OnOk, IsErrOf};
+ghost use Rattle.outside_world.specs.Counts.{Rose};
+ghost use Rattle.outside_world.specs.GoesOn.{GoesOn};
+ghost use Rattle.line_grammar.specs.Spelling.{change_text};
+ghost use Rattle.line_grammar.specs.Spellable.{IsSpellableChange};
+ghost use Rattle.realm_insert.specs.Lines.{IsLet};
+ghost use Rattle.realm_insert.specs.declared.refusal.Refusal.{Refusal as Word};
+ghost use Rattle.realm_insert.specs.State.{State};
+ghost use Rattle.realm_store.specs.Leading.{Leads};
+ghost use Rattle.realm_store.specs.Keeping.{Kept, AllRest, with_state};
+ghost use Rattle.realm_store.specs.Replies.{ok_reply};
+ghost use Rattle.realm_store.specs.Making.{next_gate, record_of, kept_behind, IsMade, IsFull, IsRefusedFor};
+ghost use Rattle.realm_store.specs.Committing.{IsWritten, Keeps};
+ghost use Rattle.realm_store.specs.Starting.{Started};
+
+use crate::committing::{make_ready, next_gate, write_behind};
+use crate::error::{CommitError, StartError};
+use crate::opening::{open_bytes, read_synced};
+use grid_base::{NoMemory, Reply};
+use line_grammar::Change;
+use outside_world::Outside;
+use realm_insert::{Applied, ChangeError, Engine, Refusal};
+use std::alloc::Global;
+use std::marker::Model;
+use std::thread::Threads;
+
+// No record is begun at this place, 2^61, nor behind it.
+const NO_PLACE: u64 = 2_305_843_009_213_693_952;
+
+/// The state, and where its next record will stand in file A. Between two calls the file stands for the state.
+#[derive(Drop)]
+pub struct Store {
+    alloc: Global,
+    engine: Engine,
+    next: Option<u64>,
+    has_gate: bool,
+    spent: bool,
+}
+
+impl Model for Store {
+    ghost use Rattle.std.specs.Prelude.{◌≡◌, false};
+    ghost use Rattle.realm_store.specs.Keeping.{SpendableKept};
+
+    ghost Value = { SpendableKept };
+
+    ghost view = { λ s. record {
+      kept = record { state = s.engine.state; next = s.next; has_gate = s.has_gate };
+      spent = s.spent;
+    } };
+
+    ghost invariant = { λ s. s.spent ≡ false → s.engine.spent ≡ false };
+}
+
+impl Store {
+    /// Opens the files and reads what they stand for. Nothing is written.
+    pub fn start<R: Threads + Sync, W: Outside>(
+        rt: &R,
+        alloc: Global,
+        world: &mut W,
+    ) -> Result<Store, StartError>
+        ensures ready { IfOk result (λ store. store.spent ≡ false) }
+        ensures told { W.tells world.new → Started (W.view world.old) (W.view world.new) result }
+        ensures rest { IfOk result (λ store. W.tells world.new → AllRest store.kept (W.view world.new)) }
+        ensures disk_fault { IsErrOf result StartError.Disk
+            → Rose (W.disk_faults world.old) (W.disk_faults world.new) }
+        ensures goes_on { GoesOn ⟦<W as Outside>⟧ world.old world.new }
+    {
+        let bytes = read_synced(alloc, world)?;
+        open_bytes(rt, alloc, &bytes)
+    }
+
+    // A store that isn't spent.
+    pub(crate) fn of(alloc: Global, engine: Engine, next: Option<u64>, has_gate: bool) -> Store
+        requires ready { engine.spent ≡ false }
+        ensures kept { result.kept ≡ record { state = engine.state; next = next; has_gate = has_gate } }
+        ensures ready { result.spent ≡ false }
+    {
+        Store {
+            alloc,
+            engine,
+            next,
+            has_gate,
+            spent: false,
+        }
+    }
+
+    /// The state.
+    pub fn state(&self) -> &Engine
+        requires ready { self.now.spent ≡ false }
+        ensures state { result.now.state ≡ self.now.kept.state }
+        ensures ready { result.now.spent ≡ false }
+    {
+        &self.engine
+    }
+
+    /// Whether a fault or want of memory ended a change, so that the store can't be used any more.
+    pub fn is_spent(&self) -> bool
+        ensures { result ≡ self.now.spent }
+    {
+        self.spent
+    }
+
+    /// Makes a change, and answers its reply. After `Ok` the record of the change is stable.
+    pub fn commit<R: Threads + Sync, W: Outside>(
+        &mut self,
+        rt: &R,
+        world: &mut W,
+        c: &Change,
+    ) -> Result<Reply, CommitError>
+        requires ready { self.old.spent ≡ false }
+        requires spellable { IsSpellableChange c.now }
+        requires not_let { IsLet c.now → ⊥ }
+        requires short { length (change_text c.now) ≤ 2 ^ 20 }
+        requires rest { W.tells world.old → AllRest self.old.kept (W.view world.old) }
+        ensures made { IfOk result (λ reply. IsMade c.now self.old.kept reply self.new.kept) }
+        ensures refused { (word : Word) → result ≡ Err (CommitError.Refused word)
+            → IsRefusedFor c.now self.old.kept word × (self.new ≡ self.old) × (world.new ≡ world.old) }
+        ensures untouched { result ≡ Err CommitError.NoMemory → world.new ≡ world.old }
+        ensures spent { (self.new.spent ≡ true)
+            ↔ ((result ≡ Err CommitError.Disk) ⊎ (result ≡ Err CommitError.NoMemory)) }
+        ensures disk_fault { IsErrOf result CommitError.Disk
+            → Rose (W.disk_faults world.old) (W.disk_faults world.new) }
+        ensures rest { OnOk result (W.tells world.new → AllRest self.new.kept (W.view world.new)) }
+        ensures written { OnOk result (W.tells world.new
+            → IsWritten (W.view world.old) (W.view world.new) self.old.kept self.new.kept) }
+        ensures cut_off { IsErrOf result CommitError.Disk → W.tells world.new
+            → (reply : List ℕ) × (after : Kept) × IsMade c.now self.old.kept reply after
+            × IsWritten (W.view world.old) (W.view world.new) self.old.kept after }
+        ensures goes_on { GoesOn ⟦<W as Outside>⟧ world.old world.new }
+    {
+        if next_gate(self.next) >= NO_PLACE {
+            return Err(self.refuse_full(rt, c));
+        }
+        match self.engine.change(rt, c) {
+            Ok(applied) => self.keep(world, c, applied),
+            Err(ChangeError::Refused(word)) => Err(CommitError::Refused(word)),
+            Err(ChangeError::NoMemory) => {
+                self.spent = true;
+                Err(CommitError::NoMemory)
+            }
+        }
+    }
+
+    // Why a change isn't made, where its record would stand too far.
+    fn refuse_full<R: Threads + Sync>(&mut self, rt: &R, c: &Change) -> CommitError
+        requires ready { self.old.spent ≡ false }
+        requires spellable { IsSpellableChange c.now }
+        requires not_let { IsLet c.now → ⊥ }
+        requires full { IsFull self.old.kept }
+        ensures refused { (word : Word) → result ≡ CommitError.Refused word
+            → IsRefusedFor c.now self.old.kept word × (self.new ≡ self.old) }
+        ensures not_disk { result ≡ CommitError.Disk → ⊥ }
+        ensures spent { (self.new.spent ≡ true) ↔ (result ≡ CommitError.NoMemory) }
+    {
+        match self.engine.refusal(rt, c) {
+            Ok(Some(word)) => CommitError::Refused(word),
+            Ok(None) => CommitError::Refused(Refusal::Full),
+            Err(NoMemory) => {
+                self.spent = true;
+                CommitError::NoMemory
+            }
+        }
+    }
+
+    // Writes the record of a change that the engine has made.
+    fn keep<W: Outside>(
+        &mut self,
+        world: &mut W,
+        c: &Change,
+        applied: Applied,
+    ) -> Result<Reply, CommitError>
+        requires ready { self.old.spent ≡ false }
+        requires from_one { 0 < self.old.kept.state.changes }
+        requires spellable { IsSpellableChange c.now }
+        requires short { length (change_text c.now) ≤ 2 ^ 20 }
+        requires room { next_gate self.old.kept.next < 2 ^ 61 }
+        requires rest { (before : State)
+            × (W.tells world.old → AllRest (with_state before self.old.kept) (W.view world.old)) }
+        ensures kept { OnOk result (self.new.kept ≡ kept_behind self.old.kept
+            (record_of c.now applied.trace self.old.kept.state.changes)) }
+        ensures reply { IfOk result (λ reply. reply ≡ ok_reply self.old.kept.state.changes
+            (length applied.trace) applied.first applied.added) }
+        ensures not_refused { (word : Word) → result ≡ Err (CommitError.Refused word) → ⊥ }
+        ensures untouched { result ≡ Err CommitError.NoMemory → world.new ≡ world.old }
+        ensures spent { (self.new.spent ≡ true)
+            ↔ ((result ≡ Err CommitError.Disk) ⊎ (result ≡ Err CommitError.NoMemory)) }
+        ensures disk_fault { IsErrOf result CommitError.Disk
+            → Rose (W.disk_faults world.old) (W.disk_faults world.new) }
+        ensures told { W.tells world.new → (before : State)
+            → AllRest (with_state before self.old.kept) (W.view world.old)
+            → Leads before (record_of c.now applied.trace self.old.kept.state.changes) self.old.kept.state
+            → Keeps (W.view world.old) (W.view world.new) (with_state before self.old.kept)
+            (kept_behind self.old.kept (record_of c.now applied.trace self.old.kept.state.changes)) result }
+        ensures goes_on { GoesOn ⟦<W as Outside>⟧ world.old world.new }
+    {
+        self.spent = true;
+        let number = self.engine.changes();
+        let ready = make_ready(self.alloc, self.next, self.has_gate, number, c, applied)?;
+        let next = write_behind(world, &ready.gate, &ready.record)?;
+        self.next = Some(next);
+        self.has_gate = true;
+        self.spent = false;
+        Ok(ready.reply)
+    }
+}

@@ -1,0 +1,36 @@
+use Rattle.std.proofs.Common.{◌≤◌, length, inr, subst, sym, ap, Err}
+use Rattle.rose_shell.proofs.Openings.{begun_by}
+use Rattle.rose_shell.proofs.Rises.{rose_behind, unstarted}
+use Rattle.realm_store.proofs.OneReading.{one_reading}
+use Rattle.rose_shell.proofs.running.start_and_serve.Goals as goal
+
+-- a store that serves tells no damage
+pub returns-in-Ok-clause-damaged : goal.returns-in-Ok-clause-damaged
+returns-in-Ok-clause-damaged g c = λ d is tells. absurd (c.serve.ensures.never_damaged d is)
+
+-- the session goes on from what file A was read as
+pub returns-in-Ok-clause-told : goal.returns-in-Ok-clause-told
+returns-in-Ok-clause-told g c = λ tells.
+    let then = c.serve.ensures.goes_on.tells tells in
+    let first = c.start.ensures.goes_on.tells then in
+    let started = c.in-Ok.ensures.told then in
+    inr (begun_by (λ t m early may. g.met.W.Outside.counts_now _ t m first early may) started.asks c.in-Ok.ensures.ready
+    (started.opened (λ is. cc)) started.stands.0 started.stands.1 (c.serve.ensures.told tells))
+
+-- where no count rises from the call on, none rises from the start on
+pub returns-in-Ok-clause-complete : goal.returns-in-Ok-clause-complete
+returns-in-Ok-clause-complete g c = λ tells source sink disk within state stands.
+    let went = c.start.ensures.goes_on in
+    let started = c.in-Ok.ensures.told (c.serve.ensures.goes_on.tells tells) in
+    c.serve.ensures.complete tells
+    (λ rose. source (rose_behind went.source_faults rose))
+    (λ rose. sink (rose_behind went.sink_faults rose))
+    (λ rose. disk (rose_behind went.disk_faults rose))
+    (subst (λ l. length l ≤ 1099511627776) (sym started.asks.takes.left) within)
+
+-- the disk didn't fail, and the file isn't damaged
+pub returns-in-Err-clause-complete : goal.returns-in-Err-clause-complete
+returns-in-Err-clause-complete g c = λ tells source sink disk within state stands.
+    unstarted c.in-Err.error c.status_of.ensures
+    (λ is. disk (c.in-Err.ensures.disk_fault (ap Err is)))
+    (λ d is. one_reading d _ state ((c.in-Err.ensures.told tells).damaged d (ap Err is)) stands)

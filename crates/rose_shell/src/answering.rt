@@ -1,0 +1,132 @@
+//! The store at the desk that the loop serves: what it answers a line. A change is stable in its file
+//! before its reply is there to be given. Want of memory within a change, and a disk fault, leave the store
+//! spent.
+ghost use Rattle.std.specs.Prelude.{◌≡◌, ◌≢◌, ◌≤◌, length, false, Err, IfOk, IsErrOf, MatchResult};
+ghost use Rattle.outside_world.specs.Counts.{Rose};
+ghost use Rattle.outside_world.specs.GoesOn.{GoesOn};
+ghost use Rattle.line_grammar.specs.Spelling.{text_of, change_text};
+ghost use Rattle.line_grammar.specs.Spellable.{IsSpellable, IsSpellableChange};
+ghost use Rattle.realm_store.specs.Keeping.{AllRest};
+ghost use Rattle.rose_shell.specs.Lines.{longest_line};
+ghost use Rattle.rose_shell.specs.Answers.{StoreAnswers, Unspent, AnswersCommand, AnswersChange};
+ghost use Rattle.rose_shell.specs.Desk.{Answered};
+ghost use Rattle.rose_shell.specs.Running.{StoreTerms};
+
+use crate::desk::{Desk, Stop};
+use crate::querying::answer_query;
+use crate::refusals::{refuse, refuse_text, refuse_unbuilt};
+use grid_base::{NoMemory, Reply};
+use line_grammar::{Change, Command, LineError, read_line};
+use outside_world::Outside;
+use realm_insert::is_let;
+use realm_store::{CommitError, Store};
+use std::alloc::Global;
+use std::thread::Threads;
+
+impl<W: Outside> Desk<W> for Store {
+    ghost ready = { λ s. s.spent ≡ false };
+
+    ghost terms = { StoreTerms };
+
+    fn answer<R: Threads + Sync>(
+        &mut self,
+        rt: &R,
+        alloc: Global,
+        world: &mut W,
+        line: &[u8],
+    ) -> Result<Reply, Stop> {
+        answer_line(rt, alloc, self, world, line)
+    }
+}
+
+// Answers a line.
+fn answer_line<R: Threads + Sync, W: Outside>(
+    rt: &R,
+    alloc: Global,
+    store: &mut Store,
+    world: &mut W,
+    line: &[u8],
+) -> Result<Reply, Stop>
+    requires ready { store.old.spent ≡ false }
+    requires short { length line.now ≤ longest_line }
+    requires rest { W.tells world.old → AllRest store.old.kept (W.view world.old) }
+    ensures answer { IfOk result (λ reply. StoreAnswers store.old line.now reply store.new) }
+    ensures disk_fault { IsErrOf result Stop.Disk
+        → Rose (W.disk_faults world.old) (W.disk_faults world.new) }
+    ensures goes_on { GoesOn ⟦<W as Outside>⟧ world.old world.new }
+    ensures told { W.tells world.new → Answered StoreTerms (W.view world.old) (W.view world.new)
+        store.old store.new line.now result }
+{
+    match read_line(alloc, line) {
+        Ok(command) => execute(rt, alloc, store, world, &command),
+        Err(LineError::Bad { at }) => or_stop(refuse_text(alloc, at)),
+        Err(LineError::NoMemory) => Err(Stop::NoMemory),
+    }
+}
+
+// Answers a command.
+fn execute<R: Threads + Sync, W: Outside>(
+    rt: &R,
+    alloc: Global,
+    store: &mut Store,
+    world: &mut W,
+    command: &Command,
+) -> Result<Reply, Stop>
+    requires ready { store.old.spent ≡ false }
+    requires spellable { IsSpellable command.now }
+    requires short { length (text_of command.now) ≤ longest_line }
+    requires rest { W.tells world.old → AllRest store.old.kept (W.view world.old) }
+    ensures answer { IfOk result (λ reply. Unspent (AnswersCommand command.now) store.old reply store.new) }
+    ensures disk_fault { IsErrOf result Stop.Disk
+        → Rose (W.disk_faults world.old) (W.disk_faults world.new) }
+    ensures goes_on { GoesOn ⟦<W as Outside>⟧ world.old world.new }
+    ensures told { W.tells world.new → Answered StoreTerms (W.view world.old) (W.view world.new)
+        store.old store.new (text_of command.now) result }
+{
+    match command {
+        Command::Change(change) => answer_change(rt, alloc, store, world, change),
+        Command::Query(query) => or_stop(answer_query(alloc, store.state(), query)),
+        Command::Batch(_) | Command::Checkpoint => or_stop(refuse_unbuilt(alloc)),
+    }
+}
+
+// Makes a change, or says why not.
+fn answer_change<R: Threads + Sync, W: Outside>(
+    rt: &R,
+    alloc: Global,
+    store: &mut Store,
+    world: &mut W,
+    change: &Change,
+) -> Result<Reply, Stop>
+    requires ready { store.old.spent ≡ false }
+    requires spellable { IsSpellableChange change.now }
+    requires short { length (change_text change.now) ≤ longest_line }
+    requires rest { W.tells world.old → AllRest store.old.kept (W.view world.old) }
+    ensures answer { IfOk result (λ reply. Unspent (AnswersChange change.now) store.old reply store.new) }
+    ensures disk_fault { IsErrOf result Stop.Disk
+        → Rose (W.disk_faults world.old) (W.disk_faults world.new) }
+    ensures goes_on { GoesOn ⟦<W as Outside>⟧ world.old world.new }
+    ensures told { W.tells world.new → Answered StoreTerms (W.view world.old) (W.view world.new)
+        store.old store.new (change_text change.now) result }
+{
+    if is_let(change) {
+        return or_stop(refuse_unbuilt(alloc));
+    }
+    match store.commit(rt, world, change) {
+        Ok(reply) => Ok(reply),
+        Err(CommitError::Refused(refusal)) => or_stop(refuse(alloc, refusal)),
+        Err(CommitError::Disk) => Err(Stop::Disk),
+        Err(CommitError::NoMemory) => Err(Stop::NoMemory),
+    }
+}
+
+// The reply, or that there is no memory for it.
+fn or_stop(done: Result<Reply, NoMemory>) -> Result<Reply, Stop>
+    ensures same { MatchResult done (λ reply. result ≡ Ok reply) (λ _. result ≡ Err Stop.NoMemory) }
+    ensures never_disk { result ≢ Err Stop.Disk }
+{
+    match done {
+        Ok(reply) => Ok(reply),
+        Err(NoMemory) => Err(Stop::NoMemory),
+    }
+}
