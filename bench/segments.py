@@ -1,6 +1,7 @@
 #!/usr/bin/env python3
 """Times `rose run` on generated segments. See README.md."""
 import argparse
+import os
 import re
 import resource
 import shutil
@@ -69,15 +70,16 @@ def write_input(segments):
     return file
 
 
-def run(program, file, times):
+def run(program, file, times, folder):
     """The output of the program on the file, its least processor seconds of so many runs, and its greatest memory in bytes."""
     least, memory, output = None, 0, b""
     for _ in range(times):
-        with open(file.name, "rb") as source, tempfile.NamedTemporaryFile("r") as told:
+        with (open(file.name, "rb") as source, tempfile.NamedTemporaryFile("r") as told,
+              tempfile.TemporaryDirectory(dir=folder) as empty):
             # A process that starts others counts its own memory in, so a small one stands between.
             command = ["/usr/bin/time", "-o", told.name, "-f", "%M", program, "run"]
             before = resource.getrusage(resource.RUSAGE_CHILDREN)
-            output = subprocess.run(command, stdin=source, stdout=subprocess.PIPE, check=True).stdout
+            output = subprocess.run(command, cwd=empty, stdin=source, stdout=subprocess.PIPE, check=True).stdout
             after = resource.getrusage(resource.RUSAGE_CHILDREN)
             seconds = after.ru_utime - before.ru_utime + after.ru_stime - before.ru_stime
             least = seconds if least is None else min(least, seconds)
@@ -85,20 +87,20 @@ def run(program, file, times):
     return output, least, memory
 
 
-def instructions(program, file):
+def instructions(program, file, folder):
     """How many instructions the run takes, counted by valgrind; none where it isn't there."""
     if shutil.which("valgrind") is None:
         return None
     command = ["valgrind", "--tool=callgrind", "--callgrind-out-file=/dev/null", program, "run"]
-    with open(file.name, "rb") as source:
-        done = subprocess.run(command, stdin=source, stdout=subprocess.DEVNULL, stderr=subprocess.PIPE, check=True)
+    with open(file.name, "rb") as source, tempfile.TemporaryDirectory(dir=folder) as empty:
+        done = subprocess.run(command, cwd=empty, stdin=source, stdout=subprocess.DEVNULL, stderr=subprocess.PIPE, check=True)
     found = re.search(rb"Collected : (\d+)", done.stderr)
     return int(found.group(1)) if found else None
 
 
 def measure(program, name, file, before, chosen):
     """Prints a row, and answers its microseconds per piece, with which the next row is compared."""
-    output, seconds, memory = run(program, file, chosen.times)
+    output, seconds, memory = run(program, file, chosen.times, chosen.folder)
     pieces = int(re.search(rb"^realm \d+ (\d+)$", output, re.M).group(1))
     drawn = len(re.findall(rb"^ok ", output, re.M))
     steps = sum(int(n) for n in re.findall(rb"^ok \d+ steps (\d+) ", output, re.M))
@@ -108,7 +110,7 @@ def measure(program, name, file, before, chosen):
         name, drawn, pieces, steps, seconds, each, growth, memory / 1e6, memory / pieces,
     )
     if chosen.instructions:
-        counted = instructions(program, file)
+        counted = instructions(program, file, chosen.folder)
         row += "%12.0f" % (counted / pieces) if counted else "           -"
     print(row, flush=True)
     return each
@@ -122,8 +124,9 @@ def main():
     reader.add_argument("--fields", nargs="+", default=[name for name, _, _ in FIELDS], help="which fields")
     reader.add_argument("--times", type=int, default=3, help="how often each is run; the best time counts")
     reader.add_argument("--instructions", action="store_true", help="count instructions too, which is slow")
+    reader.add_argument("--folder", help="where the runs keep their files; best in memory, since each change waits for the disk")
     chosen = reader.parse_args()
-    for program in chosen.programs:
+    for program in map(os.path.abspath, chosen.programs):
         print(program)
         print("field   segments   pieces    steps   seconds  us/piece  growth      MB  B/piece")
         for name, field, counts in FIELDS:
