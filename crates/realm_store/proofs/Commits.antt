@@ -1,5 +1,5 @@
 -- This file shows what a commit makes of what is kept, and what it leaves of file A.
-use Rattle.std.proofs.Common.{◌≡◌, ◌≢◌, ℕ, ◌+◌, Bool, List, length, refl, sym, ◌∙◌, ap, subst}
+use Rattle.std.proofs.Common.{◌≡◌, ◌≢◌, ◌<◌, ◌^◌, ℕ, ◌+◌, Bool, List, length, refl, sym, ◌∙◌, ap, subst}
 use Rattle.std.specs.Prelude.{Result, Ok, Err, OnOk, IfOk, IsErr, IsErrOf}
 use Rattle.outside_world.specs.View.{View}
 use Rattle.grid_base.specs.declared.kinds.Step.{Step}
@@ -72,21 +72,27 @@ module _ {start : Kept} {spent : Bool} {self : SpendableKept} (is : record { kep
   }
 
   -- the change is made of what is kept
-  made_by : (reply : List ℕ) → reply ≡ ok_reply state.changes (length steps) start.state.next_id (length (drawn_between c))
+  made_by : next_gate start.next < 2 ^ 61 → (reply : List ℕ)
+      → reply ≡ ok_reply state.changes (length steps) start.state.next_id (length (drawn_between c))
       → IsMade c self.kept reply after
-  made_by reply says = subst (λ (s : SpendableKept). IsMade c s.kept reply after) is (record {
+  made_by room reply says = subst (λ (s : SpendableKept). IsMade c s.kept reply after) is (record {
     steps = steps;
-    makes = record { next = next; place = refl; has_gate = refl };
+    makes = record {
+      next = next;
+      place = refl;
+      has_gate = refl;
+      room = room;
+    };
     reply_is = says;
   })
 
-  pub made : (new : Kept) {first added : ℕ} (result : Result (List ℕ) CommitError) → OnOk result (new ≡ after)
+  pub made : next_gate start.next < 2 ^ 61 → (new : Kept) {first added : ℕ} (result : Result (List ℕ) CommitError) → OnOk result (new ≡ after)
       → (first ≡ start.state.next_id) × (added ≡ length (drawn_between c))
       → IfOk result (λ reply. reply ≡ ok_reply state.changes (length steps) first added)
       → IfOk result (λ reply. IsMade c self.kept reply new)
-  made new (Ok reply) kept numbers says = subst (λ k. IsMade c self.kept reply k) (sym kept)
-      (made_by reply (says ∙ (λ i. ok_reply state.changes (length steps) (numbers.0 i) (numbers.1 i))))
-  made new (Err e) kept numbers says = tt
+  made room new (Ok reply) kept numbers says = subst (λ k. IsMade c self.kept reply k) (sym kept)
+      (made_by room reply (says ∙ (λ i. ok_reply state.changes (length steps) (numbers.0 i) (numbers.1 i))))
+  made room new (Err e) kept numbers says = tt
 
   module _ (spellable : IsSpellableChange c) (not_let : IsLet c → ⊥) {Tells : Type 0} (v w : View) (rest : Tells → AllRest self.kept v)
       (result : Result (List ℕ) CommitError)
@@ -114,8 +120,8 @@ module _ {start : Kept} {spent : Bool} {self : SpendableKept} (is : record { kep
         on_ok_both (Err e) same keeps = tt
 
     -- after a fault of the disk it is not known whether the record stands
-    pub cut_off : IsErrOf result Disk → Tells
+    pub cut_off : next_gate start.next < 2 ^ 61 → IsErrOf result Disk → Tells
         → (reply : List ℕ) × (k : Kept) × IsMade c self.kept reply k × IsWritten v w self.kept k
-    cut_off failed t =
+    cut_off room failed t =
         let reply = ok_reply state.changes (length steps) start.state.next_id (length (drawn_between c)) in
-        (reply, after, made_by reply refl, (kept_by t).written (disk_not_memory result failed))
+        (reply, after, made_by room reply refl, (kept_by t).written (disk_not_memory result failed))

@@ -1,5 +1,5 @@
 -- What a change makes of what is kept of the files, and what it is answered.
-use Rattle.std.specs.Prelude.{◌≡◌, ◌⊎◌, ◌+◌, ◌≤◌, ◌^◌, ℕ, true, List, length, Option, Some, None}
+use Rattle.std.specs.Prelude.{◌≡◌, ◌⊎◌, ◌+◌, ◌<◌, ◌≤◌, ◌^◌, ℕ, true, List, length, Option, Some, None}
 use Rattle.grid_base.specs.declared.kinds.Step.{Step}
 use Rattle.line_grammar.specs.declared.command.Change.{Change}
 use Rattle.line_grammar.specs.Spelling.{change_text}
@@ -36,6 +36,8 @@ pub record Makes (c : Change) (steps : List Step) (old new : Kept) : Type 0 wher
   pub next : Next old.state c steps new.state
   pub place : new.next ≡ Some (next_gate old.next + 1 + length (text_of (record_of c steps new.state.changes)))
   pub has_gate : new.has_gate ≡ true
+  -- the file had room for it
+  pub room : next_gate old.next < 2 ^ 61
 
 -- the change is made by some steps, and gets this reply
 pub record IsMade (c : Change) (old : Kept) (reply : List ℕ) (new : Kept) : Type 0 where

@@ -1,4 +1,4 @@
-use Rattle.std.proofs.Common.{◌≡◌, ◌∙◌, inl, refl, sym, ap, subst, Err}
+use Rattle.std.proofs.Common.{◌≡◌, ◌∙◌, inl, refl, sym, ap, subst, Err, arith}
 use Rattle.realm_insert.specs.State.{SpendableState}
 use Rattle.realm_insert.specs.Refusals.{IsRefusedBy}
 use Rattle.realm_insert.specs.declared.refusal.Refusal.{Refusal as Word}
@@ -22,10 +22,11 @@ keep-requires-clause-rest g c = (
   (λ t. subst (λ (s : SpendableKept). AllRest s.kept (g.W.Outside.view c.args.world.now)) (sym c.self.view_is) (c.requires.rest t)),
 )
 
--- the steps are those of the engine
+-- the steps are those of the engine, and the next gate isn't too far
 pub returns-in-Ok-clause-made : goal.returns-in-Ok-clause-made
 returns-in-Ok-clause-made g c =
-    made c.self.view_is c.in-Ok.ensures.next c.keep.new.self.kept c.keep.result c.keep.ensures.kept c.in-Ok.ensures.numbers
+    made c.self.view_is c.in-Ok.ensures.next (omega (arith, c.next_gate.ensures, c.if-next_gate-ge-NO_PLACE.false))
+    c.keep.new.self.kept c.keep.result c.keep.ensures.kept c.in-Ok.ensures.numbers
     c.keep.ensures.reply
 
 -- and its record leads on from the state before
@@ -45,6 +46,7 @@ pub returns-in-Ok-clause-cut_off : goal.returns-in-Ok-clause-cut_off
 returns-in-Ok-clause-cut_off g c =
     cut_off c.self.view_is c.in-Ok.ensures.next c.requires.spellable c.requires.not_let (g.W.Outside.view c.args.world.now)
     (g.W.Outside.view c.keep.new.world) (λ t. c.requires.rest (c.keep.ensures.goes_on.tells t)) c.keep.result c.keep.ensures.told
+    (omega (arith, c.next_gate.ensures, c.if-next_gate-ge-NO_PLACE.false))
 
 -- the engine refuses the change, and is as it was
 pub returns-in-Err-Refused-clause-refused : goal.returns-in-Err-Refused-clause-refused
