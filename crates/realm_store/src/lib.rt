@@ -11,7 +11,11 @@ mod laws;
 mod opening;
 mod replaying;
 mod replies;
+#[cfg(test)]
+mod start_tests;
 mod store;
+#[cfg(test)]
+mod tests;
 mod writing;
 
 pub use damage::Damage;

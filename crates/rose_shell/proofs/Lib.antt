@@ -2,6 +2,8 @@
 mod Traces
 -- what the store answers to a change is an answer to its line
 mod ChangeAnswers
+-- a value that has a geometry is shown by it
+mod ValueAnswers
 -- a store keeps its terms at the desk
 mod Stores
 -- an answer is one step
@@ -36,5 +38,3 @@ mod Sessions
 mod Openings
 -- how a run ends that counts no fault
 mod Rises
--- lines that are given after nothing but questions of the files
-mod Tellings

@@ -2,7 +2,7 @@
 pub mod Status
 -- bytes, cut into lines
 pub mod Lines
--- the reply to a line that is no command's text
+-- the bytes of each reply
 pub mod Replies
 -- what each line is answered
 pub mod Answers
@@ -16,7 +16,5 @@ pub mod Session
 pub mod Prefixes
 -- a part of a run
 pub mod Loop
--- what is promised of the word `run`, and of `serve`
+-- what `run` and `serve` promise
 pub mod Running
--- what is promised of each command
-pub mod Telling

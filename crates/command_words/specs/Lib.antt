@@ -1,2 +1,0 @@
--- which words are a command
-pub mod Written

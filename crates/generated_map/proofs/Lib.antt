@@ -1,2 +1,0 @@
--- one more change of a run
-pub mod MadeRuns

@@ -1,2 +1,0 @@
--- what every operator makes of values
-pub mod Results

@@ -1,2 +1,0 @@
--- outcomes that are all good
-pub mod Gathered

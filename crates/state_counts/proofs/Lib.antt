@@ -1,2 +1,0 @@
--- how many originals have an id below a number
-pub mod IdsBelow

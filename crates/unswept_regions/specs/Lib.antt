@@ -1,2 +1,0 @@
--- what it means that a region sweeps across no grid point
-pub mod Unswept
