@@ -24,7 +24,7 @@ one_more true false n k h = (k, omega arith)
 one_more false true n k h = (k, omega arith)
 one_more false false n k h = (k, omega arith)
 
-halves : {X : Type 0} (f : X → Bool) (xs : List X) → (k : ℕ) × (count_by f xs ≡ 2 * k + cond (par f xs) 1 0)
+pub halves : {X : Type 0} (f : X → Bool) (xs : List X) → (k : ℕ) × (count_by f xs ≡ 2 * k + cond (par f xs) 1 0)
 halves f [] = (0, omega arith)
 halves f (x ∷ xs) =
     let h = halves f xs in
@@ -64,7 +64,7 @@ is_point-turned : (v w : GridPoint) → is_point v w ≡ is_point w v
 is_point-turned v w = grind (arith, nat_tests)
 
 -- s ends at v where an odd number of its ends is v
-end_is_odd : (v : GridPoint) (s : GridSegment) → IsBefore s.a s.b → is_end v s ≡ ends_with (is_point v) s
+pub end_is_odd : (v : GridPoint) (s : GridSegment) → IsBefore s.a s.b → is_end v s ≡ ends_with (is_point v) s
 end_is_odd v s o =
     ap₂ (λ a b. a || b) (is_point-turned s.a v) (is_point-turned s.b v) ∙ or_is_xor _ _ (two_ends v s o)
 

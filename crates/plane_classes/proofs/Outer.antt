@@ -21,7 +21,7 @@ use Rattle.plane_classes.proofs.AlongSegment.{some_weight, blend_less}
 not_both : (a b : ℤ) → a <ℤ b → b ≤ℤ a → ⊥
 not_both a b h k = omega (arith, ints)
 
-left_is_free : (B : List GridSegment) (p : Place) → IsLeftOfAll B p → IsFree B p
+pub left_is_free : (B : List GridSegment) (p : Place) → IsLeftOfAll B p → IsFree B p
 left_is_free B p left = record {
   real = left.real;
   apart = λ s there held. not_both p.x (pos (s.a.x * p.w)) (left.left s there) held.across.from;

@@ -236,7 +236,7 @@ sheared_differ n s q B hn f m o l = by_bool (is_right (side_at s q)) refl
     by_bool true r = by_side n s q hn le c r
     by_bool false r = by_order o r
 
-par_map : (n : ℕ) (f : GridSegment → Bool) (B : List GridSegment) → par f (map (sheared n) B) ≡ par (λ s. f (sheared n s)) B
+pub par_map : (n : ℕ) (f : GridSegment → Bool) (B : List GridSegment) → par f (map (sheared n) B) ≡ par (λ s. f (sheared n s)) B
 par_map n f [] = refl
 par_map n f (s ∷ B) = ap (λ (z : Bool). xor (f (sheared n s)) z) (par_map n f B)
 

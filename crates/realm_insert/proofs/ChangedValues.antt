@@ -10,14 +10,14 @@ use Rattle.grid_base.specs.Point.{GridPoint, is_point}
 use Rattle.grid_base.specs.Segment.{GridSegment}
 use Rattle.grid_base.specs.Drawing.{Drawing}
 use Rattle.line_grammar.specs.declared.command.Change.{Change}
-use Rattle.line_grammar.specs.declared.command.Change.TheVariants.{Point, Unpoint, Segment, Points}
-use Rattle.line_grammar.specs.declared.command.Change.TheVariants.{Lines, Regions, Let, Drop, Delete}
+use Rattle.line_grammar.specs.declared.command.Change.TheVariants.{Unpoint, Delete}
 use Rattle.realm_drawing.specs.Changed.{without_id}
 use Rattle.value_table.specs.Table.{NamedValues}
 use Rattle.value_table.specs.Value.{points_among, names_id, names_point}
 use Rattle.value_table.specs.declared.value.Value.{Value}
 use Rattle.realm_insert.specs.Changes.{IsChangedTo, placed_all}
-use Rattle.realm_insert.specs.Lines.{grid_point, drawn_by}
+use Rattle.realm_insert.specs.Figures.{Figure}
+use Rattle.realm_insert.specs.Lines.{grid_point}
 use Rattle.realm_insert.specs.Refusals.{TakesWhatIsUsed}
 use Rattle.realm_insert.specs.Values.{AreValuesOf}
 use Rattle.realm_insert.proofs.PreparedChanges.{placed_points}
@@ -68,16 +68,17 @@ module _ (d : Drawing) (first : ℕ) (changed : Drawing) (values : NamedValues) 
       )
 
   -- what is used doesn't go
-  pub values_changed : (c : Change) → (TakesWhatIsUsed c values → ⊥) → IsChangedTo c d first changed → AreValuesOf changed values
-  values_changed (Delete id) unused is = λ k entry within.
+  pub values_changed : (c : Change) (figure : Figure) → (TakesWhatIsUsed c values → ⊥) → IsChangedTo c figure d first changed
+      → AreValuesOf changed values
+  values_changed (Delete id) figure unused is = λ k entry within.
       let was = fit k entry within in
       let v = (get_or values k entry).1 in
       let unnamed = unmapped (names_id id) values (none_counted (names_id id) (values_of values) unused) in (
         was.0,
-        has_moved (without_id d id) changed v.kind v.parts (sym is.originals) (λ p there explicit. (is.points p).1 (inr explicit))
+        has_moved (without_id d id) changed v.kind v.parts (sym is.originals) (λ p there explicit. (is.points p).1 explicit)
             (has_removed d id v.kind v.parts (unnamed k entry within) was.1),
       )
-  values_changed (Unpoint p) unused is = λ k entry within.
+  values_changed (Unpoint p) figure unused is = λ k entry within.
       let was = fit k entry within in
       let v = (get_or values k entry).1 in
       let unnamed = unmapped (names_point (grid_point p)) values
@@ -93,13 +94,4 @@ module _ (d : Drawing) (first : ℕ) (changed : Drawing) (values : NamedValues) 
             ))
             was.1,
       )
-  values_changed (Point p) unused is = fit_placed [] is.originals (λ q explicit. (is.points q).1 (inr explicit))
-  values_changed (Segment p q) unused is =
-      fit_placed (drawn_by (Segment p q)) is.originals (λ r explicit. (is.points r).1 (inr explicit))
-  values_changed (Points name path) unused is = fit_placed [] is.originals (λ q explicit. (is.points q).1 (inr explicit))
-  values_changed (Lines name paths) unused is =
-      fit_placed (drawn_by (Lines name paths)) is.originals (λ q explicit. (is.points q).1 (inr explicit))
-  values_changed (Regions name cycles) unused is =
-      fit_placed (drawn_by (Regions name cycles)) is.originals (λ q explicit. (is.points q).1 (inr explicit))
-  values_changed (Let name op one second) unused is = fit_placed [] is.originals (λ q explicit. (is.points q).1 (inr explicit))
-  values_changed (Drop name) unused is = fit_placed [] is.originals (λ q explicit. (is.points q).1 (inr explicit))
+  values_changed c figure unused is = fit_placed figure.segments is.originals (λ q explicit. (is.points q).1 (inr explicit))

@@ -24,6 +24,10 @@ pub mod IndexAfter
 pub mod StepsTaken
 -- where a trace fails that is taken step by step
 pub mod FailedTraces
+-- values that an operator is applied to by their names
+pub mod NamedOperands
+-- that a change draws one figure
+pub mod OneFigure
 -- that a change leads to one state by one trace
 pub mod SameStates
 -- a drawing with one more straight original
@@ -56,3 +60,5 @@ pub mod EvenCycles
 pub mod ChangedValues
 -- the value that a change defines
 pub mod NewValues
+-- that a change by an operator draws what is drawn already
+pub mod DrawnAlready

@@ -1,32 +1,29 @@
 -- What a change makes of the drawing, before it is settled, and of the values.
-use Rattle.std.specs.Prelude.{◌≡◌, ◌≢◌, ◌⊎◌, ◌↔◌, ◌+◌, ℕ, zero, suc, List, [], ◌∷◌, ◌++◌, length, map, AllPairs, Contains}
+use Rattle.std.specs.Prelude.{◌≡◌, ◌≢◌, ◌⊎◌, ◌↔◌, ◌+◌, ℕ, zero, suc, List, [], ◌∷◌, ◌++◌, length, AllPairs, Contains}
+use Rattle.std.specs.Prelude.{MatchOption}
 use Rattle.grid_base.specs.Point.{GridPoint, IsBefore}
 use Rattle.grid_base.specs.Segment.{GridSegment}
 use Rattle.grid_base.specs.Drawing.{Drawing}
 use Rattle.grid_base.specs.declared.kinds.Kind.{Kind}
 use Rattle.grid_base.specs.declared.kinds.Kind.TheVariants as kinds
 use Rattle.line_grammar.specs.declared.command.Change.{Change}
-use Rattle.line_grammar.specs.declared.command.Change.TheVariants.{Point, Unpoint, Points}
-use Rattle.line_grammar.specs.declared.command.Change.TheVariants.{Lines, Regions, Drop, Delete}
+use Rattle.line_grammar.specs.declared.command.Change.TheVariants.{Unpoint, Drop, Delete}
 use Rattle.realm_drawing.specs.Straight.{placed}
 use Rattle.realm_drawing.specs.Changed.{without_id}
 use Rattle.value_table.specs.Table.{NamedValues, without}
 use Rattle.value_table.specs.declared.value.Value.{Value}
 use Rattle.value_table.specs.declared.value.Parts.TheVariants as parts
-use Rattle.realm_insert.specs.Lines.{grid_point, drawn_between, drawn_by}
+use Rattle.realm_insert.specs.Figures.{Figure, Draws}
+use Rattle.realm_insert.specs.Lines.{grid_point, name_defined}
+use Rattle.realm_insert.specs.State.{State}
 
 -- ---- the drawing
 
--- the points that the change makes explicit
-abbrev pub marked_by : Change → List GridPoint
-marked_by (Point p) = grid_point p ∷ []
-marked_by (Points name path) = map grid_point path
-marked_by _ = []
-
 -- q is explicit after the change
-abbrev pub IsExplicitAfter : Change → List GridPoint → GridPoint → Type 0
-IsExplicitAfter (Unpoint p) points q = Contains points q × (q ≢ grid_point p)
-IsExplicitAfter c points q = Contains (marked_by c) q ⊎ Contains points q
+abbrev pub IsExplicitAfter : Change → Figure → List GridPoint → GridPoint → Type 0
+IsExplicitAfter (Unpoint p) figure points q = Contains points q × (q ≢ grid_point p)
+IsExplicitAfter (Delete id) figure points q = Contains points q
+IsExplicitAfter c figure points q = Contains figure.points q ⊎ Contains points q
 
 -- d with straight originals along these segments, the first with this id, and each further one with the next
 abbrev pub placed_all : Drawing → ℕ → List GridSegment → Drawing
@@ -34,15 +31,20 @@ placed_all d id [] = d
 placed_all d id (s ∷ more) = placed_all (placed d id s) (id + 1) more
 
 -- d without the original that the change takes away, and with those that it draws, the first with this id
-abbrev pub redrawn : Change → Drawing → ℕ → Drawing
-redrawn (Delete id) d first = without_id d id
-redrawn c d first = placed_all d first (drawn_by c)
+abbrev pub redrawn : Change → Figure → Drawing → ℕ → Drawing
+redrawn (Unpoint p) figure d first = d
+redrawn (Delete id) figure d first = without_id d id
+redrawn c figure d first = placed_all d first figure.segments
 
--- what the change itself makes of the drawing, before the first step
-pub record IsChangedTo (c : Change) (d : Drawing) (first : ℕ) (changed : Drawing) : Type 0 where
-  pub points : (q : GridPoint) → Contains changed.points q ↔ IsExplicitAfter c d.points q
+-- what the change, which draws the figure, itself makes of the drawing, before the first step
+pub record IsChangedTo (c : Change) (figure : Figure) (d : Drawing) (first : ℕ) (changed : Drawing) : Type 0 where
+  pub points : (q : GridPoint) → Contains changed.points q ↔ IsExplicitAfter c figure d.points q
   pub ascending : AllPairs IsBefore changed.points
-  pub originals : changed.originals ≡ (redrawn c d first).originals
+  pub originals : changed.originals ≡ (redrawn c figure d first).originals
+
+-- the same of the drawing of s
+abbrev pub ChangesTo : Change → State → Drawing → Type 0
+ChangesTo c s changed = (figure : Figure) × Draws c s figure × IsChangedTo c figure s.drawing s.next_id changed
 
 -- ---- the values
 
@@ -58,18 +60,19 @@ pub record IsPointsOf (points : List GridPoint) (v : Value) : Type 0 where
   pub ascending : AllPairs IsBefore list
   pub exact : (q : GridPoint) → Contains list q ↔ Contains points q
 
--- the value of this kind of the originals that the change draws, the first with this id
-abbrev pub value_of_new : Kind → Change → ℕ → Value
-value_of_new kind c first =
-    record { kind = kind; parts = parts.Ids (ids_from first (length (drawn_between c))) }
+-- v is the value of this kind that the figure makes, whose first original has this id
+abbrev pub IsValueOfFigure : Kind → Figure → ℕ → Value → Type 0
+IsValueOfFigure kinds.Points figure first v = IsPointsOf figure.points v
+IsValueOfFigure kind figure first v =
+    v ≡ record { kind = kind; parts = parts.Ids (ids_from first (length figure.segments)) }
 
--- the values after the change: one more at the end where it defines one, and one fewer where it drops one
-abbrev pub AreValuesAfter : Change → ℕ → NamedValues → NamedValues → Type 0
-AreValuesAfter (Points name path) first old new =
-    (v : Value) × IsPointsOf (marked_by (Points name path)) v × (new ≡ old ++ (name, v) ∷ [])
-AreValuesAfter (Lines name paths) first old new =
-    new ≡ old ++ (name, value_of_new kinds.Lines (Lines name paths) first) ∷ []
-AreValuesAfter (Regions name cycles) first old new =
-    new ≡ old ++ (name, value_of_new kinds.Regions (Regions name cycles) first) ∷ []
-AreValuesAfter (Drop name) first old new = new ≡ without name old
-AreValuesAfter _ first old new = new ≡ old
+-- the values with one more at the end, which the figure makes
+abbrev pub Defines : List ℕ → Figure → ℕ → NamedValues → NamedValues → Type 0
+Defines name figure first old new =
+    (v : Value) × IsValueOfFigure figure.kind figure first v × (new ≡ old ++ (name, v) ∷ [])
+
+-- the values after the change: one fewer where it drops one, and one more where it defines one
+abbrev pub AreValuesAfter : Change → Figure → ℕ → NamedValues → NamedValues → Type 0
+AreValuesAfter (Drop name) figure first old new = new ≡ without name old
+AreValuesAfter c figure first old new =
+    MatchOption (name_defined c) (new ≡ old) (λ name. Defines name figure first old new)

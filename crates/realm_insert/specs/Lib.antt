@@ -2,6 +2,12 @@
 pub mod State
 -- what a change asks for, as its line writes it
 pub mod Lines
+-- what values are made of
+pub mod Values
+-- what an operator is applied to, and what it makes of it
+pub mod Operands
+-- what a change draws
+pub mod Figures
 -- why a change is refused
 pub mod Refusals
 -- what a change makes of the drawing and of the values
@@ -10,8 +16,6 @@ pub mod Changes
 pub mod Next
 -- traces that don't settle what a change makes
 pub mod Misfits
--- what values are made of
-pub mod Values
 -- what every engine that isn't spent is like
 pub mod Kept
 -- what is still to be looked at, for this crate's own proofs

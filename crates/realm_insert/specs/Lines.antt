@@ -6,7 +6,7 @@ use Rattle.grid_base.specs.Segment.{GridSegment, segment_of}
 use Rattle.line_grammar.specs.declared.command.At.{At}
 use Rattle.line_grammar.specs.declared.command.Change.{Change}
 use Rattle.line_grammar.specs.declared.command.Change.TheVariants.{Point, Unpoint, Segment, Points}
-use Rattle.line_grammar.specs.declared.command.Change.TheVariants.{Lines, Regions, Let, Drop}
+use Rattle.line_grammar.specs.declared.command.Change.TheVariants.{Lines, Regions, Let}
 use Rattle.realm_insert.specs.declared.asked.Ends.{Ends}
 
 -- a coordinate is 2^28 or more
@@ -40,7 +40,7 @@ abbrev pub neighbours_round : List At → List Ends
 neighbours_round [] = []
 neighbours_round (p ∷ cycle) = neighbours (p ∷ (cycle ++ p ∷ []))
 
--- the places between which a change draws, in order
+-- the places that a change writes to draw between, in order
 abbrev pub drawn_between : Change → List Ends
 drawn_between (Segment p q) = ends p q ∷ []
 drawn_between (Lines name paths) = flat_map neighbours paths
@@ -51,9 +51,9 @@ drawn_between _ = []
 abbrev pub segment_between : Ends → GridSegment
 segment_between e = segment_of (grid_point e.from) (grid_point e.to)
 
--- the segments that a change draws, in order
-abbrev pub drawn_by : Change → List GridSegment
-drawn_by c = map segment_between (drawn_between c)
+-- the segments that a change writes, in order
+abbrev pub written_segments : Change → List GridSegment
+written_segments c = map segment_between (drawn_between c)
 
 -- both places are on the grid, and they are two
 abbrev pub IsDrawable : Ends → Type 0
@@ -72,13 +72,6 @@ name_defined (Lines name paths) = Some name
 name_defined (Regions name cycles) = Some name
 name_defined (Let name op first second) = Some name
 name_defined _ = None
-
--- the names that a change uses and doesn't define
-abbrev pub names_used : Change → List (List ℕ)
-names_used (Let name op first None) = first ∷ []
-names_used (Let name op first (Some second)) = first ∷ second ∷ []
-names_used (Drop name) = name ∷ []
-names_used _ = []
 
 -- the change is made by an operator
 abbrev pub IsLet : Change → Type 0

@@ -6,7 +6,7 @@ use Rattle.line_grammar.specs.declared.command.Change.{Change}
 use Rattle.realm_drawing.specs.Mending.{IsPermitted}
 use Rattle.realm_drawing.specs.Steps.{Permitted}
 use Rattle.realm_insert.specs.State.{State}
-use Rattle.realm_insert.specs.Changes.{IsChangedTo}
+use Rattle.realm_insert.specs.Changes.{ChangesTo}
 
 -- the steps lead from d to e, each permitted where it stands
 abbrev pub LeadsBy : Drawing → List Step → Drawing → Type 0
@@ -31,4 +31,4 @@ pub record Misfits (d : Drawing) (trace : List Step) (number : ℕ) : Type 0 whe
 -- the trace fails so from what the change makes of the drawing of s
 abbrev pub MisfitsAt : Change → State → List Step → ℕ → Type 0
 MisfitsAt c s trace number =
-    (changed : Drawing) × IsChangedTo c s.drawing s.next_id changed × Misfits changed trace number
+    (changed : Drawing) × ChangesTo c s changed × Misfits changed trace number

@@ -1,14 +1,15 @@
 -- Why a change is refused: the cause of each refusal, and the order in which they are asked for.
-use Rattle.std.specs.Prelude.{◌≡◌, ◌≤◌, ◌<◌, ◌+◌, ◌^◌, ℕ, List, [], ◌∷◌, ◌⊎◌, length, Any, Contains}
-use Rattle.std.specs.Prelude.{Option, Some, None, IsSomeAnd, MatchOption}
+use Rattle.std.specs.Prelude.{◌≡◌, ◌≤◌, ◌<◌, ◌+◌, ◌^◌, List, [], ◌∷◌, ◌++◌, ◌⊎◌, length, Any, Contains}
+use Rattle.std.specs.Prelude.{Option, IsSomeAnd, MatchOption}
 use Rattle.grid_base.specs.Drawing.{Drawing}
 use Rattle.line_grammar.specs.declared.command.Change.{Change}
-use Rattle.line_grammar.specs.declared.command.Change.TheVariants.{Unpoint, Let, Delete}
-use Rattle.rose_values.specs.Kinds.{kind_from_one, kind_from_two}
-use Rattle.value_table.specs.Table.{NamedValues, IsNamed, value_named, users_of, users_of_point}
+use Rattle.line_grammar.specs.declared.command.Change.TheVariants.{Unpoint, Let, Drop, Delete}
+use Rattle.value_table.specs.Table.{NamedValues, IsNamed, users_of, users_of_point}
 use Rattle.realm_drawing.specs.Ids.{LacksId}
 use Rattle.realm_insert.specs.State.{State}
-use Rattle.realm_insert.specs.Lines.{grid_point, drawn_between, HasPlaceOffGrid, HasShortList, name_defined, names_used}
+use Rattle.realm_insert.specs.Figures.{Figure, Draws}
+use Rattle.realm_insert.specs.Lines.{grid_point, drawn_between, HasPlaceOffGrid, HasShortList, name_defined}
+use Rattle.realm_insert.specs.Operands.{LacksName, LacksOperand, HasWrongKinds}
 use Rattle.realm_insert.specs.declared.refusal.Refusal.{Refusal}
 use Rattle.realm_insert.specs.declared.refusal.Refusal.TheVariants.{Range, Shape, Degenerate, NameTaken, NoName, Types}
 use Rattle.realm_insert.specs.declared.refusal.Refusal.TheVariants.{NoId, NoPoint, InUse, Ids, Changes}
@@ -19,16 +20,14 @@ DefinesTwice c values = IsSomeAnd (name_defined c) (λ name. IsNamed name values
 
 -- a name that is used has no value
 abbrev pub UsesNoValue : Change → NamedValues → Type 0
-UsesNoValue c values = Any (λ name. IsNamed name values → ⊥) (names_used c)
+UsesNoValue (Let name op first second) values = LacksOperand first second values
+UsesNoValue (Drop name) values = LacksName name values
+UsesNoValue _ values = ⊥
 
 -- the operator doesn't take values of these kinds
-abbrev pub HasWrongKinds : Change → NamedValues → Type 0
-HasWrongKinds (Let name op first None) values =
-    IsSomeAnd (value_named first values) (λ v. kind_from_one op v.kind ≡ None)
-HasWrongKinds (Let name op first (Some second)) values =
-    IsSomeAnd (value_named first values) (λ v. IsSomeAnd (value_named second values)
-    (λ w. kind_from_two op v.kind w.kind ≡ None))
-HasWrongKinds _ values = ⊥
+abbrev pub TakesOtherKinds : Change → NamedValues → Type 0
+TakesOtherKinds (Let name op first second) values = HasWrongKinds op first second values
+TakesOtherKinds _ values = ⊥
 
 -- no original has the id that is to go
 abbrev pub DeletesNothing : Change → Drawing → Type 0
@@ -47,8 +46,11 @@ TakesWhatIsUsed (Unpoint p) values = 0 < users_of_point values (grid_point p)
 TakesWhatIsUsed _ values = ⊥
 
 -- there are new originals, and the last of them would have an id of 2^32 or more
-abbrev pub LacksIds : Change → ℕ → Type 0
-LacksIds c next_id = (0 < length (drawn_between c)) × (2 ^ 32 < next_id + length (drawn_between c))
+pub record LacksIds (c : Change) (s : State) : Type 0 where
+  pub figure : Figure
+  pub draws : Draws c s figure
+  pub some : 0 < length figure.segments
+  pub too_many : 2 ^ 32 < s.next_id + length figure.segments
 
 -- the cause of a refusal
 abbrev pub IsCause : Refusal → Change → State → Type 0
@@ -57,11 +59,11 @@ IsCause Shape c s = HasShortList c
 IsCause Degenerate c s = Any (λ e. e.from ≡ e.to) (drawn_between c)
 IsCause NameTaken c s = DefinesTwice c s.values
 IsCause NoName c s = UsesNoValue c s.values
-IsCause Types c s = HasWrongKinds c s.values
+IsCause Types c s = TakesOtherKinds c s.values
 IsCause NoId c s = DeletesNothing c s.drawing
 IsCause NoPoint c s = TakesNoPoint c s.drawing
 IsCause InUse c s = TakesWhatIsUsed c s.values
-IsCause Ids c s = LacksIds c s.next_id
+IsCause Ids c s = LacksIds c s
 IsCause Changes c s = 2 ^ 63 ≤ s.changes
 IsCause _ c s = ⊥
 
@@ -80,10 +82,13 @@ IsFirstOf (first ∷ more) c s refusal =
 abbrev pub FindsFirst : List Refusal → Change → State → Option Refusal → Type 0
 FindsFirst list c s found = MatchOption found (HasNoneOf list c s) (IsFirstOf list c s)
 
+-- the refusals whose causes are asked for before what is left of ids and changes, in this order
+abbrev pub before_limits : List Refusal
+before_limits = Range ∷ Shape ∷ Degenerate ∷ NameTaken ∷ NoName ∷ Types ∷ NoId ∷ NoPoint ∷ InUse ∷ []
+
 -- the refusals of changes, in the order in which their causes are asked for
 abbrev pub order_of_refusals : List Refusal
-order_of_refusals =
-    Range ∷ Shape ∷ Degenerate ∷ NameTaken ∷ NoName ∷ Types ∷ NoId ∷ NoPoint ∷ InUse ∷ Ids ∷ Changes ∷ []
+order_of_refusals = before_limits ++ Ids ∷ Changes ∷ []
 
 -- the change is refused by this word
 abbrev pub IsRefusedBy : Change → State → Refusal → Type 0

@@ -1,5 +1,5 @@
 -- The pieces that are still to be looked at while a drawing is settled. No public clause cites this file.
-use Rattle.std.specs.Prelude.{◌≡◌, ◌⊎◌, ◌↔◌, ℕ, ◌+◌, ◌≤◌, ◌^◌, List, length, Contains, Any}
+use Rattle.std.specs.Prelude.{◌≡◌, ◌⊎◌, ◌↔◌, ℕ, ◌+◌, ◌≤◌, ◌^◌, List, length, Contains, Any, Result, Ok, Err}
 use Rattle.grid_base.specs.Point.{GridPoint, IsBefore}
 use Rattle.grid_base.specs.Segment.{GridSegment, IsEnd}
 use Rattle.grid_base.specs.Crossing.{Inside, Cross}
@@ -12,11 +12,15 @@ use Rattle.realm_drawing.specs.Keyed.{KeyedDrawing, keyed, HasKey, AreKeyed}
 use Rattle.realm_drawing.specs.declared.keyed.KeyedPiece.{KeyedPiece}
 use Rattle.realm_index.specs.Index.{Entries}
 use Rattle.realm_insert.specs.Changes.{IsChangedTo, IsExplicitAfter, redrawn}
+use Rattle.realm_insert.specs.Figures.{Figure, Draws}
 use Rattle.realm_insert.specs.Indexing.{ListsKeyed}
 use Rattle.realm_insert.specs.Kept.{IsIndexed}
-use Rattle.realm_insert.specs.Lines.{HasPlaceOffGrid, drawn_between}
-use Rattle.realm_insert.specs.Refusals.{DeletesNothing}
-use Rattle.realm_insert.specs.State.{HasIdsBelow}
+use Rattle.realm_insert.specs.Lines.{HasPlaceOffGrid}
+use Rattle.realm_insert.specs.Refusals.{DeletesNothing, HasNoneOf, IsFirstOf}
+use Rattle.realm_insert.specs.State.{State, HasIdsBelow}
+use Rattle.realm_insert.specs.declared.refusal.ChangeError.{ChangeError}
+use Rattle.realm_insert.specs.declared.refusal.ChangeError.TheVariants.{Refused, NoMemory}
+use Rattle.realm_insert.specs.declared.refusal.Refusal.{Refusal}
 
 -- each violation has a listed piece or an end of one
 pub record IsCoveredBy (d : Drawing) (list : List GridSegment) : Type 0 where
@@ -46,26 +50,31 @@ abbrev pub ListsLinks : KeyedDrawing → List GridPoint → List KeyedPiece → 
 ListsLinks d chain list = ListsKeyed d (λ s. IsBefore s.a s.b × HasLink chain s) list
 
 -- ---- what a change makes
+-- no refusal of the list has its cause and this is what the change draws, or this is the first that has it
+abbrev pub FindsFigure : List Refusal → Change → State → Result Figure ChangeError → Type 0
+FindsFigure list c s (Ok figure) = HasNoneOf list c s × Draws c s figure
+FindsFigure list c s (Err (Refused word)) = IsFirstOf list c s word
+FindsFigure list c s (Err NoMemory) = Unit {0}
+
 -- the change is accepted as far as the drawing sees it, and ids from the first one on are free
-pub record CanBeDrawn (c : Change) (d : Drawing) (first : ℕ) : Type 0 where
+pub record CanBeDrawn (c : Change) (figure : Figure) (d : Drawing) (first : ℕ) : Type 0 where
   pub on_grid : HasPlaceOffGrid c → ⊥
-  pub apart : Any (λ e. e.from ≡ e.to) (drawn_between c) → ⊥
   pub there : DeletesNothing c d → ⊥
   pub ids : HasIdsBelow first d
   pub least : 1 ≤ first
-  pub most : first + length (drawn_between c) ≤ 2 ^ 32
+  pub most : first + length figure.segments ≤ 2 ^ 32
 
 -- d has become this by the change itself, and the list covers its violations
-pub record IsPrepared (c : Change) (d : Drawing) (first : ℕ) (new : KeyedDrawing) (index : Entries)
+pub record IsPrepared (c : Change) (figure : Figure) (d : Drawing) (first : ℕ) (new : KeyedDrawing) (index : Entries)
     (fresh : List GridSegment) : Type 0 where
-  pub points : (q : GridPoint) → Contains new.drawing.points q ↔ IsExplicitAfter c d.points q
-  pub originals : new.drawing.originals ≡ (redrawn c d first).originals
+  pub points : (q : GridPoint) → Contains new.drawing.points q ↔ IsExplicitAfter c figure d.points q
+  pub originals : new.drawing.originals ≡ (redrawn c figure d first).originals
   pub indexed : IsIndexed new index
   pub keyed : AreKeyed new
   pub valid : AllValid new.drawing
   pub covered : IsCoveredBy new.drawing fresh
-  pub ids : HasIdsBelow (first + length (drawn_between c)) new.drawing
+  pub ids : HasIdsBelow (first + length figure.segments) new.drawing
 
 -- the change and then the trace lead from d to e
-abbrev pub Redraws : Change → Drawing → ℕ → List Step → Drawing → Type 0
-Redraws c d first trace e = (changed : Drawing) × IsChangedTo c d first changed × Settles changed trace e
+abbrev pub Redraws : Change → Figure → Drawing → ℕ → List Step → Drawing → Type 0
+Redraws c figure d first trace e = (changed : Drawing) × IsChangedTo c figure d first changed × Settles changed trace e

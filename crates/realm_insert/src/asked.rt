@@ -1,12 +1,13 @@
 //! What a change asks for, as its line writes it. Nothing here looks at the state.
 ghost use Rattle.std.specs.Prelude.{◌≡◌, ◌<◌, ◌↔◌, ◌++◌, IsTrue, IfOk, OnOk, All, Any, length, map};
 ghost use Rattle.std.specs.List.{flat_map};
+ghost use Rattle.std.specs.Option.{option_copied};
 ghost use Rattle.realm_insert.specs.Lines.{IsOffGrid, HasPlaceOffGrid, HasShortList, neighbours, neighbours_round};
-ghost use Rattle.realm_insert.specs.Changes.{marked_by};
-ghost use Rattle.realm_insert.specs.Lines.{drawn_between, segment_between, IsDrawable, IsLet, grid_point};
+ghost use Rattle.realm_insert.specs.Lines.{drawn_between, segment_between, IsDrawable, grid_point};
+ghost use Rattle.realm_insert.specs.Lines.{name_defined};
 
 use grid_base::{NoMemory, Point, Segment};
-use line_grammar::{At, Change, Path};
+use line_grammar::{At, Change, Name, Path};
 use std::alloc::Global;
 
 // Two places to draw between.
@@ -147,19 +148,8 @@ fn segment_of(e: &Ends) -> Segment
     }
 }
 
-// The points that the change makes explicit, in order.
-pub(crate) fn points_marked(alloc: Global, c: &Change) -> Result<Vec<Point>, NoMemory>
-    requires on_grid { HasPlaceOffGrid c.now → ⊥ }
-    ensures { IfOk result (λ v. v.items ≡ marked_by c.now) }
-{
-    match c {
-        Change::Point(p) => Ok(vec![in alloc; point_of(p)]?),
-        Change::Points(_, path) => points_at(alloc, path.places()),
-        _ => Ok(Vec::new(alloc)),
-    }
-}
-
-fn points_at(alloc: Global, places: &[At]) -> Result<Vec<Point>, NoMemory>
+// The points at these places, in order.
+pub(crate) fn points_at(alloc: Global, places: &[At]) -> Result<Vec<Point>, NoMemory>
     requires on_grid { Any IsOffGrid places.now → ⊥ }
     ensures { IfOk result (λ v. v.items ≡ map grid_point places.now) }
 {
@@ -181,12 +171,15 @@ pub(crate) fn point_of(p: &At) -> Point
     }
 }
 
-/// Whether the change is made by an operator. Such changes aren't built yet.
-pub fn is_let(c: &Change) -> bool
-    ensures { IsTrue result ↔ IsLet c.now }
+// The name that the change defines.
+pub(crate) fn name_of(c: &Change) -> Option<&Name>
+    ensures { option_copied result ≡ name_defined c.now }
 {
     match c {
-        Change::Let(..) => true,
-        _ => false,
+        Change::Points(name, _) => Some(name),
+        Change::Lines(name, _) => Some(name),
+        Change::Regions(name, _) => Some(name),
+        Change::Let(name, ..) => Some(name),
+        _ => None,
     }
 }

@@ -1,51 +1,47 @@
 //! What a change makes of the values: one more at the end, or one fewer.
-ghost use Rattle.std.specs.Prelude.{◌≡◌, ◌+◌, ◌≤◌, ◌^◌, ◌++◌, ◌∷◌, [], IfOk, OnOk, map, length};
-ghost use Rattle.grid_base.specs.declared.kinds.Kind.TheVariants as kinds;
+ghost use Rattle.std.specs.Prelude.{◌≡◌, ◌+◌, ◌≤◌, ◌^◌, ◌++◌, ◌∷◌, [], IfOk, OnOk, length};
 ghost use Rattle.value_table.specs.Table.{IsNamed};
-ghost use Rattle.realm_insert.specs.Changes.{AreValuesAfter, IsPointsOf, ids_from, marked_by, value_of_new};
-ghost use Rattle.realm_insert.specs.Lines.{HasPlaceOffGrid, IsLet, drawn_between};
+ghost use Rattle.realm_insert.specs.Changes.{AreValuesAfter, IsPointsOf, IsValueOfFigure, ids_from};
 ghost use Rattle.realm_insert.specs.Refusals.{DefinesTwice};
 
-use crate::asked::points_marked;
+use crate::asked::name_of;
+use crate::figure::Figure;
 use grid_base::{Kind, NoMemory, Point};
 use line_grammar::{Change, Name};
 use rose_values::PointsValue;
 use std::alloc::Global;
 use value_table::{IdList, Parts, Table, TableError, Value};
 
-// Makes the change in the table. The originals that it draws are so many, with ids from `first` on.
+// Makes the change in the table. The originals of the figure have ids from `first` on.
 pub(crate) fn revalue(
     alloc: Global,
     table: &mut Table,
     first: u64,
-    added: u64,
     c: &Change,
+    figure: Figure,
 ) -> Result<(), NoMemory>
-    requires not_let { IsLet c.now → ⊥ }
     requires free { DefinesTwice c.now table.old → ⊥ }
-    requires on_grid { HasPlaceOffGrid c.now → ⊥ }
-    requires added { added ≡ length (drawn_between c.now) }
-    requires most { first + added ≤ 2 ^ 32 }
-    ensures { OnOk result (AreValuesAfter c.now first table.old table.new) }
+    requires most { first + length figure.segments ≤ 2 ^ 32 }
+    ensures { OnOk result (AreValuesAfter c.now figure first table.old table.new) }
 {
-    match c {
-        Change::Points(name, _) => {
-            let v = points_value(points_marked(alloc, c)?);
-            define(table, name, v)
-        }
-        Change::Lines(name, _) => {
-            let v = value_of_ids(alloc, Kind::Lines, first, added)?;
-            define(table, name, v)
-        }
-        Change::Regions(name, _) => {
-            let v = value_of_ids(alloc, Kind::Regions, first, added)?;
-            define(table, name, v)
-        }
-        Change::Drop(name) => {
-            table.drop_name(name.text());
-            Ok(())
-        }
-        _ => Ok(()),
+    if let Change::Drop(name) = c {
+        table.drop_name(name.text());
+        return Ok(());
+    }
+    match name_of(c) {
+        Some(name) => define(table, name, value_of(alloc, first, figure)?),
+        None => Ok(()),
+    }
+}
+
+// The value that the figure makes.
+fn value_of(alloc: Global, first: u64, figure: Figure) -> Result<Value, NoMemory>
+    requires most { first + length figure.segments ≤ 2 ^ 32 }
+    ensures { IfOk result (IsValueOfFigure figure.kind figure first) }
+{
+    match figure.kind() {
+        Kind::Points => Ok(points_value(figure.into_points())),
+        kind => Ok(value_of_ids(alloc, kind, first, figure.segments().len() as u64)?),
     }
 }
 

@@ -1,25 +1,28 @@
 //! The engine: the drawing, an index of its pieces by their keys, and the numbers of the state. It is spent from the
 //! beginning of a change to its end, so want of memory leaves it spent.
-ghost use Rattle.std.specs.Prelude.{◌≡◌, ◌≢◌, ◌⊎◌, ◌↔◌, ◌+◌, ◌≤◌, ◌<◌, ◌^◌, ℕ, true, false, List, [], ◌∷◌, ◌++◌};
-ghost use Rattle.std.specs.Prelude.{length, Contains, Err, IfOk, OnOk, MatchResult, MatchOption, IfSome, IsSomeAnd, IsNone};
+ghost use Rattle.std.specs.Prelude.{◌≡◌, ◌⊎◌, ◌↔◌, ◌+◌, ◌≤◌, ◌<◌, ◌^◌, ℕ, true, false, List, [], ◌∷◌, ◌++◌};
+ghost use Rattle.std.specs.Prelude.{Contains, Err, IfOk, OnOk, MatchResult, MatchOption, IfSome, IsSomeAnd, IsNone};
 ghost use Rattle.grid_base.specs.Drawing.{IsDrawnRealm};
 ghost use Rattle.grid_base.specs.declared.kinds.Step.{Step as Seen};
 ghost use Rattle.record_codec.specs.Traces.{IsTrace};
+ghost use Rattle.unswept_regions.specs.Unswept.{IsUnsweptValue};
+ghost use Rattle.value_table.specs.Table.{value_named};
 ghost use Rattle.realm_insert.specs.State.{fresh_state, kept_trace, latest, HasIdsBelow, AreLatest};
 ghost use Rattle.line_grammar.specs.Spellable.{IsSpellableChange};
-ghost use Rattle.realm_insert.specs.Lines.{IsLet, drawn_between};
+ghost use Rattle.realm_insert.specs.Lines.{IsLet};
+ghost use Rattle.realm_insert.specs.Figures.{Draws};
 ghost use Rattle.realm_insert.specs.Refusals.{IsAccepted, IsRefusedBy};
-ghost use Rattle.realm_insert.specs.Changes.{IsChangedTo};
+ghost use Rattle.realm_insert.specs.Changes.{ChangesTo};
 ghost use Rattle.realm_insert.specs.Values.{AreValuesOf, IsGeometryNamed};
-ghost use Rattle.realm_insert.specs.Next.{Next, MakesNoViolation};
+ghost use Rattle.realm_insert.specs.Next.{Next, MakesNoViolation, KeepsAll};
 ghost use Rattle.realm_insert.specs.Misfits.{MisfitsAt};
 ghost use Rattle.realm_insert.specs.declared.refusal.Refusal.{Refusal as Word};
 ghost use Rattle.realm_insert.specs.declared.settling.SettleError.TheVariants.{Mismatch};
 
 use crate::applied::Applied;
-use crate::asked::ends_drawn;
-use crate::causes::first_cause;
+use crate::causes::figure_drawn;
 use crate::defining::revalue;
+use crate::figure::Figure;
 use crate::making::redraw;
 use crate::refusal::{ChangeError, Refusal, ReplayError};
 use crate::settling::SettleError;
@@ -32,6 +35,7 @@ use rose_values::Geometry;
 use std::alloc::Global;
 use std::marker::Model;
 use std::thread::Threads;
+use unswept_regions::no_region_sweeps;
 use value_geometry::geometry_of;
 use value_table::Table;
 
@@ -134,14 +138,20 @@ impl Engine {
     }
 
     /// What the value with this name is made of at present; none where no value has the name. Only the chains of its parts
-    /// are looked at.
+    /// are looked at. A region has swept across no grid point.
     pub fn geometry(&self, name: &str) -> Result<Option<Geometry>, NoMemory>
         requires ready { self.now.spent ≡ false }
-        ensures { IfOk result (λ found. IsGeometryNamed self.now.state name.now found) }
+        ensures geometry { IfOk result (λ found. IsGeometryNamed self.now.state name.now found) }
+        ensures unswept { IfOk result (λ found. IfSome found (λ g.
+            IfSome (value_named name.now self.now.state.values) (λ v. IsUnsweptValue self.now.state.drawing v g))) }
     {
         let drawing = self.drawing();
         match self.table().get(name) {
-            Some(value) => Ok(Some(geometry_of(self.alloc, drawing, value)?)),
+            Some(value) => {
+                let geometry = geometry_of(self.alloc, drawing, value)?;
+                no_region_sweeps(drawing, value, &geometry);
+                Ok(Some(geometry))
+            }
             None => Ok(None),
         }
     }
@@ -191,12 +201,14 @@ impl Engine {
     ) -> Result<Option<Refusal>, NoMemory>
         requires ready { self.now.spent ≡ false }
         requires spellable { IsSpellableChange c.now }
-        requires not_let { IsLet c.now → ⊥ }
         ensures { IfOk result (λ found.
             MatchOption found (IsAccepted c.now self.now.state) (IsRefusedBy c.now self.now.state)) }
     {
-        let _ = rt;
-        first_cause(self.alloc, self, c)
+        match figure_drawn(rt, self.alloc, self, c) {
+            Ok(_) => Ok(None),
+            Err(ChangeError::Refused(refusal)) => Ok(Some(refusal)),
+            Err(ChangeError::NoMemory) => Err(NoMemory),
+        }
     }
 
     /// Makes the change: what it places or takes away, then the steps that settle the drawing, and what it makes of the
@@ -204,24 +216,27 @@ impl Engine {
     pub fn change<R: Threads + Sync>(&mut self, rt: &R, c: &Change) -> Result<Applied, ChangeError>
         requires ready { self.old.spent ≡ false }
         requires spellable { IsSpellableChange c.now }
-        requires not_let { IsLet c.now → ⊥ }
         ensures next { IfOk result (λ applied. Next self.old.state c.now applied.trace self.new.state) }
         ensures numbers { IfOk result (λ applied. (applied.first ≡ self.old.state.next_id)
-            × (applied.added ≡ length (drawn_between c.now))) }
+            × (self.old.state.next_id + applied.added ≡ self.new.state.next_id)) }
         ensures untouched { IfOk result (λ applied. MakesNoViolation self.old.state c.now
-            → (applied.trace ≡ []) × IsChangedTo c.now self.old.state.drawing self.old.state.next_id self.new.state.drawing) }
+            → (applied.trace ≡ []) × ChangesTo c.now self.old.state self.new.state.drawing) }
+        ensures let_is_there { IfOk result (λ applied. IsLet c.now
+            → (applied.trace ≡ []) × KeepsAll self.old.state.drawing self.new.state.drawing) }
         ensures refused { (word : Word) → result ≡ Err (ChangeError.Refused word)
             → IsRefusedBy c.now self.old.state word × (self.new ≡ self.old) }
         ensures spent { (self.new.spent ≡ true) ↔ (result ≡ Err ChangeError.NoMemory) }
     {
-        match self.refusal(rt, c) {
-            Ok(None) => match self.make(c, None) {
+        // What is drawn before it is a realm, which has the parts of all values.
+        let (_, _) = (self.drawing(), self.table());
+        match figure_drawn(rt, self.alloc, self, c) {
+            Ok(figure) => match self.make(c, figure, None) {
                 Ok(applied) => Ok(applied),
                 Err(SettleError::NoMemory) => Err(ChangeError::NoMemory),
                 Err(SettleError::Mismatch { .. }) => unreachable!(),
             },
-            Ok(Some(refusal)) => Err(ChangeError::Refused(refusal)),
-            Err(NoMemory) => {
+            Err(ChangeError::Refused(refusal)) => Err(ChangeError::Refused(refusal)),
+            Err(ChangeError::NoMemory) => {
                 self.spent = true;
                 Err(ChangeError::NoMemory)
             }
@@ -238,11 +253,10 @@ impl Engine {
     ) -> Result<Applied, ReplayError>
         requires ready { self.old.spent ≡ false }
         requires spellable { IsSpellableChange c.now }
-        requires not_let { IsLet c.now → ⊥ }
         ensures next { IfOk result (λ applied. Next self.old.state c.now trace.now self.new.state
             × (applied.trace ≡ trace.now)) }
         ensures numbers { IfOk result (λ applied. (applied.first ≡ self.old.state.next_id)
-            × (applied.added ≡ length (drawn_between c.now))) }
+            × (self.old.state.next_id + applied.added ≡ self.new.state.next_id)) }
         ensures refused { (word : Word) → result ≡ Err (ReplayError.Refused word)
             → IsRefusedBy c.now self.old.state word × (self.new ≡ self.old) }
         ensures mismatch { (number : ℕ) → result ≡ Err (ReplayError.Mismatch number)
@@ -250,29 +264,34 @@ impl Engine {
         ensures spent { (self.new.spent ≡ true) ↔ ((result ≡ Err ReplayError.NoMemory)
             ⊎ ((number : ℕ) × (result ≡ Err (ReplayError.Mismatch number)))) }
     {
-        match self.refusal(rt, c) {
-            Ok(None) => match self.make(c, Some(trace)) {
+        match figure_drawn(rt, self.alloc, self, c) {
+            Ok(figure) => match self.make(c, figure, Some(trace)) {
                 Ok(applied) => Ok(applied),
                 Err(SettleError::NoMemory) => Err(ReplayError::NoMemory),
                 Err(SettleError::Mismatch { step }) => Err(ReplayError::Mismatch { step }),
             },
-            Ok(Some(refusal)) => Err(ReplayError::Refused(refusal)),
-            Err(NoMemory) => {
+            Err(ChangeError::Refused(refusal)) => Err(ReplayError::Refused(refusal)),
+            Err(ChangeError::NoMemory) => {
                 self.spent = true;
                 Err(ReplayError::NoMemory)
             }
         }
     }
 
-    // Makes a change that isn't refused, by the given steps if there are any.
-    fn make(&mut self, c: &Change, given: Option<&[Step]>) -> Result<Applied, SettleError>
+    // Makes a change that isn't refused and draws the figure, by the given steps if there are any.
+    fn make(
+        &mut self,
+        c: &Change,
+        figure: Figure,
+        given: Option<&[Step]>,
+    ) -> Result<Applied, SettleError>
         requires ready { self.old.spent ≡ false }
         requires spellable { IsSpellableChange c.now }
-        requires not_let { IsLet c.now → ⊥ }
         requires accepted { IsAccepted c.now self.old.state }
+        requires draws { Draws c.now self.old.state figure }
         ensures next { IfOk result (λ applied. Next self.old.state c.now applied.trace self.new.state) }
         ensures numbers { IfOk result (λ applied. (applied.first ≡ self.old.state.next_id)
-            × (applied.added ≡ length (drawn_between c.now))) }
+            × (self.old.state.next_id + applied.added ≡ self.new.state.next_id)) }
         ensures given { IfOk result (λ applied. IfSome given.entry (λ steps. applied.trace ≡ steps.now)) }
         ensures mismatch { (number : ℕ) → result ≡ Err (Mismatch number)
             → IsSomeAnd given.entry (λ steps. MisfitsAt c.now self.old.state steps.now number) }
@@ -280,18 +299,17 @@ impl Engine {
     {
         self.spent = true;
         let first = self.next_id;
-        let ends = ends_drawn(self.alloc, c)?;
-        let added = ends.len() as u64;
+        let added = figure.segments().len() as u64;
         let trace = redraw(
             self.alloc,
             &mut self.drawing,
             &mut self.index,
             first,
             c,
-            &ends,
+            &figure,
             given,
         )?;
-        revalue(self.alloc, &mut self.table, first, added, c)?;
+        revalue(self.alloc, &mut self.table, first, c, figure)?;
         count(self.alloc, &mut self.traces, &mut self.changes, &trace)?;
         self.next_id = first + added;
         self.spent = false;

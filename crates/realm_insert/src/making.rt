@@ -4,13 +4,13 @@ ghost use Rattle.std.specs.Prelude.{◌≡◌, ◌+◌, ℕ, Err, IfOk, OnOk, If
 ghost use Rattle.grid_base.specs.Drawing.{Drawing as Drawn};
 ghost use Rattle.realm_insert.specs.Changes.{IsChangedTo};
 ghost use Rattle.realm_insert.specs.Kept.{IsAtRest};
-ghost use Rattle.realm_insert.specs.Lines.{drawn_between};
 ghost use Rattle.realm_insert.specs.State.{HasIdsBelow};
 ghost use Rattle.realm_insert.specs.Misfits.{Misfits};
 ghost use Rattle.realm_insert.specs.Work.{CanBeDrawn, IsPrepared, Redraws};
 ghost use Rattle.realm_insert.specs.declared.settling.SettleError.TheVariants.{Mismatch};
 
-use crate::asked::{Ends, point_of, points_marked, segments_between};
+use crate::asked::point_of;
+use crate::figure::Figure;
 use crate::placing::{mark_all, place_all};
 use crate::removing::{remove, unmark};
 use crate::settling::{SettleError, settle_by};
@@ -21,7 +21,7 @@ use realm_index::Index;
 use record_codec::Trace;
 use std::alloc::Global;
 
-// Makes the change in the drawing, and settles it, by the given steps if there are any. The new originals have ids from
+// Makes the change, which draws the figure, in the drawing, and settles it, by the given steps if there are any. The new originals have ids from
 // `first` on.
 pub(crate) fn redraw(
     alloc: Global,
@@ -29,20 +29,19 @@ pub(crate) fn redraw(
     index: &mut Index,
     first: u64,
     c: &Change,
-    ends: &[Ends],
+    figure: &Figure,
     given: Option<&[Step]>,
 ) -> Result<Trace, SettleError>
     requires rest { IsAtRest drawing.old index.old }
-    requires can { CanBeDrawn c.now drawing.old.drawing first }
-    requires ends { ends.now ≡ drawn_between c.now }
-    ensures redrawn { IfOk result (λ trace. Redraws c.now drawing.old.drawing first trace drawing.new.drawing) }
+    requires can { CanBeDrawn c.now figure.now drawing.old.drawing first }
+    ensures redrawn { IfOk result (λ trace. Redraws c.now figure.now drawing.old.drawing first trace drawing.new.drawing) }
     ensures given { IfOk result (λ trace. IfSome given.entry (λ steps. trace ≡ steps.now)) }
     ensures mismatch { (number : ℕ) → result ≡ Err (Mismatch number) → IsSomeAnd given.entry (λ steps.
-        (changed : Drawn) × IsChangedTo c.now drawing.old.drawing first changed × Misfits changed steps.now number) }
+        (changed : Drawn) × IsChangedTo c.now figure.now drawing.old.drawing first changed × Misfits changed steps.now number) }
     ensures rest { OnOk result (IsAtRest drawing.new index.new) }
-    ensures ids { OnOk result (HasIdsBelow (first + length (drawn_between c.now)) drawing.new.drawing) }
+    ensures ids { OnOk result (HasIdsBelow (first + length figure.now.segments) drawing.new.drawing) }
 {
-    let fresh = prepare(alloc, drawing, index, first, c, ends)?;
+    let fresh = prepare(alloc, drawing, index, first, c, figure)?;
     // That the explicit points ascend is known where one is asked for.
     let _ascending = drawing.is_explicit(&Point::at(0, 0));
     Ok(settle_by(alloc, drawing, index, fresh, given)?)
@@ -55,13 +54,12 @@ fn prepare(
     index: &mut Index,
     first: u64,
     c: &Change,
-    ends: &[Ends],
+    figure: &Figure,
 ) -> Result<Vec<Segment>, NoMemory>
     requires rest { IsAtRest drawing.old index.old }
-    requires can { CanBeDrawn c.now drawing.old.drawing first }
-    requires ends { ends.now ≡ drawn_between c.now }
+    requires can { CanBeDrawn c.now figure.now drawing.old.drawing first }
     ensures { IfOk result (λ fresh.
-        IsPrepared c.now drawing.old.drawing first drawing.new index.new fresh.items) }
+        IsPrepared c.now figure.now drawing.old.drawing first drawing.new index.new fresh.items) }
 {
     match c {
         Change::Unpoint(p) => {
@@ -76,11 +74,9 @@ fn prepare(
             Ok(Vec::new(alloc))
         }
         _ => {
-            let points = points_marked(alloc, c)?;
-            let segments = segments_between(alloc, ends)?;
-            let mut fresh = mark_all(alloc, drawing, index, &points)?;
-            place_all(drawing, index, first, &segments)?;
-            fresh.extend_from_slice(&segments)?;
+            let mut fresh = mark_all(alloc, drawing, index, figure.points())?;
+            place_all(drawing, index, first, figure.segments())?;
+            fresh.extend_from_slice(figure.segments())?;
             Ok(fresh)
         }
     }

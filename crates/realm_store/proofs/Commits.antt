@@ -1,5 +1,5 @@
 -- This file shows what a commit makes of what is kept, and what it leaves of file A.
-use Rattle.std.proofs.Common.{◌≡◌, ◌≢◌, ◌<◌, ◌^◌, ℕ, ◌+◌, Bool, List, length, refl, sym, ◌∙◌, ap, subst}
+use Rattle.std.proofs.Common.{◌≡◌, ◌≢◌, ◌<◌, ◌^◌, ℕ, ◌+◌, ◌-◌, Bool, List, length, refl, sym, ◌∙◌, ap, subst, arith}
 use Rattle.std.specs.Prelude.{Result, Ok, Err, OnOk, IfOk, IsErr, IsErrOf}
 use Rattle.outside_world.specs.View.{View}
 use Rattle.grid_base.specs.declared.kinds.Step.{Step}
@@ -8,7 +8,6 @@ use Rattle.line_grammar.specs.Spellable.{IsSpellableChange}
 use Rattle.record_codec.specs.declared.record.Record.{Record}
 use Rattle.record_codec.specs.Spelling.{text_of}
 use Rattle.realm_insert.specs.State.{State}
-use Rattle.realm_insert.specs.Lines.{IsLet, drawn_between}
 use Rattle.realm_insert.specs.Next.{Next}
 use Rattle.realm_journal.specs.declared.error.JournalError.{JournalError}
 use Rattle.realm_store.specs.declared.error.CommitError.{CommitError}
@@ -16,7 +15,7 @@ use Rattle.realm_store.specs.declared.error.CommitError.TheVariants.{Disk, NoMem
 use Rattle.realm_store.specs.Leading.{Leads}
 use Rattle.realm_store.specs.Keeping.{Kept, SpendableKept, AllRest, with_state}
 use Rattle.realm_store.specs.Replies.{ok_reply}
-use Rattle.realm_store.specs.Making.{Makes, IsMade, next_gate, record_of, kept_behind}
+use Rattle.realm_store.specs.Making.{IsMade, next_gate, record_of, kept_behind}
 use Rattle.realm_store.specs.Committing.{Committed, IsWritten, Keeps, at_gate}
 
 -- the next gate is where the record ends
@@ -61,19 +60,18 @@ module _ {start : Kept} {spent : Bool} {self : SpendableKept} (is : record { kep
   after = kept_behind (with_state state start) new_record
 
   -- its record leads on
-  leads : IsSpellableChange c → (IsLet c → ⊥) → Leads start.state new_record state
-  leads spellable not_let = record {
+  leads : IsSpellableChange c → Leads start.state new_record state
+  leads spellable = record {
     number = next.changes;
     change = c;
     spellable = spellable;
     line = refl;
-    not_let = not_let;
     next = next;
   }
 
   -- the change is made of what is kept
   made_by : next_gate start.next < 2 ^ 61 → (reply : List ℕ)
-      → reply ≡ ok_reply state.changes (length steps) start.state.next_id (length (drawn_between c))
+      → reply ≡ ok_reply state.changes (length steps) start.state.next_id (state.next_id - start.state.next_id)
       → IsMade c self.kept reply after
   made_by room reply says = subst (λ (s : SpendableKept). IsMade c s.kept reply after) is (record {
     steps = steps;
@@ -86,22 +84,26 @@ module _ {start : Kept} {spent : Bool} {self : SpendableKept} (is : record { kep
     reply_is = says;
   })
 
-  pub made : next_gate start.next < 2 ^ 61 → (new : Kept) {first added : ℕ} (result : Result (List ℕ) CommitError) → OnOk result (new ≡ after)
-      → (first ≡ start.state.next_id) × (added ≡ length (drawn_between c))
+  pub made : next_gate start.next < 2 ^ 61 → (new : Kept) (first added : ℕ) (result : Result (List ℕ) CommitError)
+      → OnOk result (new ≡ after)
+      → (first ≡ start.state.next_id) × (start.state.next_id + added ≡ state.next_id)
       → IfOk result (λ reply. reply ≡ ok_reply state.changes (length steps) first added)
       → IfOk result (λ reply. IsMade c self.kept reply new)
-  made room new (Ok reply) kept numbers says = subst (λ k. IsMade c self.kept reply k) (sym kept)
-      (made_by room reply (says ∙ (λ i. ok_reply state.changes (length steps) (numbers.0 i) (numbers.1 i))))
-  made room new (Err e) kept numbers says = tt
+  made room new first added (Ok reply) kept numbers says =
+      let more = numbers.1 in
+      let count : added ≡ state.next_id - start.state.next_id = omega (arith, more) in
+      subst (λ k. IsMade c self.kept reply k) (sym kept)
+      (made_by room reply (says ∙ (λ i. ok_reply state.changes (length steps) (numbers.0 i) (count i))))
+  made room new first added (Err e) kept numbers says = tt
 
-  module _ (spellable : IsSpellableChange c) (not_let : IsLet c → ⊥) {Tells : Type 0} (v w : View) (rest : Tells → AllRest self.kept v)
+  module _ (spellable : IsSpellableChange c) {Tells : Type 0} (v w : View) (rest : Tells → AllRest self.kept v)
       (result : Result (List ℕ) CommitError)
       (told : Tells → (before : State) → AllRest (with_state before start) v → Leads before new_record state
       → Keeps v w (with_state before start) after result) where
     -- so the writing of that record leads on from what is kept
     kept_by : Tells → Keeps v w self.kept after result
     kept_by t = subst (λ (s : SpendableKept). Keeps v w s.kept after result) is
-        (told t start.state (subst (λ (s : SpendableKept). AllRest s.kept v) (sym is) (rest t)) (leads spellable not_let))
+        (told t start.state (subst (λ (s : SpendableKept). AllRest s.kept v) (sym is) (rest t)) (leads spellable))
 
     pub rests : (new : Kept) → OnOk result (new ≡ after) → OnOk result (Tells → AllRest new w)
     rests new kept = on_ok_both result kept kept_by
@@ -123,5 +125,5 @@ module _ {start : Kept} {spent : Bool} {self : SpendableKept} (is : record { kep
     pub cut_off : next_gate start.next < 2 ^ 61 → IsErrOf result Disk → Tells
         → (reply : List ℕ) × (k : Kept) × IsMade c self.kept reply k × IsWritten v w self.kept k
     cut_off room failed t =
-        let reply = ok_reply state.changes (length steps) start.state.next_id (length (drawn_between c)) in
+        let reply = ok_reply state.changes (length steps) start.state.next_id (state.next_id - start.state.next_id) in
         (reply, after, made_by room reply refl, (kept_by t).written (disk_not_memory result failed))

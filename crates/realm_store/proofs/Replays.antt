@@ -42,7 +42,6 @@ module _ {state : State} {r : Record} {c : Change} (of_line : IsReplayable r.lin
     change = c;
     spellable = of_line.spellable;
     line = of_line.is_text;
-    not_let = of_line.not_let;
     next = subst (λ l. Next state c l engine.state) is next;
   })
 

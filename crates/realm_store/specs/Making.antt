@@ -1,11 +1,10 @@
 -- What a change makes of what is kept of the files, and what it is answered.
-use Rattle.std.specs.Prelude.{◌≡◌, ◌⊎◌, ◌+◌, ◌<◌, ◌≤◌, ◌^◌, ℕ, true, List, length, Option, Some, None}
+use Rattle.std.specs.Prelude.{◌≡◌, ◌⊎◌, ◌+◌, ◌-◌, ◌<◌, ◌≤◌, ◌^◌, ℕ, true, List, length, Option, Some, None}
 use Rattle.grid_base.specs.declared.kinds.Step.{Step}
 use Rattle.line_grammar.specs.declared.command.Change.{Change}
 use Rattle.line_grammar.specs.Spelling.{change_text}
 use Rattle.record_codec.specs.declared.record.Record.{Record}
 use Rattle.record_codec.specs.Spelling.{text_of}
-use Rattle.realm_insert.specs.Lines.{drawn_between}
 use Rattle.realm_insert.specs.Next.{Next}
 use Rattle.realm_insert.specs.Refusals.{IsAccepted, IsRefusedBy}
 use Rattle.realm_insert.specs.declared.refusal.Refusal.{Refusal}
@@ -43,7 +42,7 @@ pub record Makes (c : Change) (steps : List Step) (old new : Kept) : Type 0 wher
 pub record IsMade (c : Change) (old : Kept) (reply : List ℕ) (new : Kept) : Type 0 where
   pub steps : List Step
   pub makes : Makes c steps old new
-  pub reply_is : reply ≡ ok_reply new.state.changes (length steps) old.state.next_id (length (drawn_between c))
+  pub reply_is : reply ≡ ok_reply new.state.changes (length steps) old.state.next_id (new.state.next_id - old.state.next_id)
 
 -- no record more may be written: the place of its gate would be too far
 abbrev pub IsFull : Kept → Type 0

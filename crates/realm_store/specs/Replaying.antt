@@ -4,15 +4,13 @@ use Rattle.line_grammar.specs.declared.command.Change.{Change}
 use Rattle.line_grammar.specs.Spelling.{change_text}
 use Rattle.line_grammar.specs.Spellable.{IsSpellableChange}
 use Rattle.record_codec.specs.declared.record.Record.{Record}
-use Rattle.realm_insert.specs.Lines.{IsLet}
 use Rattle.realm_insert.specs.State.{State, SpendableState}
 use Rattle.realm_store.specs.Leading.{Leads}
 
--- the line is the text of the change, which is made by no operator
+-- the line is the text of the change
 pub record IsReplayable (line : List ℕ) (change : Change) : Type 0 where
   pub spellable : IsSpellableChange change
   pub is_text : line ≡ change_text change
-  pub not_let : IsLet change → ⊥
 
 -- each of these records leads on, from the first state to the second
 abbrev pub LeadOn : State → List Record → State → Type 0

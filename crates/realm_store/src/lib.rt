@@ -11,11 +11,7 @@ mod laws;
 mod opening;
 mod replaying;
 mod replies;
-#[cfg(test)]
-mod start_tests;
 mod store;
-#[cfg(test)]
-mod tests;
 mod writing;
 
 pub use damage::Damage;

@@ -4,12 +4,11 @@ ghost use Rattle.std.specs.Prelude.{◌≡◌, ◌+◌, false, IfOk, MatchOption
 ghost use Rattle.line_grammar.specs.declared.command.Change.{Change as Seen};
 ghost use Rattle.line_grammar.specs.Spelling.{change_text};
 ghost use Rattle.line_grammar.specs.Spellable.{IsSpellableChange};
-ghost use Rattle.realm_insert.specs.Lines.{IsLet};
 ghost use Rattle.realm_store.specs.Replaying.{Remade, Replayed, IsReplayable};
 
 use grid_base::NoMemory;
 use line_grammar::{Change, Command, LineError, read_line};
-use realm_insert::{Engine, ReplayError, is_let};
+use realm_insert::{Engine, ReplayError};
 use record_codec::Record;
 use std::alloc::Global;
 use std::thread::Threads;
@@ -71,13 +70,13 @@ fn remake<R: Threads + Sync>(
     }
 }
 
-// The change of which the line is the text; none where it is the text of none, or of one by an operator.
+// The change of which the line is the text; none where it is the text of none.
 fn replayable(alloc: Global, line: &[u8]) -> Result<Option<Change>, NoMemory>
     ensures { IfOk result (λ found. MatchOption found
         ((change : Seen) → IsReplayable line.now change → ⊥) (λ change. IsReplayable line.now change)) }
 {
     match read_line(alloc, line) {
-        Ok(Command::Change(change)) => Ok(if is_let(&change) { None } else { Some(change) }),
+        Ok(Command::Change(change)) => Ok(Some(change)),
         Ok(_) => Ok(None),
         Err(LineError::Bad { .. }) => Ok(None),
         Err(LineError::NoMemory) => Err(NoMemory),

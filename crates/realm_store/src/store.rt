@@ -4,7 +4,6 @@ ghost use Rattle.outside_world.specs.Counts.{Rose};
 ghost use Rattle.outside_world.specs.GoesOn.{GoesOn};
 ghost use Rattle.line_grammar.specs.Spelling.{change_text};
 ghost use Rattle.line_grammar.specs.Spellable.{IsSpellableChange};
-ghost use Rattle.realm_insert.specs.Lines.{IsLet};
 ghost use Rattle.realm_insert.specs.declared.refusal.Refusal.{Refusal as Word};
 ghost use Rattle.realm_insert.specs.State.{State};
 ghost use Rattle.realm_store.specs.Leading.{Leads};
@@ -110,7 +109,6 @@ impl Store {
     ) -> Result<Reply, CommitError>
         requires ready { self.old.spent ≡ false }
         requires spellable { IsSpellableChange c.now }
-        requires not_let { IsLet c.now → ⊥ }
         requires short { length (change_text c.now) ≤ 2 ^ 20 }
         requires rest { W.tells world.old → AllRest self.old.kept (W.view world.old) }
         ensures made { IfOk result (λ reply. IsMade c.now self.old.kept reply self.new.kept) }
@@ -146,7 +144,6 @@ impl Store {
     fn refuse_full<R: Threads + Sync>(&mut self, rt: &R, c: &Change) -> CommitError
         requires ready { self.old.spent ≡ false }
         requires spellable { IsSpellableChange c.now }
-        requires not_let { IsLet c.now → ⊥ }
         requires full { IsFull self.old.kept }
         ensures refused { (word : Word) → result ≡ CommitError.Refused word
             → IsRefusedFor c.now self.old.kept word × (self.new ≡ self.old) }

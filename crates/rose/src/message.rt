@@ -42,7 +42,7 @@ pub(crate) fn letter_of(file: FileName) -> &'static str {
 pub(crate) fn message_of(status: Status) -> Option<&'static str> {
     match status {
         Status::Done | Status::Damaged(_) => None,
-        Status::Usage => Some("rose: usage: rose run"),
+        Status::Usage => Some("rose: usage: rose run | rose check | rose gen N START"),
         Status::SourceFault => Some("rose: source fault"),
         Status::SinkFault => Some("rose: sink fault"),
         Status::DiskFault => Some("rose: disk fault"),

@@ -1,12 +1,14 @@
 //! What the program does in a world, and the number that it ends with.
-ghost use Rattle.std.specs.Prelude.{◌≡◌, ◌≢◌, ◌↔◌, IsOk, IfOk, IsErrOf, map, string_bytes};
+ghost use Rattle.std.specs.Prelude.{◌≡◌, ◌↔◌, IfOk, IsErrOf, map, string_bytes};
 ghost use Rattle.std.specs.Process.{exit_status};
 ghost use Rattle.outside_world.specs.Counts.{Rose};
 ghost use Rattle.outside_world.specs.GoesOn.{GoesOn};
 ghost use Rattle.outside_world.specs.declared.world.FileName.TheVariants.{A};
 ghost use Rattle.realm_store.specs.Damages.{IsDamaged};
 ghost use Rattle.realm_store.specs.declared.damage.Damage.{Damage};
-ghost use Rattle.rose_shell.specs.Running.{IsRunWord, HasRun};
+ghost use Rattle.command_words.specs.Written.{IsWritten, IsNoCommand};
+ghost use Rattle.command_words.specs.declared.word.Word.{Word};
+ghost use Rattle.rose_shell.specs.Telling.{HasDone};
 ghost use Rattle.rose_shell.specs.Status.{number_of};
 
 use crate::words::WordsError;
@@ -26,9 +28,9 @@ pub(crate) fn perform<R: Threads + Sync, W: Outside>(
     ensures not_text { IsErrOf words WordsError.NotText → result ≡ Status.Usage }
     ensures no_memory { IsErrOf words WordsError.NoMemory → result ≡ Status.NoMemory }
     ensures usage { IfOk words
-        (λ known. result ≡ Status.Usage ↔ (IsRunWord (map string_bytes known.items) → ⊥)) }
-    ensures told { IsOk words → result ≢ Status.Usage → W.tells world.new
-        → HasRun (W.view world.old) (W.view world.new) result }
+        (λ known. result ≡ Status.Usage ↔ IsNoCommand (map string_bytes known.items)) }
+    ensures told { IfOk words (λ known. (command : Word) → IsWritten (map string_bytes known.items) command
+        → W.tells world.new → HasDone command (W.view world.old) (W.view world.new) result) }
     ensures source_fault { result ≡ Status.SourceFault
         → Rose (W.source_faults world.old) (W.source_faults world.new) }
     ensures sink_fault { result ≡ Status.SinkFault

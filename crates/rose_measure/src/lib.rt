@@ -1,11 +1,17 @@
-//! Numbers of values: squared distances.
-//! Begin at `dist2` and `diameter2`. Nothing here takes memory.
+//! Numbers of values: squared distances, twice the area of a region, and how many components there are.
+//! Begin at `dist2`, `diameter2`, `area2` and `components`.
 #![tactic(auto)]
 
+mod areas;
+mod counting;
 mod distances;
+#[cfg(test)]
+mod regions_tests;
 #[cfg(test)]
 mod tests;
 mod widths;
 
+pub use areas::area2;
+pub use counting::components;
 pub use distances::dist2;
 pub use widths::diameter2;

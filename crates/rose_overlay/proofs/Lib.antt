@@ -40,3 +40,5 @@ pub mod Outcomes
 pub mod OneRegion
 -- segments that are apart are those of a realm
 pub mod Noding
+-- told sides of the segments of a list
+pub mod ToldSides

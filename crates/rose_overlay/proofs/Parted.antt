@@ -20,33 +20,15 @@ use Rattle.side_parity.proofs.Parities.{count_by_odd, odd_by_count}
 use Rattle.side_parity.proofs.Pictures.{meet_noded}
 use Rattle.side_parity.proofs.Regions.{is_odd}
 use Rattle.side_parity.proofs.SidesBy.{IsSound}
+pub use Rattle.plane_sweep.proofs.Parts.{noded_part}
 use Rattle.rose_overlay.specs.Parting.{AreOrdered, HasParting, IsParting, says}
 use Rattle.rose_overlay.proofs.Made.{IsKept, kept_has_places, kept_is_even, sound_among, with_one}
 use Rattle.rose_overlay.proofs.Sorts.{counted}
 
 -- ---- fewer segments of a realm
-any_more : (P : GridSegment → Type 0) (L M : List GridSegment)
-    → ((s : GridSegment) → Contains M s → Contains L s) → Any P M → Any P L
-any_more P L M part (k, s, h, e, p) = let c = part s (k, h, e) in (c.0, s, c.1, c.2, p)
-
-any_of : (P : GridSegment → Type 0) (L : List GridSegment) (s : GridSegment) → Contains L s → P s → Any P L
-any_of P L s (k, h, e) p = (k, s, h, e, p)
-
-pub noded_part : (L M : List GridSegment) → ((s : GridSegment) → Contains M s → Contains L s) → AreNoded L
-    → AreNoded M
-noded_part L M part noded = record {
-  ends_are_points = λ s c. (any_of (IsEnd s.a) M s c (inl refl), any_of (IsEnd s.b) M s c (inr refl));
-  no_point_inside = λ p s e c. noded.no_point_inside p s (any_more (IsEnd p) L M part e) (part s c);
-  only_ends_in_common = λ s t q hs ht. noded.only_ends_in_common s t q (part s hs) (part t ht);
-}
-
 pub noded_first : (A B : List GridSegment) (s : GridSegment) → AreNoded (A ++ B) → Contains (A ++ B) s
     → AreNoded (s ∷ A)
 noded_first A B s noded there = noded_part (A ++ B) (s ∷ A) (with_one (A ++ B) A s there (Contains-append_left A B)) noded
-
-pub noded_second : (A B : List GridSegment) (s : GridSegment) → AreNoded (A ++ B) → Contains (A ++ B) s
-    → AreNoded (s ∷ B)
-noded_second A B s noded there = noded_part (A ++ B) (s ∷ B) (with_one (A ++ B) B s there (Contains-append_right A B)) noded
 
 -- ---- the sides are those of the middle
 pub left_told : (B : List GridSegment) (s : GridSegment) (answer : Bool) → IsSound B s
@@ -96,13 +78,13 @@ pub record AreBorders (A B : List GridSegment) : Type 0 where
   pub ordered_first : AllByRecursion (λ t. IsBefore t.a t.b) A
   pub ordered_second : AllByRecursion (λ t. IsBefore t.a t.b) B
 
-sound_first : (A B : List GridSegment) (s : GridSegment) → AreBorders A B → Contains (A ++ B) s
+pub sound_first : (A B : List GridSegment) (s : GridSegment) → AreBorders A B → Contains (A ++ B) s
     → IsSound A s
 sound_first A B s h c =
     sound_among (A ++ B) A s (meet_noded (A ++ B) h.noded) c (ordered_in_both A B s h.ordered_first h.ordered_second c)
     (Contains-append_left A B) h.ordered_first h.even_first
 
-sound_second : (A B : List GridSegment) (s : GridSegment) → AreBorders A B → Contains (A ++ B) s
+pub sound_second : (A B : List GridSegment) (s : GridSegment) → AreBorders A B → Contains (A ++ B) s
     → IsSound B s
 sound_second A B s h c =
     sound_among (A ++ B) B s (meet_noded (A ++ B) h.noded) c (ordered_in_both A B s h.ordered_first h.ordered_second c)
@@ -155,7 +137,7 @@ pub parting_is_even : (op : Op) (A B C : List GridSegment) → AreBorders A B �
     → HasParting op A B C → IsEvenBorder C
 parting_is_even op A B C h ascending parting = kept_is_even (says op) A B C (kept_by op A B C h ascending parting)
 
-both_true : (a b : Bool) → (a && b) ≡ true → (a ≡ true) × (b ≡ true)
+pub both_true : (a b : Bool) → (a && b) ≡ true → (a ≡ true) × (b ≡ true)
 both_true true true h = (refl, refl)
 both_true true false h = cc
 both_true false b h = cc
@@ -165,7 +147,7 @@ first_true true true h = cc
 first_true true false h = (refl, λ e. true≢false (sym e))
 first_true false b h = cc
 
-either_true : (a b : Bool) → (a || b) ≡ true → (a ≡ true) ⊎ (b ≡ true)
+pub either_true : (a b : Bool) → (a || b) ≡ true → (a ≡ true) ⊎ (b ≡ true)
 either_true true b h = inl refl
 either_true false true h = inr refl
 either_true false false h = cc
@@ -174,13 +156,13 @@ not_true : (b : Bool) → (b ≡ true → ⊥) → not b ≡ true
 not_true true h = absurd (h refl)
 not_true false h = refl
 
-says_both : (a b : Bool) → a ≡ true → b ≡ true → (a && b) ≡ true
+pub says_both : (a b : Bool) → a ≡ true → b ≡ true → (a && b) ≡ true
 says_both a b h k = rw (h, k) refl
 
-says_first : (a b : Bool) → a ≡ true → (a || b) ≡ true
+pub says_first : (a b : Bool) → a ≡ true → (a || b) ≡ true
 says_first a b h = rw h refl
 
-says_second : (a b : Bool) → b ≡ true → (a || b) ≡ true
+pub says_second : (a b : Bool) → b ≡ true → (a || b) ≡ true
 says_second true b h = refl
 says_second false b h = h
 

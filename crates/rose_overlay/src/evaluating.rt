@@ -15,13 +15,14 @@ ghost use Rattle.rose_values.specs.declared.operators.Op.TheVariants.{Interior};
 ghost use Rattle.rose_overlay.specs.declared.evaluating.EvalError.TheVariants.{WrongTypes};
 ghost use Rattle.rose_overlay.specs.declared.evaluating.EvalError.TheVariants.{NoMemory as Exhausted};
 
-use crate::areas::combination;
-use crate::ends::{ends, meetings};
+use crate::areas::combination_by;
 use crate::listing::{ascending_points, ascending_segments};
+use crate::lying::within_by;
 use crate::members::{
     all_points, all_segments, common_points, common_segments, first_points, first_segments,
 };
-use crate::within::within;
+use crate::telling::{Alone, Teller, Together};
+use crate::vertices::{ends, meetings};
 use grid_base::{NoMemory, Point, Segment};
 use rose_values::{Geometry, LinesValue, Op, PointsValue, RegionsValue};
 use std::alloc::Global;
@@ -49,7 +50,7 @@ impl From<NoMemory> for EvalError {
 /// What the operator makes of one value or of two, in this order. Their segments together are those of one
 /// realm, as those of one drawing are. `Op::Interior`, which needs cells, isn't answered here.
 pub fn evaluate<R: Threads + Sync>(
-    _rt: &R,
+    rt: &R,
     alloc: Global,
     op: Op,
     a: &Geometry,
@@ -61,7 +62,7 @@ pub fn evaluate<R: Threads + Sync>(
     ensures wrong_types { (result ≡ Err WrongTypes)
         ↔ (result_kind_of op (kind_of a.now) (option_map kind_of (option_copied b.entry)) ≡ None) }
 {
-    evaluate_alone(alloc, op, a, b)
+    evaluate_by(&Together { rt }, alloc, op, a, b)
 }
 
 /// The same on one thread.
@@ -77,9 +78,27 @@ pub fn evaluate_alone(
     ensures wrong_types { (result ≡ Err WrongTypes)
         ↔ (result_kind_of op (kind_of a.now) (option_map kind_of (option_copied b.entry)) ≡ None) }
 {
+    evaluate_by(&Alone, alloc, op, a, b)
+}
+
+// The same, with sides as they are told.
+fn evaluate_by<T: Teller>(
+    teller: &T,
+    alloc: Global,
+    op: Op,
+    a: &Geometry,
+    b: Option<&Geometry>,
+) -> Result<Geometry, EvalError>
+    requires ready { T.ready teller.now }
+    requires not_interior { op ≢ Interior }
+    requires noded { AreNoded (segments_of a.now ++ segments_of_second (option_copied b)) }
+    ensures made { IfOk result (λ g. IsMadeOf op a.now (option_copied b.entry) g) }
+    ensures wrong_types { (result ≡ Err WrongTypes)
+        ↔ (result_kind_of op (kind_of a.now) (option_map kind_of (option_copied b.entry)) ≡ None) }
+{
     match b {
         None => made_of_one(alloc, op, a),
-        Some(b) => made_of_two(alloc, op, a, b),
+        Some(b) => made_of_two(teller, alloc, op, a, b),
     }
 }
 
@@ -98,7 +117,14 @@ fn made_of_one(alloc: Global, op: Op, only: &Geometry) -> Result<Geometry, EvalE
 }
 
 // What the operator makes of two values.
-fn made_of_two(alloc: Global, op: Op, a: &Geometry, b: &Geometry) -> Result<Geometry, EvalError>
+fn made_of_two<T: Teller>(
+    teller: &T,
+    alloc: Global,
+    op: Op,
+    a: &Geometry,
+    b: &Geometry,
+) -> Result<Geometry, EvalError>
+    requires ready { T.ready teller.now }
     requires noded { AreNoded (segments_of a.now ++ segments_of b.now) }
     ensures made { IfOk result (λ g. IsMadeOfTwo op a.now b.now g) }
     ensures wrong_types { (result ≡ Err WrongTypes)
@@ -107,8 +133,8 @@ fn made_of_two(alloc: Global, op: Op, a: &Geometry, b: &Geometry) -> Result<Geom
     match (a, b) {
         (Geometry::P(a), Geometry::P(b)) => made_of_points(alloc, op, a, b),
         (Geometry::L(a), Geometry::L(b)) => made_of_lines(alloc, op, a, b),
-        (Geometry::R(a), Geometry::R(b)) => made_of_regions(alloc, op, a, b),
-        (Geometry::R(region), Geometry::L(lines)) => made_within(alloc, op, region, lines),
+        (Geometry::R(a), Geometry::R(b)) => made_of_regions(teller, alloc, op, a, b),
+        (Geometry::R(region), Geometry::L(lines)) => made_within(teller, alloc, op, region, lines),
         _ => Err(EvalError::WrongTypes),
     }
 }
@@ -151,36 +177,43 @@ fn made_of_lines(
     }
 }
 
-fn made_of_regions(
+fn made_of_regions<T: Teller>(
+    teller: &T,
     alloc: Global,
     op: Op,
     a: &RegionsValue,
     b: &RegionsValue,
 ) -> Result<Geometry, EvalError>
+    requires ready { T.ready teller.now }
     requires noded { AreNoded (a.now ++ b.now) }
     ensures made { IfOk result (λ g. IsMadeOfTwo op (R a.now) (R b.now) g) }
     ensures wrong_types { (result ≡ Err WrongTypes) ↔ (kind_from_two op Regions Regions ≡ None) }
 {
     let (a, b) = (a.segments(), b.segments());
     match op {
-        Op::Intersection | Op::Plus | Op::Minus => Ok(Geometry::R(combination(alloc, op, a, b)?)),
+        Op::Intersection | Op::Plus | Op::Minus => Ok(Geometry::R(combination_by(
+            teller, alloc, op, a, b,
+        )?)),
         Op::CommonBorder => Ok(Geometry::L(lines(common_segments(alloc, a, b)?))),
         _ => Err(EvalError::WrongTypes),
     }
 }
 
-fn made_within(
+fn made_within<T: Teller>(
+    teller: &T,
     alloc: Global,
     op: Op,
     region: &RegionsValue,
     list: &LinesValue,
 ) -> Result<Geometry, EvalError>
+    requires ready { T.ready teller.now }
     requires noded { AreNoded (region.now ++ list.now) }
     ensures made { IfOk result (λ g. IsMadeOfTwo op (R region.now) (L list.now) g) }
     ensures wrong_types { (result ≡ Err WrongTypes) ↔ (kind_from_two op Regions Lines ≡ None) }
 {
     match op {
-        Op::Intersection => Ok(Geometry::L(lines(within(
+        Op::Intersection => Ok(Geometry::L(lines(within_by(
+            teller,
             alloc,
             region.segments(),
             list.segments(),

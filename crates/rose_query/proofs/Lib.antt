@@ -1,6 +1,10 @@
 -- a value that has a geometry is shown by it
 mod ValueAnswers
--- the values that an operator takes
-mod Operands
 -- what is told of an operator's result
 mod Results
+-- what is said of the kinds of values by their names
+mod NamedKinds
+-- no point of a value is inside a segment of one
+mod DrawnOperands
+-- what is told of a predicate or a number
+mod Told

@@ -3,10 +3,11 @@ use Rattle.std.proofs.Common.{◌≡◌, refl, sym, subst, ℕ, List, Option, So
 use Rattle.rose_values.specs.declared.geometry.Geometry.{Geometry}
 use Rattle.value_table.specs.declared.value.Value.{Value}
 use Rattle.realm_insert.specs.State.{State}
+use Rattle.rose_operators.specs.Results.{IsAscending}
 use Rattle.realm_insert.specs.Values.{IsGeometryNamed}
 use Rattle.line_grammar.specs.declared.command.Query.TheVariants.{Show}
 use Rattle.rose_query.specs.Replies.{value_reply}
-use Rattle.rose_query.specs.Answers.{AnswersQuery, IsAscending}
+use Rattle.rose_query.specs.Answers.{AnswersQuery}
 
 -- the name is a value's, and its geometry is listed
 pub value_shown : {name : List ℕ} {state : State} {reply : List ℕ} (geometry : Geometry)

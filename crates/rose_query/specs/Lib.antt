@@ -1,6 +1,12 @@
 -- the bytes of each reply
 pub mod Replies
+-- replies in a state, and causes to refuse a query
+pub mod Causes
+-- what predicates and numbers of values are answered
+pub mod Asking
 -- what each query is answered
 pub mod Answers
--- what is told of a result, for this crate's own proofs
+-- what is told of an operator's result, for this crate's own proofs
 pub mod Results
+-- what is told of a predicate and of a number, for this crate's own proofs
+pub mod Told

@@ -1,5 +1,5 @@
 -- The bytes of each reply. Numbers are written in decimal digits, and each line ends with a line feed.
-use Rattle.std.specs.Prelude.{ℕ, List, [], ◌∷◌, ◌++◌, length, codes}
+use Rattle.std.specs.Prelude.{ℕ, Bool, true, false, List, [], ◌∷◌, ◌++◌, length, codes, Option, Some, None}
 use Rattle.std.specs.List.{flat_map}
 use Rattle.std.specs.Fmt.{decimal}
 use Rattle.grid_base.specs.Point.{GridPoint}
@@ -99,3 +99,13 @@ value_reply (R border) = segments_reply (codes "regions") border
 -- how many steps a trace has, and a line for each in order
 abbrev pub trace_reply : List Step → List ℕ
 trace_reply steps = codes "trace " ++ (decimal (length steps) ++ (line_feed ++ flat_map step_line steps))
+
+-- whether a predicate is true
+abbrev pub truth_reply : Bool → List ℕ
+truth_reply true = codes "true" ++ line_feed
+truth_reply false = codes "false" ++ line_feed
+
+-- a number, or that there is none
+abbrev pub number_reply : Option ℕ → List ℕ
+number_reply None = codes "num none" ++ line_feed
+number_reply (Some n) = codes "num " ++ (decimal n ++ line_feed)

@@ -3,9 +3,9 @@ use Rattle.std.specs.Prelude.{◌≡◌, ℕ, List, Result, Ok, Err}
 use Rattle.rose_values.specs.declared.geometry.Geometry.{Geometry}
 use Rattle.rose_overlay.specs.declared.evaluating.EvalError.{EvalError}
 use Rattle.rose_overlay.specs.declared.evaluating.EvalError.TheVariants.{WrongTypes, NoMemory}
+use Rattle.rose_operators.specs.Results.{IsAscending}
 use Rattle.realm_insert.specs.declared.refusal.Refusal.TheVariants.{Types}
 use Rattle.rose_query.specs.Replies.{no_reply, value_reply}
-use Rattle.rose_query.specs.Answers.{IsAscending}
 
 -- the reply lists the result, or says that the operator doesn't take the values
 abbrev pub TellsResult : Result Geometry EvalError → List ℕ → Type 0

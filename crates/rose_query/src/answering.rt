@@ -4,7 +4,9 @@ ghost use Rattle.realm_drawing.specs.Ids.{LacksId, IsChainOf};
 ghost use Rattle.line_grammar.specs.declared.command.Query.TheVariants.{Realm, Show, Chain, Trace};
 ghost use Rattle.rose_query.specs.Answers.{AnswersQuery};
 
+use crate::asking::show_truth;
 use crate::evaluating::{show_made, show_made_alone};
+use crate::measuring::show_number;
 use crate::printing::{list_chain, list_realm, list_trace, list_value};
 use crate::refusals::{refuse, refuse_name, refuse_unbuilt};
 use grid_base::{NoMemory, Point, Reply};
@@ -44,7 +46,9 @@ pub fn answer_alone(alloc: Global, state: &Engine, q: &Query) -> Result<Reply, N
             show_made_alone(alloc, state, *op, first, second.as_ref())
         }
         Query::Trace(number) => show_trace(alloc, state, *number),
-        Query::Ask(..) | Query::Num(..) | Query::Faces(_) => refuse_unbuilt(alloc),
+        Query::Ask(pred, first, second) => show_truth(alloc, state, *pred, first, second),
+        Query::Num(num, first, second) => show_number(alloc, state, *num, first, second.as_ref()),
+        Query::Faces(_) => refuse_unbuilt(alloc),
     }
 }
 

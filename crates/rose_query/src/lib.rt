@@ -3,11 +3,11 @@
 #![tactic(auto)]
 
 mod answering;
+mod asking;
 mod evaluating;
+mod measuring;
 mod printing;
 mod refusals;
-#[cfg(test)]
-mod tests;
 
 pub use answering::{answer, answer_alone};
 pub use refusals::{refuse, refuse_unbuilt};

@@ -1,10 +1,10 @@
 //! Replies are written number by number with std's own formatting, whose text is exact.
 ghost use Rattle.std.specs.Prelude.{◌≡◌, ◌++◌, IfOk, OnOk, string_bytes, codes};
 ghost use Rattle.std.specs.List.{flat_map};
-ghost use Rattle.rose_query.specs.Answers.{IsAscending};
+ghost use Rattle.rose_operators.specs.Results.{IsAscending};
 ghost use Rattle.rose_query.specs.Replies.{realm_reply, chain_reply, value_reply, trace_reply};
 ghost use Rattle.rose_query.specs.Replies.{points_reply, segments_reply, point_line, segment_line, step_line};
-ghost use Rattle.rose_query.specs.Replies.{point_text, ends_text};
+ghost use Rattle.rose_query.specs.Replies.{point_text, ends_text, truth_reply, number_reply};
 ghost use Rattle.grid_base.specs.declared.kinds.Step.TheVariants.{Split, Meet, Corner};
 
 use grid_base::{NoMemory, Point, Reply, Segment, Step};
@@ -52,6 +52,29 @@ pub(crate) fn list_trace(alloc: Global, steps: &[Step]) -> Result<Reply, NoMemor
     let count = steps.len();
     let mut text = format!(in alloc; "trace {count}\n")?;
     push_step_lines(&mut text, steps)?;
+    Ok(Reply::new(text.into_bytes()))
+}
+
+/// The reply to `ask`.
+pub(crate) fn list_truth(alloc: Global, answer: bool) -> Result<Reply, NoMemory>
+    ensures { IfOk result (λ reply. reply ≡ truth_reply answer) }
+{
+    let text = if answer {
+        format!(in alloc; "true\n")?
+    } else {
+        format!(in alloc; "false\n")?
+    };
+    Ok(Reply::new(text.into_bytes()))
+}
+
+/// The reply to `num`.
+pub(crate) fn list_number(alloc: Global, number: Option<u128>) -> Result<Reply, NoMemory>
+    ensures { IfOk result (λ reply. reply ≡ number_reply number) }
+{
+    let text = match number {
+        Some(n) => format!(in alloc; "num {n}\n")?,
+        None => format!(in alloc; "num none\n")?,
+    };
     Ok(Reply::new(text.into_bytes()))
 }
 

@@ -2,8 +2,6 @@
 mod Traces
 -- what the store answers to a change is an answer to its line
 mod ChangeAnswers
--- a value that has a geometry is shown by it
-mod ValueAnswers
 -- a store keeps its terms at the desk
 mod Stores
 -- an answer is one step
@@ -38,3 +36,5 @@ mod Sessions
 mod Openings
 -- how a run ends that counts no fault
 mod Rises
+-- lines that are given after nothing but questions of the files
+mod Tellings

@@ -1,11 +1,10 @@
 -- This file shows that an answer is one step: what is kept stays, or one change more was accepted, which leaves no violation.
-use Rattle.std.proofs.Common.{◌≡◌, ◌⊎◌, inl, inr, ℕ, ◌+◌, ◌<◌, true, List, [], ◌∷◌, ◌++◌, length, codes}
+use Rattle.std.proofs.Common.{◌≡◌, ◌⊎◌, inl, inr, ℕ, ◌+◌, ◌-◌, ◌<◌, true, List, [], ◌∷◌, ◌++◌, length, codes}
 use Rattle.std.proofs.Common.{refl, sym, subst, arith, length-append}
 use Rattle.std.specs.Fmt.{decimal}
 use Rattle.grid_base.specs.Drawing.{HasViolation}
 use Rattle.line_grammar.specs.declared.command.Command.TheVariants as commands
 use Rattle.line_grammar.specs.declared.command.Change.{Change}
-use Rattle.realm_insert.specs.Lines.{drawn_between}
 use Rattle.realm_store.specs.Keeping.{Kept}
 use Rattle.realm_store.specs.Making.{IsMade}
 use Rattle.realm_store.specs.Replies.{ok_reply}
@@ -40,18 +39,14 @@ made_steps c old reply new (inr made) =
     inr record {
       changes = next.changes;
       has_reply = subst (λ (l : List ℕ). 0 < length l) (sym made.reply_is)
-          (reply_has_bytes new.state.changes (length made.steps) old.state.next_id (length (drawn_between c)));
+          (reply_has_bytes new.state.changes (length made.steps) old.state.next_id (new.state.next_id - old.state.next_id));
       settled = settled_by next.changed made.steps new.state.drawing next.settles;
       has_gate = made.makes.has_gate;
     }
 
-change_steps : (c : Change) (old : Kept) (reply : List ℕ) (new : Kept) → AnswersChange c old reply new → IsOneStep old reply new
-change_steps c old reply new (inl later) = inl later.1.kept_stays
-change_steps c old reply new (inr answered) = made_steps c old reply new answered.1
-
 command_steps : (c : commands.the_data) (old : Kept) (reply : List ℕ) (new : Kept) → AnswersCommand c old reply new
     → IsOneStep old reply new
-command_steps (commands.Change c) old reply new answered = change_steps c old reply new answered
+command_steps (commands.Change c) old reply new answered = made_steps c old reply new answered
 command_steps (commands.Query q) old reply new answered = inl answered.1
 command_steps c old reply new later = inl later.kept_stays
 

@@ -9,7 +9,6 @@ use Rattle.line_grammar.specs.Spelling.{change_text}
 use Rattle.line_grammar.specs.Spellable.{IsSpellableChange}
 use Rattle.line_grammar.specs.declared.command.Change.{Change}
 use Rattle.line_grammar.specs.declared.command.Command.TheVariants as commands
-use Rattle.realm_insert.specs.Lines.{IsLet}
 use Rattle.realm_store.specs.Keeping.{Kept, SpendableKept, AllRest as RestsInA}
 use Rattle.realm_store.specs.Making.{IsMade}
 use Rattle.realm_store.specs.Committing.{IsWritten}
@@ -86,9 +85,9 @@ change_written {start = start} written rest = record {
 
 -- or the disk failed meanwhile
 pub change_cut_off : {old new : View} {start end : SpendableKept} {reply : List ℕ} {after : Kept} (c : Change)
-    → IsSpellableChange c → (IsLet c → ⊥) → start.spent ≡ false → IsMade c start.kept reply after
+    → IsSpellableChange c → start.spent ≡ false → IsMade c start.kept reply after
     → IsWritten old new start.kept after → Answered StoreTerms old new start end (change_text c) (Err Disk)
-change_cut_off {start = start} {reply = reply} {after} c spellable other ready made written = record {
+change_cut_off {start = start} {reply = reply} {after} c spellable ready made written = record {
   takes = written.takes;
   given = written.given;
   rest = tt;
@@ -100,7 +99,7 @@ change_cut_off {start = start} {reply = reply} {after} c spellable other ready m
     answer = record {
       was_ready = ready;
       is_ready = refl;
-      outcome = inl (commands.Change c, (spellable, refl), inr (other, inr made));
+      outcome = inl (commands.Change c, (spellable, refl), inr made);
     };
     may_write = (c, (spellable, refl));
     crash = only_wider written.crash (λ m is. (is.0, either_stands start.kept.has_gate _ _ _ is.1));

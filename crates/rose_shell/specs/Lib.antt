@@ -2,7 +2,7 @@
 pub mod Status
 -- bytes, cut into lines
 pub mod Lines
--- the bytes of each reply
+-- the reply to a line that is no command's text
 pub mod Replies
 -- what each line is answered
 pub mod Answers
@@ -16,5 +16,7 @@ pub mod Session
 pub mod Prefixes
 -- a part of a run
 pub mod Loop
--- what `run` and `serve` promise
+-- what is promised of the word `run`, and of `serve`
 pub mod Running
+-- what is promised of each command
+pub mod Telling

@@ -1,8 +1,8 @@
--- What `run` and `serve` promise: each line is answered by the table of lines, each state on the way is a
+-- What is promised of the word `run`, and of `serve`: each line is answered by the table of lines, each state on the way is a
 -- realm, and each crash leaves a file A that stands for the state after the changes answered so far, or
 -- after one more.
 use Rattle.std.specs.Prelude.{◌≡◌, ◌≢◌, ◌⊎◌, ◌≤◌, ◌^◌, ℕ, Bool, true, false}
-use Rattle.std.specs.Prelude.{List, [], ◌∷◌, All, codes, nat_lt}
+use Rattle.std.specs.Prelude.{List, All, nat_lt}
 use Rattle.outside_world.specs.View.{View, Moment}
 use Rattle.outside_world.specs.Since.{LeavesOnly}
 use Rattle.outside_world.specs.declared.world.FileName.{FileName}
@@ -23,10 +23,6 @@ use Rattle.rose_shell.specs.Session.{Turn, end_of, Served}
 use Rattle.rose_shell.specs.Prefixes.{IsCounted, IsPrefixMoment}
 use Rattle.rose_shell.specs.declared.status.Status.{Status}
 use Rattle.rose_shell.specs.declared.status.Status.TheVariants.{DiskFault, Damaged, NoMemory}
-
--- the words are the one word `run`
-abbrev pub IsRunWord : List (List ℕ) → Type 0
-IsRunWord words = words ≡ codes "run" ∷ []
 
 -- the line is the text of a change
 abbrev pub IsChangeLine : List ℕ → Type 0

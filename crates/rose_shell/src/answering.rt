@@ -13,13 +13,12 @@ ghost use Rattle.rose_shell.specs.Desk.{Answered};
 ghost use Rattle.rose_shell.specs.Running.{StoreTerms};
 
 use crate::desk::{Desk, Stop};
-use crate::querying::answer_query;
-use crate::refusals::{refuse, refuse_text, refuse_unbuilt};
+use crate::refusals::refuse_text;
 use grid_base::{NoMemory, Reply};
 use line_grammar::{Change, Command, LineError, read_line};
 use outside_world::Outside;
-use realm_insert::is_let;
 use realm_store::{CommitError, Store};
+use rose_query::{answer, refuse, refuse_unbuilt};
 use std::alloc::Global;
 use std::thread::Threads;
 
@@ -85,7 +84,7 @@ fn execute<R: Threads + Sync, W: Outside>(
 {
     match command {
         Command::Change(change) => answer_change(rt, alloc, store, world, change),
-        Command::Query(query) => or_stop(answer_query(alloc, store.state(), query)),
+        Command::Query(query) => or_stop(answer(rt, alloc, store.state(), query)),
         Command::Batch(_) | Command::Checkpoint => or_stop(refuse_unbuilt(alloc)),
     }
 }
@@ -109,9 +108,6 @@ fn answer_change<R: Threads + Sync, W: Outside>(
     ensures told { W.tells world.new → Answered StoreTerms (W.view world.old) (W.view world.new)
         store.old store.new (change_text change.now) result }
 {
-    if is_let(change) {
-        return or_stop(refuse_unbuilt(alloc));
-    }
     match store.commit(rt, world, change) {
         Ok(reply) => Ok(reply),
         Err(CommitError::Refused(refusal)) => or_stop(refuse(alloc, refusal)),

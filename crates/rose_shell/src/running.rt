@@ -1,38 +1,41 @@
 //! The calls of the program: the words choose what is done, and the loop answers line by line.
-ghost use Rattle.std.specs.Prelude.{◌≡◌, ◌≢◌, ◌≤◌, ◌^◌, ◌⊎◌, ◌↔◌, IsTrue, false};
-ghost use Rattle.std.specs.Prelude.{length, map, string_bytes, codes};
+ghost use Rattle.std.specs.Prelude.{◌≡◌, ◌≢◌, ◌≤◌, ◌^◌, ◌⊎◌, ◌↔◌, false, length, map, string_bytes};
 ghost use Rattle.outside_world.specs.Counts.{Rose};
 ghost use Rattle.outside_world.specs.GoesOn.{GoesOn};
 ghost use Rattle.outside_world.specs.declared.world.FileName.TheVariants.{A};
+ghost use Rattle.command_words.specs.Written.{IsWritten, IsNoCommand, IsAllowed};
+ghost use Rattle.command_words.specs.declared.word.Word.{Word as Command};
 ghost use Rattle.realm_insert.specs.State.{State};
 ghost use Rattle.realm_store.specs.Stands.{StandsFor};
 ghost use Rattle.realm_store.specs.Keeping.{AllRest};
 ghost use Rattle.realm_store.specs.Damages.{IsDamaged};
 ghost use Rattle.realm_store.specs.declared.damage.Damage.{Damage};
-ghost use Rattle.rose_shell.specs.Running.{IsRunWord, HasServed, HasRun};
-ghost use Rattle.rose_shell.specs.Loop.{status_unstarted};
+ghost use Rattle.rose_shell.specs.Running.{HasServed, HasRun};
+ghost use Rattle.rose_shell.specs.Telling.{HasDone, CanBeDone};
 
 use crate::serving::serve_by_chunks;
-use crate::status::Status;
+use crate::status::{Status, status_unstarted};
+use crate::telling::{tell_map, tell_store};
+use command_words::{Word, one_command, read_words};
 use outside_world::Outside;
-use realm_store::{StartError, Store};
+use realm_store::Store;
 use std::alloc::Global;
 use std::thread::Threads;
 
 /// How many bytes a run takes at most: 2^40.
 const MOST_BYTES: u64 = 1_099_511_627_776;
 
-/// Does what the program does with these words, the arguments after its name: `run` reads lines to the end
-/// of the input, from what file A stands for on, and answers each. Want of memory may end it at any place.
-/// Then the replies to the first lines were given, each whole.
+/// Does what these words ask for, the arguments after the program's name. `run` reads lines to the end of the
+/// input, from what file A stands for on, and answers each. `check` tells how much file A stands for, and `gen` of a
+/// map that nobody wrote. Want of memory may end each at any place: what was given then is the replies to the first
+/// lines, each whole, or nothing.
 pub fn run<R: Threads + Sync, W: Outside>(
     rt: &R,
     alloc: Global,
     words: &[String],
     world: &mut W,
 ) -> Status
-    ensures usage { result ≡ Status.Usage ↔ (IsRunWord (map string_bytes words.now) → ⊥) }
-    ensures run_word { result ≢ Status.Usage → IsRunWord (map string_bytes words.now) }
+    ensures usage { result ≡ Status.Usage ↔ IsNoCommand (map string_bytes words.now) }
     ensures untouched { result ≡ Status.Usage → world.new ≡ world.old }
     ensures source_fault { result ≡ Status.SourceFault
         → Rose (W.source_faults world.old) (W.source_faults world.new) }
@@ -42,23 +45,57 @@ pub fn run<R: Threads + Sync, W: Outside>(
         → Rose (W.disk_faults world.old) (W.disk_faults world.new) }
     ensures damaged { (d : Damage) → result ≡ Status.Damaged d → W.tells world.new
         → IsDamaged d ((W.view world.old).reads A) }
-    ensures told { result ≢ Status.Usage → W.tells world.new
-        → HasRun (W.view world.old) (W.view world.new) result }
-    // Where no call fails, file A stands for a state and the input ends within the budget, nothing but
-    // memory can be wanting.
-    ensures complete { IsRunWord (map string_bytes words.now) → W.tells world.new
+    ensures told { (command : Command) → IsWritten (map string_bytes words.now) command
+        → W.tells world.new → HasDone command (W.view world.old) (W.view world.new) result }
+    // Where no call fails, file A stands for a state and the input ends within the budget, as far as the command
+    // asks for them, nothing but memory can be wanting.
+    ensures complete { (command : Command) → IsWritten (map string_bytes words.now) command
+        → W.tells world.new
         → ¬ (Rose (W.source_faults world.old) (W.source_faults world.new))
         → ¬ (Rose (W.sink_faults world.old) (W.sink_faults world.new))
         → ¬ (Rose (W.disk_faults world.old) (W.disk_faults world.new))
-        → length (W.view world.old).left ≤ 2 ^ 40
-        → (state : State) → StandsFor ((W.view world.old).reads A) state
+        → CanBeDone command (W.view world.old)
         → (result ≡ Status.Done) ⊎ (result ≡ Status.NoMemory) }
     ensures goes_on { GoesOn ⟦<W as Outside>⟧ world.old world.new }
 {
-    if !is_run_word(words) {
-        return Status::Usage;
+    one_command();
+    match read_words(words) {
+        Some(word) => do_command(rt, alloc, word, world),
+        None => Status::Usage,
     }
-    start_and_serve(rt, alloc, world)
+}
+
+// Does what the command asks for.
+fn do_command<R: Threads + Sync, W: Outside>(
+    rt: &R,
+    alloc: Global,
+    word: Word,
+    world: &mut W,
+) -> Status
+    requires allowed { IsAllowed word }
+    ensures never_usage { result ≢ Status.Usage }
+    ensures source_fault { result ≡ Status.SourceFault
+        → Rose (W.source_faults world.old) (W.source_faults world.new) }
+    ensures sink_fault { result ≡ Status.SinkFault
+        → Rose (W.sink_faults world.old) (W.sink_faults world.new) }
+    ensures disk_fault { result ≡ Status.DiskFault
+        → Rose (W.disk_faults world.old) (W.disk_faults world.new) }
+    ensures damaged { (d : Damage) → result ≡ Status.Damaged d → W.tells world.new
+        → IsDamaged d ((W.view world.old).reads A) }
+    ensures told { W.tells world.new → HasDone word (W.view world.old) (W.view world.new) result }
+    ensures complete { W.tells world.new
+        → ¬ (Rose (W.source_faults world.old) (W.source_faults world.new))
+        → ¬ (Rose (W.sink_faults world.old) (W.sink_faults world.new))
+        → ¬ (Rose (W.disk_faults world.old) (W.disk_faults world.new))
+        → CanBeDone word (W.view world.old)
+        → (result ≡ Status.Done) ⊎ (result ≡ Status.NoMemory) }
+    ensures goes_on { GoesOn ⟦<W as Outside>⟧ world.old world.new }
+{
+    match word {
+        Word::Run => start_and_serve(rt, alloc, world),
+        Word::Check => tell_store(rt, alloc, world),
+        Word::Gen { lines, start } => tell_map(rt, alloc, world, lines, start),
+    }
 }
 
 // Reads what file A stands for, and answers each line of the input from there on.
@@ -87,35 +124,8 @@ fn start_and_serve<R: Threads + Sync, W: Outside>(rt: &R, alloc: Global, world: 
             let mut store = started;
             serve(rt, alloc, &mut store, world, MOST_BYTES)
         }
-        Err(error) => status_of(error),
+        Err(error) => status_unstarted(error),
     }
-}
-
-// How a run ends whose store isn't started.
-fn status_of(error: StartError) -> Status
-    ensures { result ≡ status_unstarted error }
-{
-    match error {
-        StartError::Disk => Status::DiskFault,
-        StartError::Damaged(damage) => Status::Damaged(damage),
-        StartError::NoMemory => Status::NoMemory,
-    }
-}
-
-// Whether the words are the one word `run`.
-fn is_run_word(words: &[String]) -> bool
-    ensures { IsTrue result ↔ IsRunWord (map string_bytes words.now) }
-{
-    match words {
-        [word] => is_run(word.as_str()),
-        _ => false,
-    }
-}
-
-fn is_run(word: &str) -> bool
-    ensures { IsTrue result ↔ (word.now ≡ codes "run") }
-{
-    word == "run"
 }
 
 /// Reads lines to the end of the input, and answers each from this store on. The run ends at the first fault,

@@ -1,8 +1,9 @@
 //! How a run ends.
 ghost use Rattle.std.specs.Prelude.{◌≡◌};
 ghost use Rattle.rose_shell.specs.Status.{number_of};
+ghost use Rattle.rose_shell.specs.Loop.{status_unstarted};
 
-use realm_store::Damage;
+use realm_store::{Damage, StartError};
 
 /// How a run ended.
 #[derive(Clone, Copy, Debug, PartialEq, Eq)]
@@ -43,32 +44,13 @@ impl Status {
     }
 }
 
-#[cfg(test)]
-mod tests {
-    use super::*;
-    use outside_world::FileName;
-
-    // The numbers are those of the program's manual.
-    #[test]
-    fn each_status_has_its_number(rt: HostRuntime) {
-        let cases = [
-            (Status::Done, 0),
-            (Status::Usage, 1),
-            (Status::SourceFault, 2),
-            (Status::SinkFault, 3),
-            (Status::DiskFault, 4),
-            (
-                Status::Damaged(Damage::BadPage {
-                    file: FileName::A,
-                    page: 0,
-                }),
-                5,
-            ),
-            (Status::NoMemory, 6),
-            (Status::InputLimit, 7),
-        ];
-        for (status, number) in cases.iter() {
-            assert_eq!(rt; status.number(), *number, "at {status:?}");
-        }
+/// How a command ends whose store isn't started.
+pub(crate) fn status_unstarted(error: StartError) -> Status
+    ensures { result ≡ status_unstarted error }
+{
+    match error {
+        StartError::Disk => Status::DiskFault,
+        StartError::Damaged(damage) => Status::Damaged(damage),
+        StartError::NoMemory => Status::NoMemory,
     }
 }

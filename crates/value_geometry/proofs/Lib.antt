@@ -3,12 +3,12 @@ pub mod Counts
 -- the links of one chain
 mod ChainLinks
 -- the links of the chains of all parts
-mod PartLinks
+pub mod PartLinks
 -- the part at a place
 mod ListedParts
 -- pieces of a realm, and values that are made of them
 pub mod RealmPieces
 -- equal neighbours that cancel each other
-mod Cancelling
+pub mod Cancelling
 -- what the links of all parts come to
 mod SortedLinks

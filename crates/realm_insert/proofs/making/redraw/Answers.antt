@@ -3,7 +3,6 @@ use Rattle.std.proofs.lemmas.Result.{err_from_is_err_and}
 use Rattle.grid_base.specs.Drawing.{Drawing}
 use Rattle.grid_base.specs.declared.kinds.Step.{Step}
 use Rattle.realm_insert.specs.Changes.{IsChangedTo}
-use Rattle.realm_insert.specs.Lines.{drawn_between}
 use Rattle.realm_insert.specs.Misfits.{Misfits}
 use Rattle.realm_insert.proofs.FailedTraces.{has_also}
 use Rattle.realm_insert.proofs.StepsTaken.{rests_after, ids_below}
@@ -20,7 +19,7 @@ returns-clause-rest c =
 pub returns-clause-ids : goal.returns-clause-ids
 returns-clause-ids c =
     ids_below c.prepare.new.drawing.drawing c.settle_by.new.drawing.drawing c.in_ok-settle_by.field-0
-    (c.args.first + length (drawn_between c.args.c.now)) c.in_ok-settle_by.ensures.settles c.in_ok-fresh.ensures.ids
+    (c.args.first + length c.args.figure.now.segments) c.in_ok-settle_by.ensures.settles c.in_ok-fresh.ensures.ids
 
 -- the steps fail from what the change makes of the drawing
 pub returns-in_err-settle_by-clause-mismatch : goal.returns-in_err-settle_by-clause-mismatch
@@ -30,11 +29,11 @@ returns-in_err-settle_by-clause-mismatch c =
     let prepared = c.in_ok-fresh.ensures in
     let d = c.args.drawing.now.drawing in
     let made = c.prepare.new.drawing.drawing in
-    let changed : IsChangedTo c.args.c.now d c.args.first made = record {
+    let changed : IsChangedTo c.args.c.now c.args.figure.now d c.args.first made = record {
       points = prepared.points;
       ascending = c.is_explicit-ascending.ensures.ascending;
       originals = prepared.originals;
     } in
     has_also (λ (steps : Bor (List Step)). Misfits made steps.now number)
-    (λ (steps : Bor (List Step)). (e : Drawing) × IsChangedTo c.args.c.now d c.args.first e × Misfits e steps.now number)
+    (λ (steps : Bor (List Step)). (e : Drawing) × IsChangedTo c.args.c.now c.args.figure.now d c.args.first e × Misfits e steps.now number)
     c.args.given (λ steps fails. (made, changed, fails)) (c.in_err-settle_by.ensures.mismatch number same))

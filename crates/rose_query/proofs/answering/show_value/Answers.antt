@@ -9,7 +9,7 @@ pub returns-in-Ok-Some : goal.returns-in-Ok-Some
 returns-in-Ok-Some c =
     let named = subst (λ (name : List ℕ). IsGeometryNamed c.args.state.now.state name (Some c.in-Ok-Some.geometry)) c.text.ensures
     (subst (λ found. IsGeometryNamed c.args.state.now.state c.text.result.now found) c.in-Ok-Some.field-0-is
-    c.in-Ok-Some.ensures) in
+    c.in-Ok-Some.ensures.geometry) in
     IfOk-weaker c.list_value.result _ _
     (λ reply is. value_shown c.in-Ok-Some.geometry named c.list_value.ensures.ascending is)
     c.list_value.ensures.reply

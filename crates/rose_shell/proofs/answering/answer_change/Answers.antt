@@ -1,22 +1,29 @@
-use Rattle.std.proofs.Common.{ap, Err}
-use Rattle.realm_insert.specs.Lines.{IsLet}
-use Rattle.rose_shell.proofs.ChangeAnswers.{refused, still_ok}
+use Rattle.std.proofs.Common.{ap, Err, inl, inr}
+use Rattle.rose_shell.proofs.ChangeAnswers.{made, refused, still_ok}
 use Rattle.rose_shell.proofs.Stores.{change_cut_off}
 use Rattle.rose_shell.proofs.answering.answer_change.Goals as goal
+
+-- a change that is made doesn't leave the store spent
+pub returns-in-Ok-clause-answer : goal.returns-in-Ok-clause-answer
+returns-in-Ok-clause-answer g c =
+    made c.requires.ready
+    (λ is. elim (c.in-Ok.ensures.spent.0 is) [
+      | inl disk ↦ cc
+      | inr memory ↦ cc
+    ])
+    c.in-Ok.ensures.made
 
 -- a change that is refused leaves the store as it was
 pub returns-in-Err-Refused-clause-answer : goal.returns-in-Err-Refused-clause-answer
 returns-in-Err-Refused-clause-answer g c =
-    let other : IsLet c.args.change.now → ⊥ = λ is. let wrong = c.if-is_let.ensures.1 is in cc in
     let why = c.in-Err-Refused in
     let is = why.ensures.refused why.refusal (ap Err why.field-0-is) in
-    still_ok _ c.refuse.result c.or_stop-in-Err-Refused.result _ _
-    (λ reply said. refused c.requires.ready other why.refusal is.0 is.1 said)
-    c.or_stop-in-Err-Refused.ensures.same c.refuse.ensures
+    still_ok _ c.refuse.result c.or_stop.result _ _
+    (λ reply said. refused c.requires.ready why.refusal is.0 is.1 said)
+    c.or_stop.ensures.same c.refuse.ensures
 
 -- where the disk failed, the file stands for the state before the change or after it
 pub returns-in-Err-Disk-clause-told : goal.returns-in-Err-Disk-clause-told
 returns-in-Err-Disk-clause-told g c = λ tells.
-    let other : IsLet c.args.change.now → ⊥ = λ is. let wrong = c.if-is_let.ensures.1 is in cc in
     let cut = c.in-Err-Disk.ensures.cut_off (ap Err c.in-Err-Disk.field-0-is) tells in
-    change_cut_off c.args.change.now c.requires.spellable other c.requires.ready cut.2 cut.3
+    change_cut_off c.args.change.now c.requires.spellable c.requires.ready cut.2 cut.3

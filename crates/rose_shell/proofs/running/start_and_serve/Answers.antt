@@ -31,6 +31,6 @@ returns-in-Ok-clause-complete g c = λ tells source sink disk within state stand
 -- the disk didn't fail, and the file isn't damaged
 pub returns-in-Err-clause-complete : goal.returns-in-Err-clause-complete
 returns-in-Err-clause-complete g c = λ tells source sink disk within state stands.
-    unstarted c.in-Err.error c.status_of.ensures
+    unstarted c.in-Err.error c.status_unstarted.ensures
     (λ is. disk (c.in-Err.ensures.disk_fault (ap Err is)))
     (λ d is. one_reading d _ state ((c.in-Err.ensures.told tells).damaged d (ap Err is)) stands)

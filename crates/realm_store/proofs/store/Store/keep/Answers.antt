@@ -1,4 +1,4 @@
-use Rattle.std.proofs.Common.{◌≡◌, ◌∙◌, ap, sym, subst}
+use Rattle.std.proofs.Common.{◌∙◌, ap, sym, subst}
 use Rattle.realm_store.specs.Leading.{Leads}
 use Rattle.realm_store.specs.Keeping.{SpendableKept, with_state}
 use Rattle.realm_store.specs.Making.{next_gate, record_of}

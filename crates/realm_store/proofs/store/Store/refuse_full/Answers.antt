@@ -1,4 +1,4 @@
-use Rattle.std.proofs.Common.{◌≡◌, inl, inr, refl, sym, subst}
+use Rattle.std.proofs.Common.{◌≡◌, inl, inr, refl, subst}
 use Rattle.realm_insert.specs.Refusals.{IsRefusedBy, IsAccepted}
 use Rattle.realm_insert.specs.declared.refusal.Refusal.{Refusal as Word}
 use Rattle.realm_store.specs.Keeping.{SpendableKept}

@@ -1,0 +1,2 @@
+-- which words are a command
+pub mod Written

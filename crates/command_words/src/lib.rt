@@ -1,0 +1,13 @@
+//! The words behind the program's name, read as one of its commands. Begin at `read_words`.
+#![tactic(auto)]
+
+mod laws;
+mod numbers;
+mod reading;
+#[cfg(test)]
+mod tests;
+mod word;
+
+pub use laws::one_command;
+pub use reading::read_words;
+pub use word::Word;

@@ -1,0 +1,12 @@
+//! What the program is told to do.
+
+/// What the words behind the program's name tell it to do.
+#[derive(Clone, Copy, Debug, PartialEq, Eq)]
+pub enum Word {
+    /// Answer the lines of the input.
+    Run,
+    /// Tell how much is in the store.
+    Check,
+    /// Make a map of so many lines that nobody wrote, from a number on.
+    Gen { lines: u64, start: u64 },
+}

@@ -1,0 +1,2 @@
+-- one more change of a run
+pub mod MadeRuns

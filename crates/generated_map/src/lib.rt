@@ -1,0 +1,11 @@
+//! Maps that nobody wrote, to measure by: changes whose places follow from a first number. Begin at
+//! `generate`.
+#![tactic(auto)]
+
+mod drawing_lots;
+mod lines;
+mod running;
+#[cfg(test)]
+mod tests;
+
+pub use running::generate;

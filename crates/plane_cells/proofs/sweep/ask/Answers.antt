@@ -1,0 +1,85 @@
+use Rattle.std.proofs.Common.{arith, ◌≡◌, ◌∙◌, sym, ap, subst, ℕ, List, get_or, ◌^◌, ◌<◌, length, take, drop}
+use Rattle.grid_base.specs.Segment.{GridSegment}
+use Rattle.plane_cells.specs.Steps.{Each, Pairs, label_over}
+use Rattle.plane_cells.specs.Scan.{IsUnderBegin}
+use Rattle.plane_cells.specs.Numbered.{numbered}
+use Rattle.plane_cells.specs.Swept.{wall_before, bound_at}
+use Rattle.plane_cells.proofs.Passing.{small_here}
+use Rattle.plane_cells.proofs.Asking.{sorted_there, asking_more, rest_later, read_segment, due_column, late_column}
+use Rattle.plane_cells.proofs.sweep.ask.Goals as goal
+
+-- the segment that is asked for lies so in the status
+pub count_under-count-requires-clause-sorted : goal.count_under-count-requires-clause-sorted
+count_under-count-requires-clause-sorted c =
+    let s = c.loop-sweep.sweep in
+    let T = c.args.sweep.now.list.now in
+    let t0 = c.index-sweep-len-in-loop-sweep.result in
+    let t = get_or s.list.now c.len-in-loop-sweep-2.result t0 in
+    let short : length s.asked.items < length s.list.now = omega (arith, c.loop-sweep-test.true, c.len.ensures, s.asked.ok) in
+    let same = c.loop-sweep.invariant.same in
+    let e = sym c.index-sweep-len-in-loop-sweep.is ∙ read_segment s.list.now (length s.asked.items) c.len-in-loop-sweep-2.result t0 short
+    (omega (arith, c.len-in-loop-sweep-2.ensures, s.asked.ok)) c.index-sweep-len-in-loop-sweep.is in
+    let e0 = read_segment s.list.now (length s.asked.items) c.len-in-loop-sweep.result c.index-sweep-len.result short
+    (omega (arith, c.len-in-loop-sweep.ensures, s.asked.ok)) c.index-sweep-len.is in
+    let to = due_column t c.index-sweep-len.result c.a.result c.column.result c.bound-bound.result
+    (bound_at c.args.vertices.now c.args.index) (e ∙ sym e0)
+    (c.a.ensures.end ∙ ap (λ (u : GridSegment). u.a) (sym c.index-sweep-len.is)) c.column.ensures.column c.if-column-bound.true
+    c.bound-bound.ensures in
+    subst (Pairs (λ i j. IsUnderBegin (numbered c.args.border.now j) t → IsUnderBegin (numbered c.args.border.now i) t))
+    (sym c.deref.ensures.value)
+    (sorted_there c.args.border.now c.args.vertices.now c.args.index s.status.items s.next s.links.items s.right.items T s.asked.items t
+    c.requires.realm c.requires.vertices c.requires.index c.requires.others c.loop-sweep.invariant.swept
+    (subst (λ (l : List GridSegment). length s.asked.items < length l) same short)
+    (e ∙ ap (λ (l : List GridSegment). numbered l (length s.asked.items)) same) to)
+
+pub label-found-requires-clause-fits : goal.label-found-requires-clause-fits
+label-found-requires-clause-fits c =
+    let s = c.loop-sweep.sweep in
+    subst (Each (λ i. i < 2 ^ 63)) (sym c.deref-in-loop-sweep.ensures.value)
+    (small_here c.args.border.now (wall_before c.args.vertices.now c.args.index) s.status.items s.next s.links.items s.right.items
+    c.args.sweep.now.list.now s.asked.items (2 ^ 63) c.loop-sweep.invariant.swept (omega (arith, s.right.small, s.right.ok)))
+
+-- its label is known now
+pub loop-sweep-preserved : goal.loop-sweep-preserved
+loop-sweep-preserved c =
+    let s = c.loop-sweep.sweep in
+    let B = c.args.border.now in
+    let t0 = c.index-sweep-len-in-loop-sweep.result in
+    let t = get_or s.list.now c.len-in-loop-sweep-2.result t0 in
+    let k = c.count_under-count.result in
+    let short : length s.asked.items < length s.list.now = omega (arith, c.loop-sweep-test.true, c.len.ensures, s.asked.ok) in
+    let e = sym c.index-sweep-len-in-loop-sweep.is ∙ read_segment s.list.now (length s.asked.items) c.len-in-loop-sweep-2.result t0 short
+    (omega (arith, c.len-in-loop-sweep-2.ensures, s.asked.ok)) c.index-sweep-len-in-loop-sweep.is in
+    let e0 = read_segment s.list.now (length s.asked.items) c.len-in-loop-sweep.result c.index-sweep-len.result short
+    (omega (arith, c.len-in-loop-sweep.ensures, s.asked.ok)) c.index-sweep-len.is in
+    let to = due_column t c.index-sweep-len.result c.a.result c.column.result c.bound-bound.result
+    (bound_at c.args.vertices.now c.args.index) (e ∙ sym e0)
+    (c.a.ensures.end ∙ ap (λ (u : GridSegment). u.a) (sym c.index-sweep-len.is)) c.column.ensures.column c.if-column-bound.true
+    c.bound-bound.ensures in
+    let below : Each (λ i. IsUnderBegin (numbered B i) t) (take k s.status.items) =
+    subst (λ (l : List ℕ). Each (λ i. IsUnderBegin (numbered B i) t) (take k l)) c.deref.ensures.value c.count_under-count.ensures.below
+    in
+    let others : Each (λ i. IsUnderBegin (numbered B i) t → ⊥) (drop k s.status.items) =
+    subst (λ (l : List ℕ). Each (λ i. IsUnderBegin (numbered B i) t → ⊥) (drop k l)) c.deref.ensures.value
+    c.count_under-count.ensures.others in
+    let found : c.label-found.result ≡ label_over 0 (take k s.status.items) = c.label-found.ensures ∙ ap
+    (λ (l : List ℕ). label_over 0 (take k l)) c.deref-in-loop-sweep.ensures.value in
+    asking_more B c.args.vertices.now c.args.index s.status.items s.next s.links.items s.right.items c.args.sweep.now.list.now s.list.now
+    s.asked.items c.push.new.self.items t k c.label-found.result
+    c.requires.realm c.requires.vertices c.requires.index c.requires.others c.loop-sweep.invariant short e to below others found
+    c.in_ok-push.ensures.items
+
+-- no more segments are due
+pub returns-else-column-bound-clause-later : goal.returns-else-column-bound-clause-later
+returns-else-column-bound-clause-later c =
+    let s = c.loop-sweep.sweep in
+    let T = c.args.sweep.now.list.now in
+    let same = c.loop-sweep.invariant.same in
+    rest_later T (length s.asked.items) (bound_at c.args.vertices.now c.args.index) c.requires.others.ascending (λ h.
+    let short : length s.asked.items < length s.list.now = subst (λ (l : List GridSegment). length s.asked.items < length l) (sym same) h in
+    let e0 = read_segment s.list.now (length s.asked.items) c.len-in-loop-sweep.result c.index-sweep-len.result short
+    (omega (arith, c.len-in-loop-sweep.ensures, s.asked.ok)) c.index-sweep-len.is in
+    late_column c.index-sweep-len.result (numbered T (length s.asked.items)) c.a.result c.column.result c.bound-bound.result
+    (bound_at c.args.vertices.now c.args.index) (e0 ∙ ap (λ (l : List GridSegment). numbered l (length s.asked.items)) same)
+    (c.a.ensures.end ∙ ap (λ (u : GridSegment). u.a) (sym c.index-sweep-len.is)) c.column.ensures.column c.if-column-bound.false
+    c.bound-bound.ensures)

@@ -1,0 +1,48 @@
+//! The segments that begin at a vertex, from below.
+ghost use Rattle.std.specs.Prelude.{◌≡◌, ℕ, ◌+◌, ◌<◌, ◌≤◌, ◌^◌, length, IfOk};
+ghost use Rattle.plane_cells.specs.Steps.{In, Each, Pairs};
+ghost use Rattle.plane_cells.specs.Numbered.{numbered};
+ghost use Rattle.plane_cells.specs.Sheared.{AreOfRealm};
+ghost use Rattle.plane_cells.specs.Scan.{AreNumbers, AreAscending, IsLeftward, IsNext, IsFan, IsInserted};
+
+use crate::status::count_below;
+use grid_base::{NoMemory, Point, Segment};
+use std::alloc::Global;
+
+/// The segments that begin at `v`, from below; `next` is the first that doesn't begin before it.
+pub fn fan(
+    alloc: Global,
+    border: &[Segment],
+    next: usize,
+    v: &Point,
+) -> Result<Vec<usize>, NoMemory>
+    requires realm { AreOfRealm border.now }
+    requires ascending { AreAscending border.now }
+    requires next { IsNext border.now v.now next }
+    requires on_grid { v.now.y < 2 ^ 28 }
+    ensures { IfOk result (λ f. IsFan border.now v.now next f.items) }
+{
+    let mut fan = Vec::new(alloc);
+    let mut i = next;
+    while i < border.len() && border[i].a() == *v {
+        insert_by_angle(border, &mut fan, i)?;
+        i += 1;
+    }
+    Ok(fan)
+}
+
+// Puts segment `i` where it belongs among those that begin with it.
+fn insert_by_angle(border: &[Segment], fan: &mut Vec<usize>, i: usize) -> Result<(), NoMemory>
+    requires realm { AreOfRealm border.now }
+    requires number { i < length border.now }
+    requires numbers { AreNumbers border.now fan.old.items }
+    requires fresh { Each (λ j. i ≡ j → ⊥) fan.old.items }
+    requires begins { Each (λ j. (numbered border.now j).a ≡ (numbered border.now i).a) fan.old.items }
+    requires leftward { Pairs (IsLeftward border.now) fan.old.items }
+    ensures inserted { IfOk result (λ _. IsInserted i fan.old.items fan.new.items) }
+    ensures leftward { IfOk result (λ _. Pairs (IsLeftward border.now) fan.new.items) }
+{
+    let place = count_below(border, fan, &border[i].b());
+    fan.insert(place, i)?;
+    Ok(())
+}

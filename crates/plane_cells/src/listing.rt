@@ -1,0 +1,62 @@
+//! Segments in ascending lists.
+ghost use Rattle.std.specs.Prelude.{◌≡◌, ◌↔◌, ◌<◌, IsTrue, IfOk, length, All, AllPairs, Contains};
+ghost use Rattle.grid_base.specs.Segment.{GridSegment, IsSegmentBefore};
+ghost use Rattle.plane_cells.specs.Numbered.{numbered};
+ghost use Rattle.plane_cells.specs.Sheared.{IsOnGrid};
+
+use grid_base::{NoMemory, Segment};
+use std::alloc::Global;
+
+// Each segment has its lesser end first and is on the grid, as the types say.
+pub(crate) fn each_is_on_grid(list: &[Segment])
+    ensures { All IsOnGrid list.now }
+{
+    for s in list {
+        let lesser = s.a();
+        let greater = s.b();
+        let _row = lesser.y();
+        let _end_column = greater.x();
+        let _end_row = greater.y();
+    }
+}
+
+// Whether the list has the segment.
+pub(crate) fn has(list: &[Segment], s: &Segment) -> bool
+    requires { AllPairs IsSegmentBefore list.now }
+    ensures { IsTrue result ↔ Contains list.now s.now }
+{
+    list.binary_search(s).is_ok()
+}
+
+// The number of a segment that the list has.
+pub(crate) fn number_of(list: &[Segment], s: &Segment) -> usize
+    requires ascending { AllPairs IsSegmentBefore list.now }
+    requires there { Contains list.now s.now }
+    ensures within { result < length list.now }
+    ensures number { numbered list.now result ≡ s.now }
+{
+    match list.binary_search(s) {
+        Ok(i) | Err(i) => i,
+    }
+}
+
+// The segments of the list that the other one hasn't.
+pub(crate) fn without(
+    alloc: Global,
+    list: &[Segment],
+    other: &[Segment],
+) -> Result<Vec<Segment>, NoMemory>
+    requires list_ascending { AllPairs IsSegmentBefore list.now }
+    requires other_ascending { AllPairs IsSegmentBefore other.now }
+    ensures ascending { IfOk result (λ v. AllPairs IsSegmentBefore v.items) }
+    ensures members { IfOk result (λ v. (s : GridSegment) → Contains v.items s
+        ↔ (Contains list.now s × ¬ Contains other.now s)) }
+{
+    let mut kept = Vec::new(alloc);
+    for s in list {
+        if !has(other, s) {
+            kept.push(*s)?;
+        }
+    }
+    Ok(kept)
+}

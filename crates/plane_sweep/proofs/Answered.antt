@@ -1,0 +1,136 @@
+-- This file shows that what is counted in a status answers for both sides of a segment.
+use Rattle.std.proofs.Common.{◌≡◌, ◌↔◌, ℕ, ◌-◌, ◌<◌, ◌≤◌, Bool, true, false, not, cond, List, ◌∷◌, All, IsPermutation}
+use Rattle.std.proofs.Common.{IsTrue, length, get_or, sym, ap, subst, arith, inl, inr, ◌∙◌}
+use Rattle.std.specs.Prelude.{◌%◌, count_by}
+use Rattle.std.specs.List.{AllByRecursion}
+use Rattle.std.specs.List.Sorted.{IsPartitionedBy}
+use Rattle.std.proofs.lemmas.Bool.{cases_Bool, cases_lt, true≢false}
+use Rattle.std.proofs.lemmas.List.Elements.{All-contains, Contains-get_or}
+use Rattle.std.proofs.lemmas.List.Sorted.{sum_by-IsPermutation}
+use Rattle.grid_base.specs.Point.{GridPoint, IsBefore}
+use Rattle.grid_base.specs.Segment.{GridSegment}
+use Rattle.grid_base.specs.Border.{AreNoded, IsEvenBorder}
+use Rattle.grid_base.specs.Plane.{as_place}
+use Rattle.grid_base.specs.Odd.{is_strictly_above, AreSides}
+use Rattle.grid_base.specs.SideOf.{as_rational}
+use Rattle.grid_base.proofs.Elements.{Contains-here, Contains-later}
+use Rattle.grid_base.proofs.Orders.{is_segment}
+use Rattle.side_parity.specs.Middle.{differ, middle}
+use Rattle.side_parity.proofs.Answered.{slanted_answer, upright_answer}
+use Rattle.side_parity.proofs.BothSides.{same_truth}
+use Rattle.side_parity.proofs.Near.{middle_strict}
+use Rattle.side_parity.proofs.Parities.{count_by_odd, odd_by_count}
+use Rattle.side_parity.proofs.Pictures.{meet_noded}
+use Rattle.side_parity.proofs.Regions.{is_odd, odd_count}
+use Rattle.side_parity.proofs.SidesBy.{same_inside}
+use Rattle.plane_sweep.specs.Status.{AreUpward, HoldsAfter, IsPassed, IsRank}
+use Rattle.plane_sweep.specs.Events.{is_one}
+use Rattle.plane_sweep.proofs.Counts.{count-same, last_counted}
+use Rattle.plane_sweep.proofs.Halves.{half_place, strict_half}
+use Rattle.plane_sweep.proofs.Strictly.{above_counts, counted_holds, middle_holds, others_count_not, same_at_middle, upright_keeps}
+
+-- a truth that tells whether a count is odd
+parity_told : (b : Bool) (f : GridSegment → Bool) (xs : List GridSegment) (n : ℕ) → IsTrue b ↔ (n % 2 ≡ 1)
+    → n ≡ count_by f xs → b ≡ odd_count f xs
+parity_told b f xs n h e =
+    same_truth b (odd_count f xs) (λ t. odd_by_count f xs (subst (λ (m : ℕ). m % 2 ≡ 1) e (h.0 t)))
+    (λ o. h.1 (subst (λ (m : ℕ). m % 2 ≡ 1) (sym e) (count_by_odd f xs o)))
+
+-- ---- those strictly above the lesser end of a vertical segment stand last
+pub parted_upright : (p : GridPoint) (status : List GridSegment) → All (HoldsAfter p.x) status → AreUpward status
+    → IsPartitionedBy (λ t. not (is_strictly_above t (as_place (as_rational p)))) status
+parted_upright p status column upward i j d o within h = elim (cases_lt i j) [
+  | inr k ↦ (let same : j ≡ i = omega (arith, o, k) in subst (λ (n : ℕ). not (is_strictly_above (get_or status n d) (as_place (as_rational p))) ≡ true) same h)
+  | inl k ↦ elim (cases_Bool (is_strictly_above (get_or status i d) (as_place (as_rational p)))) [
+    | inr e ↦ ap not e
+    | inl e ↦ absurd (true≢false (sym h ∙ ap not (upright_keeps p (get_or status i d) (get_or status j d)
+        (column i d (omega (arith, k, within))) (column j d within) (upward i j d k within) e)))
+  ]
+]
+
+-- ---- the answers
+-- what is known of a status and of the border that it is of
+pub record AreKnown (B status : List GridSegment) (s : GridSegment) : Type 0 where
+  pub status_noded : AreNoded (s ∷ status)
+  pub column : All (HoldsAfter s.a.x) status
+  pub passed : IsPassed s.a.x B status
+  pub noded : AreNoded (s ∷ B)
+  pub even : IsEvenBorder B
+  pub ordered : AllByRecursion (λ t. IsBefore t.a t.b) B
+  pub first : IsBefore s.a s.b
+
+own_told : (B copied : List GridSegment) (s : GridSegment) (own : Bool) (n : ℕ) → IsPermutation B copied
+    → IsTrue own ↔ (n % 2 ≡ 1) → n ≡ count_by (is_one s) copied → own ≡ odd_count (is_segment s) B
+own_told B copied s own n moved told e =
+    parity_told own (is_segment s) B n told (e ∙ sum_by-IsPermutation (λ t. cond (is_one s t) 1 0) B copied moved)
+
+slanted_odd : (B status : List GridSegment) (s : GridSegment) (k n : ℕ) (odd : Bool) → AreKnown B status s
+    → s.a.x < s.b.x → IsRank status s k → n ≡ length status - k → IsTrue odd ↔ (n % 2 ≡ 1)
+    → odd ≡ is_odd B (as_place (middle s))
+slanted_odd B status s k n odd known wide rank e told =
+    let x = s.a.x in
+    let held : HoldsAfter x s = record { from = omega arith; to = wide } in
+    let f : GridSegment → Bool = λ t. is_strictly_above t (as_place (half_place s x)) in
+    let last = last_counted f status k rank.within
+    (λ i d l. let w = rank.within in let r : i < length status = omega (arith, l, w) in
+    others_count_not x (get_or status i d) s (known.column i d r) held (rank.before i d l))
+    (λ i d l r. above_counts (s ∷ status) x (get_or status i d) s
+    (record {
+      realm = meet_noded (s ∷ status) known.status_noded;
+      first = Contains-later s status (get_or status i d) (Contains-get_or status i d r);
+      second = Contains-here s status;
+      holds_first = known.column i d r;
+      holds_second = held;
+    }) (rank.after i d l r)) in
+    let whole = known.passed f (λ t h. counted_holds x t s held h) in
+    parity_told odd f B n told (omega (arith, e, last, whole))
+    ∙ same_inside B s (middle s) (half_place s x)
+    (record { realm = meet_noded (s ∷ B) known.noded; ordered = known.ordered; first = known.first; even = known.even })
+    (middle_strict s known.first) (strict_half s x held)
+
+pub slanted_told : (B status copied : List GridSegment) (s : GridSegment) (k n m : ℕ) (odd own other : Bool)
+    → AreKnown B status s → s.a.x < s.b.x → IsPermutation B copied → IsRank status s k → n ≡ length status - k
+    → IsTrue odd ↔ (n % 2 ≡ 1) → m ≡ count_by (is_one s) copied → IsTrue own ↔ (m % 2 ≡ 1) → other ≡ differ odd own
+    → AreSides B s (record { left = odd; right = other })
+slanted_told B status copied s k n m odd own other known wide moved rank e told f own_odd r =
+    slanted_answer B s odd own other known.noded known.even known.first
+    (record {
+      odd_number = slanted_odd B status s k n odd known wide rank e told;
+      own_number = own_told B copied s own m moved own_odd f;
+      ordered = known.ordered;
+    }) r wide
+
+rising : (s : GridSegment) → IsBefore s.a s.b → s.b.x ≤ s.a.x → (s.b.x ≡ s.a.x) × (s.a.y < s.b.y)
+rising s (inl h) narrow = absurd (omega (arith, h, narrow))
+rising s (inr h) narrow = (sym h.0, h.1)
+
+upright_odd : (B status : List GridSegment) (s : GridSegment) (k n : ℕ) (odd : Bool) → AreKnown B status s
+    → s.b.x ≤ s.a.x → k ≤ length status
+    → ((i : ℕ) (d : GridSegment) → i < k → is_strictly_above (get_or status i d) (as_place (as_rational s.a)) ≡ false)
+    → ((i : ℕ) (d : GridSegment) → k ≤ i → i < length status
+    → is_strictly_above (get_or status i d) (as_place (as_rational s.a)) ≡ true)
+    → n ≡ length status - k → IsTrue odd ↔ (n % 2 ≡ 1) → odd ≡ is_odd B (as_place (middle s))
+upright_odd B status s k n odd known narrow within before after e told =
+    let up = rising s known.first narrow in
+    let at_end : GridSegment → Bool = λ t. is_strictly_above t (as_place (as_rational s.a)) in
+    let at_middle : GridSegment → Bool = λ t. is_strictly_above t (as_place (middle s)) in
+    let last = last_counted at_end status k within before after in
+    let same = count-same at_end at_middle status (λ t c. same_at_middle (s ∷ status) t s (meet_noded (s ∷ status) known.status_noded)
+    (Contains-later s status t c) (Contains-here s status) (All-contains (HoldsAfter s.a.x) status t known.column c) up.0 up.1) in
+    let whole = known.passed at_middle (λ t h. middle_holds t s up.0 h) in
+    parity_told odd at_middle B n told (omega (arith, e, last, same, whole))
+
+pub upright_told : (B status copied : List GridSegment) (s : GridSegment) (k n m : ℕ) (odd own other : Bool)
+    → AreKnown B status s → s.b.x ≤ s.a.x → IsPermutation B copied → k ≤ length status
+    → ((i : ℕ) (d : GridSegment) → i < k → is_strictly_above (get_or status i d) (as_place (as_rational s.a)) ≡ false)
+    → ((i : ℕ) (d : GridSegment) → k ≤ i → i < length status
+    → is_strictly_above (get_or status i d) (as_place (as_rational s.a)) ≡ true)
+    → n ≡ length status - k → IsTrue odd ↔ (n % 2 ≡ 1) → m ≡ count_by (is_one s) copied → IsTrue own ↔ (m % 2 ≡ 1)
+    → other ≡ differ odd own → AreSides B s (record { left = other; right = odd })
+upright_told B status copied s k n m odd own other known narrow moved within before after e told f own_odd r =
+    upright_answer B s odd own other known.noded known.even known.first
+    (record {
+      odd_number = upright_odd B status s k n odd known narrow within before after e told;
+      own_number = own_told B copied s own m moved own_odd f;
+      ordered = known.ordered;
+    }) r narrow

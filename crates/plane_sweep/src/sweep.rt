@@ -1,0 +1,170 @@
+//! The sweep. A side of a segment is the parity of the segments of the border above one place of it.
+ghost use Rattle.std.specs.Prelude.{◌≡◌, ◌↔◌, ℕ, ◌+◌, ◌*◌, ◌%◌, ◌^◌, ◌<◌, ◌≤◌, ◌++◌, ◌∷◌, true, false, List, All};
+ghost use Rattle.std.specs.Prelude.{IfOk, IsTrue, IsPermutation, length, slice_index_or};
+ghost use Rattle.std.specs.List.{AllByRecursion};
+ghost use Rattle.std.specs.List.Sorted.{IsSorted};
+ghost use Rattle.grid_base.specs.Point.{IsBefore};
+ghost use Rattle.grid_base.specs.Segment.{GridSegment, segment_cmp};
+ghost use Rattle.grid_base.specs.Border.{AreNoded, IsEvenBorder};
+ghost use Rattle.grid_base.specs.Plane.{as_place};
+ghost use Rattle.grid_base.specs.Odd.{is_strictly_above, AreSides};
+ghost use Rattle.grid_base.specs.SideOf.{as_rational};
+ghost use Rattle.plane_sweep.specs.Status.{HoldsAfter, AreUpward, IsPassed};
+ghost use Rattle.side_parity.specs.Middle.{differ};
+ghost use Rattle.plane_sweep.specs.Digits.{HasBinaryDigits};
+ghost use Rattle.plane_sweep.specs.Told.{AreAllSides};
+
+use crate::copies::{copies, sorted};
+use crate::events::{Turn, all_events};
+use crate::order::{Order, Plain};
+use crate::status::{put_in, rank, take_out};
+use grid_base::{NoMemory, Segment, Sides, Steps, above_at};
+use std::alloc::Global;
+use std::marker::Brand;
+use std::sync::ledger::{Blank, Ledger};
+
+/// The sides of each segment of the list, in order, as `sides` tells them one by one. A step is one call of
+/// `order_at`.
+pub fn all_sides<L: Ledger>(
+    alloc: Global,
+    border: &[Segment],
+    list: &[Segment],
+    steps: &mut Steps<L>,
+) -> Result<Vec<Sides>, NoMemory>
+    requires noded { AreNoded (border.now ++ list.now) }
+    requires even { IsEvenBorder border.now }
+    ensures sides { IfOk result (λ v. AreAllSides border.now list.now v.items) }
+    ensures steps { (k : ℕ) → HasBinaryDigits (length border.now + 1) k
+        → steps.new ≤ steps.old + (2 * length border.now + 2 * length list.now) * k }
+{
+    all_sides_by(alloc, &Plain, border, list, steps)
+}
+
+/// The same, with no steps counted.
+pub fn sides_of_list(
+    alloc: Global,
+    border: &[Segment],
+    list: &[Segment],
+) -> Result<Vec<Sides>, NoMemory>
+    requires noded { AreNoded (border.now ++ list.now) }
+    requires even { IsEvenBorder border.now }
+    ensures { IfOk result (λ v. AreAllSides border.now list.now v.items) }
+{
+    counted::<Brand>(alloc, border, list, Blank::new(1))
+}
+
+fn counted<L: Ledger>(
+    alloc: Global,
+    border: &[Segment],
+    list: &[Segment],
+    blank: Blank,
+) -> Result<Vec<Sides>, NoMemory>
+    requires parts { blank.parts ≡ 1 }
+    requires same { (L.name ≡ blank.name) × (L.parts ≡ blank.parts) }
+    requires noded { AreNoded (border.now ++ list.now) }
+    requires even { IsEvenBorder border.now }
+    ensures { IfOk result (λ v. AreAllSides border.now list.now v.items) }
+{
+    let mut steps = Steps::<L>::new(blank);
+    all_sides(alloc, border, list, &mut steps)
+}
+
+/// The same by the given order. A step is one call of its `above`.
+pub fn all_sides_by<O: Order, L: Ledger>(
+    alloc: Global,
+    order: &O,
+    border: &[Segment],
+    list: &[Segment],
+    steps: &mut Steps<L>,
+) -> Result<Vec<Sides>, NoMemory>
+    requires noded { AreNoded (border.now ++ list.now) }
+    requires even { IsEvenBorder border.now }
+    ensures sides { IfOk result (λ v. AreAllSides border.now list.now v.items) }
+    ensures steps { (k : ℕ) → HasBinaryDigits (length border.now + 1) k
+        → steps.new ≤ steps.old + (2 * length border.now + 2 * length list.now) * k }
+{
+    let events = all_events(alloc, border, list)?;
+    let copied = sorted(alloc, border)?;
+    let mut status = Vec::new(alloc);
+    let mut answers = unanswered(alloc, list.len())?;
+    for event in &events {
+        let s = &event.segment;
+        match event.turn {
+            Turn::End => take_out(order, &mut status, s, steps),
+            Turn::Start => put_in(order, &mut status, s, steps)?,
+            Turn::Ask => answers[event.index] = answer(order, &status, &copied, s, steps),
+        }
+    }
+    Ok(answers)
+}
+
+// A place for the answer to each of `n` questions.
+fn unanswered(alloc: Global, n: usize) -> Result<Vec<Sides>, NoMemory>
+    ensures { IfOk result (λ v. length v.items ≡ n) }
+{
+    let none = Sides {
+        left: false,
+        right: false,
+    };
+    Ok(vec![in alloc; none; n]?)
+}
+
+// The sides of `s`, by the status in its column and the segments of the border in order.
+fn answer<O: Order, L: Ledger>(
+    order: &O,
+    status: &[Segment],
+    copied: &[Segment],
+    s: &Segment,
+    steps: &mut Steps<L>,
+) -> Sides
+    requires noded { AreNoded (s.now ∷ status.now) }
+    requires column { All (HoldsAfter s.now.a.x) status.now }
+    requires upward { AreUpward status.now }
+    requires sorted { IsSorted segment_cmp copied.now }
+    ensures sides { (border : List GridSegment) → IsPermutation border copied.now
+        → IsPassed s.now.a.x border status.now → AreNoded (s.now ∷ border) → IsEvenBorder border
+        → AllByRecursion (λ t. IsBefore t.a t.b) border → AreSides border s.now result }
+    ensures steps { (k : ℕ) → length status.now < 2 ^ k → steps.new ≤ steps.old + k }
+{
+    let own = is_odd(copies(copied, s));
+    if s.a().x() < s.b().x() {
+        let odd = is_odd(status.len() - rank(order, status, s, steps));
+        Sides {
+            left: odd,
+            right: changed(odd, own),
+        }
+    } else {
+        let odd = is_odd(status.len() - upright_rank(status, s));
+        Sides {
+            left: changed(odd, own),
+            right: odd,
+        }
+    }
+}
+
+// How many of the status aren't above the lesser end of `s`, which is vertical. They stand first.
+fn upright_rank(status: &[Segment], s: &Segment) -> usize
+    requires column { All (HoldsAfter s.now.a.x) status.now }
+    requires upward { AreUpward status.now }
+    ensures within { result ≤ length status.now }
+    ensures before { (i : ℕ) (d : GridSegment) → i < result
+        → is_strictly_above (slice_index_or status.now i d) (as_place (as_rational s.now.a)) ≡ false }
+    ensures after { (i : ℕ) (d : GridSegment) → result ≤ i → i < length status.now
+        → is_strictly_above (slice_index_or status.now i d) (as_place (as_rational s.now.a)) ≡ true }
+{
+    let end = s.a();
+    status.partition_point(|t| !above_at(t, &end))
+}
+
+fn is_odd(n: usize) -> bool
+    ensures { IsTrue result ↔ (n % 2 ≡ 1) }
+{
+    n % 2 == 1
+}
+
+// Whether just one of the two is so.
+fn changed(odd: bool, own: bool) -> bool
+    ensures { result ≡ differ odd own }
+{
+    odd != own
+}

@@ -1,0 +1,8 @@
+-- cycles in the form in which they are written: turned to begin at the least vertex, and in order
+pub mod Turned
+-- the faces of a region, and how many they are
+pub mod Faces
+-- the numbers of the classes of faces, for this crate's own proofs
+pub mod OddNumbers
+-- the cycles of faces: what a list of faces has to be, which no contract cites yet
+pub mod FaceCycles

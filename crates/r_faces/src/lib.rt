@@ -1,0 +1,15 @@
+//! The faces of a region: how many they are, and cycles in the form in which they are written.
+//! Begin at `number_of_faces`, `turned` and `in_order`.
+#![tactic(auto)]
+
+mod face;
+mod number;
+mod ordering;
+#[cfg(test)]
+mod tests;
+mod turning;
+
+pub use face::Face;
+pub use number::number_of_faces;
+pub use ordering::{faces_in_order, in_order};
+pub use turning::turned;

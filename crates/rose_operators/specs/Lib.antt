@@ -1,0 +1,2 @@
+-- what every operator makes of values
+pub mod Results

@@ -1,0 +1,10 @@
+use Rattle.rose_predicates.proofs.PointSets.{points_on}
+use Rattle.rose_predicates.proofs.Truths.{told_by}
+use Rattle.rose_predicates.proofs.of_points.are_on.Goals as goal
+
+-- the points that are on the lines are ends
+pub returns : goal.returns
+returns c =
+    told_by (rw c.deref.ensures.value at c.all_points_in.ensures)
+    (points_on c.args.points.now c.args.lines.now c.in_ok-vertices.vertices.items c.requires.outside c.lesser_ends_first.ensures
+    c.in_ok-vertices.ensures.ends)

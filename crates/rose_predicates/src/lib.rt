@@ -1,0 +1,13 @@
+//! Whether predicates hold of values. Begin at `holds`.
+#![tactic(auto)]
+
+mod answering;
+mod enclosing;
+mod members;
+mod of_lines;
+mod of_points;
+mod of_regions;
+#[cfg(test)]
+mod tests;
+
+pub use answering::{HoldsError, holds};

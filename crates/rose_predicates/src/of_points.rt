@@ -1,0 +1,157 @@
+//! Points, and where they lie. A point that is inside no segment is on a segment where it is an end.
+ghost use Rattle.std.specs.Prelude.{◌≡◌, ◌⊎◌, ◌↔◌, IfOk, IsTrue, All, Any, Contains, Err, false};
+ghost use Rattle.grid_base.specs.declared.kinds.Kind.TheVariants.{Points, Lines, Regions};
+ghost use Rattle.grid_base.specs.Odd.{Odd};
+ghost use Rattle.grid_base.specs.Plane.{as_place};
+ghost use Rattle.grid_base.specs.SideOf.{as_rational};
+ghost use Rattle.rose_values.specs.declared.geometry.Geometry.TheVariants.{P, L, R};
+ghost use Rattle.rose_values.specs.Border.{ArePointsAscending};
+ghost use Rattle.rose_values.specs.Kinds.{takes_kinds};
+ghost use Rattle.rose_predicates.specs.Predicates.{AreOutside, IsInside, ShareAPoint, IsTrueOf};
+ghost use Rattle.rose_predicates.specs.declared.answering.HoldsError.TheVariants.{WrongTypes};
+
+use crate::answering::HoldsError;
+use crate::members::{all_points_in, share_point, vertices};
+use grid_base::{NoMemory, Point, Segment, above_at};
+use rose_overlay::{has_point, lesser_ends_first};
+use rose_values::Pred;
+use std::alloc::Global;
+
+pub(crate) fn of_points(pred: Pred, a: &[Point], b: &[Point]) -> Result<bool, HoldsError>
+    requires ascending_first { ArePointsAscending a.now }
+    requires ascending_second { ArePointsAscending b.now }
+    ensures holds { IfOk result (λ answer. IsTrue answer ↔ IsTrueOf pred (P a.now) (P b.now)) }
+    ensures wrong_types { (result ≡ Err WrongTypes) ↔ (takes_kinds pred Points Points ≡ false) }
+{
+    match pred {
+        Pred::Equal => Ok(are_equal(a, b)),
+        Pred::Disjoint => Ok(are_disjoint(a, b)),
+        _ => Err(HoldsError::WrongTypes),
+    }
+}
+
+// Whether the two have the same points.
+fn are_equal(a: &[Point], b: &[Point]) -> bool
+    requires ascending_first { ArePointsAscending a.now }
+    requires ascending_second { ArePointsAscending b.now }
+    ensures { IsTrue result ↔ (IsInside (P a.now) (P b.now) × IsInside (P b.now) (P a.now)) }
+{
+    a == b
+}
+
+// Whether the two have no common point.
+fn are_disjoint(a: &[Point], b: &[Point]) -> bool
+    requires ascending { ArePointsAscending b.now }
+    ensures { IsTrue result ↔ ¬ ShareAPoint (P a.now) (P b.now) }
+{
+    !share_point(a, b)
+}
+
+pub(crate) fn of_points_and_lines(
+    alloc: Global,
+    pred: Pred,
+    points: &[Point],
+    lines: &[Segment],
+) -> Result<bool, HoldsError>
+    requires outside { AreOutside points.now lines.now }
+    ensures holds { IfOk result (λ answer. IsTrue answer ↔ IsTrueOf pred (P points.now) (L lines.now)) }
+    ensures wrong_types { (result ≡ Err WrongTypes) ↔ (takes_kinds pred Points Lines ≡ false) }
+{
+    match pred {
+        Pred::Inside => Ok(are_on(alloc, points, lines)?),
+        Pred::Disjoint => Ok(are_off(alloc, points, lines)?),
+        _ => Err(HoldsError::WrongTypes),
+    }
+}
+
+// Whether each of the points is on a segment of the lines.
+fn are_on(alloc: Global, points: &[Point], lines: &[Segment]) -> Result<bool, NoMemory>
+    requires outside { AreOutside points.now lines.now }
+    ensures { IfOk result (λ answer. IsTrue answer ↔ IsInside (P points.now) (L lines.now)) }
+{
+    lesser_ends_first(lines);
+    let vertices = vertices(alloc, lines)?;
+    Ok(all_points_in(points, &vertices))
+}
+
+// Whether none of the points is on a segment of the lines.
+fn are_off(alloc: Global, points: &[Point], lines: &[Segment]) -> Result<bool, NoMemory>
+    requires outside { AreOutside points.now lines.now }
+    ensures { IfOk result (λ answer. IsTrue answer ↔ ¬ ShareAPoint (P points.now) (L lines.now)) }
+{
+    lesser_ends_first(lines);
+    let vertices = vertices(alloc, lines)?;
+    Ok(!share_point(points, &vertices))
+}
+
+pub(crate) fn of_points_and_region(
+    alloc: Global,
+    pred: Pred,
+    points: &[Point],
+    border: &[Segment],
+) -> Result<bool, HoldsError>
+    requires outside { AreOutside points.now border.now }
+    ensures holds { IfOk result (λ answer. IsTrue answer ↔ IsTrueOf pred (P points.now) (R border.now)) }
+    ensures wrong_types { (result ≡ Err WrongTypes) ↔ (takes_kinds pred Points Regions ≡ false) }
+{
+    match pred {
+        Pred::Inside => Ok(are_inside(alloc, points, border)?),
+        Pred::Disjoint => Ok(are_outside(alloc, points, border)?),
+        Pred::OnBorderOf => Ok(are_on(alloc, points, border)?),
+        _ => Err(HoldsError::WrongTypes),
+    }
+}
+
+// Whether each of the points is one of the region.
+fn are_inside(alloc: Global, points: &[Point], border: &[Segment]) -> Result<bool, NoMemory>
+    requires outside { AreOutside points.now border.now }
+    ensures { IfOk result (λ answer. IsTrue answer ↔ IsInside (P points.now) (R border.now)) }
+{
+    lesser_ends_first(border);
+    let vertices = vertices(alloc, border)?;
+    Ok(each_is_of(border, &vertices, points))
+}
+
+// Whether none of the points is one of the region.
+fn are_outside(alloc: Global, points: &[Point], border: &[Segment]) -> Result<bool, NoMemory>
+    requires outside { AreOutside points.now border.now }
+    ensures { IfOk result (λ answer. IsTrue answer ↔ ¬ ShareAPoint (P points.now) (R border.now)) }
+{
+    lesser_ends_first(border);
+    let vertices = vertices(alloc, border)?;
+    Ok(!one_is_of(border, &vertices, points))
+}
+
+// Whether each of the points is one of the region whose border has these ends.
+fn each_is_of(border: &[Segment], vertices: &[Point], points: &[Point]) -> bool
+    requires ascending { ArePointsAscending vertices.now }
+    ensures { IsTrue result
+        ↔ All (λ p. Contains vertices.now p ⊎ Odd border.now (as_place (as_rational p))) points.now }
+{
+    points.iter().all(|p| is_point_of(border, vertices, p))
+}
+
+// Whether some of the points is.
+fn one_is_of(border: &[Segment], vertices: &[Point], points: &[Point]) -> bool
+    requires ascending { ArePointsAscending vertices.now }
+    ensures { IsTrue result
+        ↔ Any (λ p. Contains vertices.now p ⊎ Odd border.now (as_place (as_rational p))) points.now }
+{
+    points.iter().any(|p| is_point_of(border, vertices, p))
+}
+
+// Whether the point is an end of the border, or odd.
+fn is_point_of(border: &[Segment], vertices: &[Point], p: &Point) -> bool
+    requires ascending { ArePointsAscending vertices.now }
+    ensures { IsTrue result
+        ↔ (Contains vertices.now p.now ⊎ Odd border.now (as_place (as_rational p.now))) }
+{
+    has_point(vertices, p) || is_odd(border, p)
+}
+
+// Whether an odd number of the segments is strictly above the point.
+fn is_odd(border: &[Segment], p: &Point) -> bool
+    ensures { IsTrue result ↔ Odd border.now (as_place (as_rational p.now)) }
+{
+    border.iter().filter(|s| above_at(s, p)).count() % 2 == 1
+}

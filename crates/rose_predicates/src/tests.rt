@@ -1,0 +1,360 @@
+//! Small pairs on squared paper, with the answer of every predicate worked out by hand from the table.
+ghost use Rattle.std.specs.Prelude.{◌≡◌, ◌⊎◌, ◌↔◌, ◌++◌, IsTrue, IfSome, All};
+ghost use Rattle.grid_base.specs.Border.{AreNoded};
+ghost use Rattle.grid_base.specs.Crossing.{Inside, Cross};
+ghost use Rattle.rose_values.specs.Border.{AreSegmentsAscending};
+ghost use Rattle.rose_values.specs.Operators.{segments_of};
+ghost use Rattle.rose_predicates.specs.Predicates.{points_of, AreOutside};
+
+use crate::{HoldsError, holds};
+use grid_base::{Point, Segment, crosses, in_side};
+use rose_overlay::{ascending_points, ascending_segments, lesser_ends_first};
+use rose_values::{Geometry, LinesValue, PointsValue, Pred, RegionsValue};
+use std::alloc::Global;
+use std::test::Fail;
+
+// Whether the two cross, or an end of `t` is inside `s`.
+fn disturbs(s: &Segment, t: &Segment) -> bool
+    ensures { IsTrue result
+        ↔ (Cross s.now t.now ⊎ (Inside t.now.a s.now ⊎ Inside t.now.b s.now)) }
+{
+    crosses(s, t) || in_side(s, &t.a()) || in_side(s, &t.b())
+}
+
+// Whether none of the list disturbs `s`.
+fn leaves(list: &[Segment], s: &Segment) -> bool
+    ensures { IsTrue result → All (λ t. ¬ (Cross s.now t ⊎ (Inside t.a s.now ⊎ Inside t.b s.now))) list.now }
+{
+    list.iter().all(|t| !disturbs(s, t))
+}
+
+// Whether the segments are those of a realm.
+fn are_noded(list: &[Segment]) -> bool
+    ensures { IsTrue result → AreNoded list.now }
+{
+    lesser_ends_first(list);
+    for s in list {
+        if !leaves(list, s) {
+            return false;
+        }
+    }
+    true
+}
+
+// Whether the point is inside none of the segments.
+fn is_outside(list: &[Segment], p: &Point) -> bool
+    ensures { IsTrue result → All (λ s. ¬ Inside p.now s) list.now }
+{
+    list.iter().all(|s| !in_side(s, p))
+}
+
+// Whether none of the points is inside a segment.
+fn are_outside(points: &[Point], list: &[Segment]) -> bool
+    ensures { IsTrue result → AreOutside points.now list.now }
+{
+    points.iter().all(|p| is_outside(list, p))
+}
+
+fn segment(ends: &[u64; 4]) -> Option<Segment> {
+    let [x, y, u, v] = *ends;
+    Segment::new(Point::new(x, y).ok()?, Point::new(u, v).ok()?)
+}
+
+fn segments(alloc: Global, table: &[[u64; 4]]) -> Option<Vec<Segment>>
+    ensures { IfSome result (λ v. AreSegmentsAscending v.items) }
+{
+    let mut list = Vec::new(alloc);
+    for ends in table {
+        list.push(segment(ends)?).ok()?;
+    }
+    Some(ascending_segments(list))
+}
+
+fn lines(alloc: Global, table: &[[u64; 4]]) -> Option<Geometry> {
+    let list = segments(alloc, table)?;
+    if !are_noded(&list) {
+        return None;
+    }
+    Some(Geometry::L(LinesValue::new(list)))
+}
+
+fn region(alloc: Global, table: &[[u64; 4]]) -> Option<Geometry> {
+    let list = segments(alloc, table)?;
+    if !are_noded(&list) {
+        return None;
+    }
+    match RegionsValue::from_segments(list) {
+        Ok(region) => Some(Geometry::R(region)),
+        Err(_) => None,
+    }
+}
+
+fn points(alloc: Global, table: &[[u64; 2]]) -> Option<Geometry> {
+    let mut list = Vec::new(alloc);
+    for [x, y] in table {
+        list.push(Point::new(*x, *y).ok()?).ok()?;
+    }
+    Some(Geometry::P(PointsValue::new(ascending_points(list))))
+}
+
+// The segments of the two values.
+fn segments_in(alloc: Global, a: &Geometry, b: &Geometry) -> Option<Vec<Segment>>
+    ensures { IfSome result (λ v. v.items ≡ segments_of a.now ++ segments_of b.now) }
+{
+    let mut list = Vec::new(alloc);
+    list.extend_from_slice(own_segments(a)).ok()?;
+    list.extend_from_slice(own_segments(b)).ok()?;
+    Some(list)
+}
+
+fn own_segments(value: &Geometry) -> &[Segment]
+    ensures { result.now ≡ segments_of value.now }
+{
+    match value {
+        Geometry::P(_) => &[],
+        Geometry::L(lines) => lines.segments(),
+        Geometry::R(region) => region.segments(),
+    }
+}
+
+// The points of the two values.
+fn points_in(alloc: Global, a: &Geometry, b: &Geometry) -> Option<Vec<Point>>
+    ensures { IfSome result (λ v. v.items ≡ points_of a.now ++ points_of b.now) }
+{
+    let mut list = Vec::new(alloc);
+    list.extend_from_slice(own_points(a)).ok()?;
+    list.extend_from_slice(own_points(b)).ok()?;
+    Some(list)
+}
+
+fn own_points(value: &Geometry) -> &[Point]
+    ensures { result.now ≡ points_of value.now }
+{
+    match value {
+        Geometry::P(points) => points.points(),
+        _ => &[],
+    }
+}
+
+const ALL: [Pred; 13] = [
+    Pred::Equal,
+    Pred::Inside,
+    Pred::EdgeInside,
+    Pred::VertexInside,
+    Pred::AreaDisjoint,
+    Pred::EdgeDisjoint,
+    Pred::Disjoint,
+    Pred::Intersects,
+    Pred::Meets,
+    Pred::Adjacent,
+    Pred::Encloses,
+    Pred::OnBorderOf,
+    Pred::BorderInCommon,
+];
+
+// The answer of each predicate in this order: 1 where it holds, 0 where not, - where it doesn't take the kinds.
+fn answers(alloc: Global, a: &Geometry, b: &Geometry) -> Option<String> {
+    let list = segments_in(alloc, a, b)?;
+    let given = points_in(alloc, a, b)?;
+    if !are_noded(&list) || !are_outside(&given, &list) {
+        return None;
+    }
+    let mut told = String::new(alloc);
+    for pred in ALL {
+        told.push(match holds(alloc, pred, a, b) {
+            Ok(true) => '1',
+            Ok(false) => '0',
+            Err(HoldsError::WrongTypes) => '-',
+            Err(HoldsError::NoMemory) => return None,
+        })
+        .ok()?;
+    }
+    Some(told)
+}
+
+const SMALL: [[u64; 4]; 4] = [[2, 2, 2, 4], [2, 2, 4, 2], [2, 4, 4, 4], [4, 2, 4, 4]];
+
+const LARGE: [[u64; 4]; 4] = [[0, 0, 0, 6], [0, 0, 6, 0], [0, 6, 6, 6], [6, 0, 6, 6]];
+
+const RIGHT: [[u64; 4]; 4] = [[4, 2, 4, 4], [4, 2, 6, 2], [4, 4, 6, 4], [6, 2, 6, 4]];
+
+const CORNER: [[u64; 4]; 4] = [[4, 4, 4, 6], [4, 4, 6, 4], [4, 6, 6, 6], [6, 4, 6, 6]];
+
+const FAR: [[u64; 4]; 4] = [[8, 8, 8, 9], [8, 8, 9, 8], [8, 9, 9, 9], [9, 8, 9, 9]];
+
+const KITE: [[u64; 4]; 4] = [[0, 0, 1, 3], [0, 0, 3, 1], [1, 3, 3, 3], [3, 1, 3, 3]];
+
+const RING: [[u64; 4]; 8] = [
+    [0, 0, 0, 6],
+    [0, 0, 6, 0],
+    [0, 6, 6, 6],
+    [2, 2, 2, 4],
+    [2, 2, 4, 2],
+    [2, 4, 4, 4],
+    [4, 2, 4, 4],
+    [6, 0, 6, 6],
+];
+
+const WIDE_RING: [[u64; 4]; 8] = [
+    [0, 0, 0, 6],
+    [0, 0, 6, 0],
+    [0, 6, 6, 6],
+    [1, 1, 1, 5],
+    [1, 1, 5, 1],
+    [1, 5, 5, 5],
+    [5, 1, 5, 5],
+    [6, 0, 6, 6],
+];
+
+fn are_told(told: Option<String>, want: &str) -> bool {
+    match told {
+        Some(told) => told.as_str() == want,
+        None => false,
+    }
+}
+
+fn of_regions(alloc: Global, a: &[[u64; 4]], b: &[[u64; 4]]) -> Option<String> {
+    answers(alloc, &region(alloc, a)?, &region(alloc, b)?)
+}
+
+fn of_lines(alloc: Global, a: &[[u64; 4]], b: &[[u64; 4]]) -> Option<String> {
+    answers(alloc, &lines(alloc, a)?, &lines(alloc, b)?)
+}
+
+fn of_lines_and_region(alloc: Global, a: &[[u64; 4]], b: &[[u64; 4]]) -> Option<String> {
+    answers(alloc, &lines(alloc, a)?, &region(alloc, b)?)
+}
+
+fn of_points(alloc: Global, a: &[[u64; 2]], b: &[[u64; 2]]) -> Option<String> {
+    answers(alloc, &points(alloc, a)?, &points(alloc, b)?)
+}
+
+fn of_points_and_lines(alloc: Global, a: &[[u64; 2]], b: &[[u64; 4]]) -> Option<String> {
+    answers(alloc, &points(alloc, a)?, &lines(alloc, b)?)
+}
+
+fn of_points_and_region(alloc: Global, a: &[[u64; 2]], b: &[[u64; 4]]) -> Option<String> {
+    answers(alloc, &points(alloc, a)?, &region(alloc, b)?)
+}
+
+// Squares beside one another and in one another, with common sides and corners, rings, and nothing.
+#[test]
+fn two_regions(rt: HostRuntime) -> Result<(), Fail> {
+    let alloc = rt.alloc();
+    for (a, b, want) in [
+        (&SMALL[..], &SMALL[..], "11000001000-1"),
+        (&SMALL[..], &LARGE[..], "01110001000-0"),
+        (&LARGE[..], &SMALL[..], "00000001000-0"),
+        (&KITE[..], &LARGE[..], "01100001000-0"),
+        (&SMALL[..], &RIGHT[..], "00001000010-1"),
+        (&SMALL[..], &CORNER[..], "00001100100-0"),
+        (&SMALL[..], &FAR[..], "00001110000-0"),
+        (&RING[..], &SMALL[..], "00001000011-1"),
+        (&WIDE_RING[..], &SMALL[..], "00001110001-0"),
+        (&SMALL[..], &WIDE_RING[..], "00001110000-0"),
+        (&SMALL[..], &[][..], "00001110001-0"),
+        (&[][..], &SMALL[..], "01111110000-0"),
+        (&[][..], &[][..], "11111110001-0"),
+    ] {
+        assert!(rt; are_told(of_regions(alloc, a, b), want), "{a:?} {b:?}");
+    }
+    Ok(())
+}
+
+// Lines on the border, to a corner from outside and from inside, within, through, and none.
+#[test]
+fn lines_and_a_region(rt: HostRuntime) -> Result<(), Fail> {
+    let alloc = rt.alloc();
+    for (a, b, want) in [
+        (&[[2, 2, 2, 4]][..], &SMALL[..], "-1----001--11"),
+        (&[[4, 4, 6, 6]][..], &SMALL[..], "-0----001--00"),
+        (&[[3, 3, 4, 4]][..], &SMALL[..], "-1----010--00"),
+        (&[[2, 2, 4, 4]][..], &SMALL[..], "-1----010--00"),
+        (
+            &[[1, 1, 2, 2], [2, 2, 4, 4]][..],
+            &SMALL[..],
+            "-0----010--00",
+        ),
+        (&[[7, 7, 8, 9]][..], &SMALL[..], "-0----100--00"),
+        (&[][..], &SMALL[..], "-1----100--10"),
+        (&[[7, 7, 8, 9]][..], &[][..], "-0----100--00"),
+    ] {
+        assert!(rt;
+            are_told(of_lines_and_region(alloc, a, b), want),
+            "{a:?} {b:?}"
+        );
+    }
+    Ok(())
+}
+
+// Points at a corner, in a region, and outside.
+#[test]
+fn points_and_a_region(rt: HostRuntime) -> Result<(), Fail> {
+    let alloc = rt.alloc();
+    for (a, want) in [
+        (&[[2, 2]][..], "-1----0----1-"),
+        (&[[2, 2], [3, 3]][..], "-1----0----0-"),
+        (&[[3, 3], [7, 7]][..], "-0----0----0-"),
+        (&[[3, 1], [7, 7]][..], "-0----1----0-"),
+        (&[][..], "-1----1----1-"),
+    ] {
+        assert!(rt;
+            are_told(of_points_and_region(alloc, a, &SMALL), want),
+            "{a:?}"
+        );
+    }
+    Ok(())
+}
+
+// Points at an end, and off the lines.
+#[test]
+fn points_and_lines(rt: HostRuntime) -> Result<(), Fail> {
+    let alloc = rt.alloc();
+    let bend = [[0, 0, 2, 2], [2, 2, 5, 2]];
+    for (a, want) in [
+        (&[[2, 2]][..], "-1----0------"),
+        (&[[2, 2], [3, 3]][..], "-0----0------"),
+        (&[[3, 3], [7, 7]][..], "-0----1------"),
+        (&[][..], "-1----1------"),
+    ] {
+        assert!(rt;
+            are_told(of_points_and_lines(alloc, a, &bend), want),
+            "{a:?}"
+        );
+    }
+    Ok(())
+}
+
+#[test]
+fn two_lists_of_points(rt: HostRuntime) -> Result<(), Fail> {
+    let alloc = rt.alloc();
+    for (a, b, want) in [
+        (
+            &[[2, 2], [3, 3]][..],
+            &[[3, 3], [2, 2]][..],
+            "1-----0------",
+        ),
+        (&[[2, 2], [3, 3]][..], &[[2, 2]][..], "0-----0------"),
+        (&[[3, 3], [7, 7]][..], &[[2, 2]][..], "0-----1------"),
+        (&[][..], &[][..], "1-----1------"),
+    ] {
+        assert!(rt; are_told(of_points(alloc, a, b), want), "{a:?} {b:?}");
+    }
+    Ok(())
+}
+
+// Lines that cross in a common end, that have a segment in common, and that don't touch.
+#[test]
+fn two_lines(rt: HostRuntime) -> Result<(), Fail> {
+    let alloc = rt.alloc();
+    let rising = [[0, 0, 2, 2], [2, 2, 4, 4]];
+    for (b, want) in [
+        (&[[0, 0, 2, 2], [2, 2, 4, 4]][..], "1-----01-----"),
+        (&[[0, 4, 2, 2], [2, 2, 4, 0]][..], "0-----01-----"),
+        (&[[0, 0, 2, 2]][..], "0-----01-----"),
+        (&[[9, 0, 9, 9]][..], "0-----10-----"),
+    ] {
+        assert!(rt; are_told(of_lines(alloc, &rising, b), want), "{b:?}");
+    }
+    Ok(())
+}

@@ -1,0 +1,35 @@
+use Rattle.std.proofs.Common.{inl, inr, subst, ap, Err}
+use Rattle.realm_insert.specs.State.{State}
+use Rattle.state_counts.specs.Counts.{TellsCounts}
+use Rattle.realm_store.proofs.OneReading.{one_reading}
+use Rattle.rose_shell.proofs.Rises.{rose_behind, unstarted}
+use Rattle.rose_shell.proofs.Tellings.{lines_behind}
+use Rattle.rose_shell.proofs.telling.tell_store.Goals as goal
+
+-- file A stands for the state whose numbers are told
+pub returns-in-Ok-count_state-clause-told : goal.returns-in-Ok-count_state-clause-told
+returns-in-Ok-count_state-clause-told g c = λ tells.
+    let started = c.in-Ok.ensures.told (c.give_lines.ensures.goes_on.tells tells) in
+    let kept = c.in-Ok.store.kept in
+    inr (
+      kept.state,
+      c.in-Ok-count_state.lines,
+      (kept.next, started.stands.0.stands),
+      subst (λ (s : State). TellsCounts s c.in-Ok-count_state.lines) c.state.ensures.state c.in-Ok-count_state.ensures,
+      lines_behind started.asks (c.give_lines.ensures.told tells),
+    )
+
+-- a sink that failed has risen since the start
+pub returns-in-Ok-count_state-clause-complete : goal.returns-in-Ok-count_state-clause-complete
+returns-in-Ok-count_state-clause-complete g c = λ tells sink disk state stands.
+    elim c.give_lines.ensures.ends [
+      | inl done ↦ inl done
+      | inr fault ↦ absurd (sink (rose_behind c.start.ensures.goes_on.sink_faults (c.give_lines.ensures.sink_fault fault)))
+    ]
+
+-- the disk didn't fail, and the file isn't damaged
+pub returns-clause-complete : goal.returns-clause-complete
+returns-clause-complete g c = λ tells sink disk state stands.
+    unstarted c.in-Err.error c.status_unstarted.ensures
+    (λ is. disk (c.in-Err.ensures.disk_fault (ap Err is)))
+    (λ d is. one_reading d _ state ((c.in-Err.ensures.told tells).damaged d (ap Err is)) stands)

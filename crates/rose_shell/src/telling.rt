@@ -1,0 +1,93 @@
+//! Commands that give a few lines, and take none.
+ghost use Rattle.std.specs.Prelude.{◌≡◌, ◌≢◌, ◌≤◌, ◌⊎◌};
+ghost use Rattle.outside_world.specs.Counts.{Rose};
+ghost use Rattle.outside_world.specs.GoesOn.{GoesOn};
+ghost use Rattle.outside_world.specs.declared.world.FileName.TheVariants.{A};
+ghost use Rattle.realm_insert.specs.State.{State};
+ghost use Rattle.realm_store.specs.Stands.{StandsFor};
+ghost use Rattle.realm_store.specs.Damages.{IsDamaged};
+ghost use Rattle.realm_store.specs.declared.damage.Damage.{Damage};
+ghost use Rattle.rose_shell.specs.Telling.{GivesLines, HasChecked, HasGenerated};
+
+use crate::giving::give_all;
+use crate::status::{Status, status_unstarted};
+use generated_map::generate;
+use grid_base::{NoMemory, Reply};
+use outside_world::{Failed, Outside};
+use realm_store::Store;
+use state_counts::count_state;
+use std::alloc::Global;
+use std::thread::Threads;
+
+/// Reads what file A stands for, and gives the lines that tell how much it is.
+pub(crate) fn tell_store<R: Threads + Sync, W: Outside>(
+    rt: &R,
+    alloc: Global,
+    world: &mut W,
+) -> Status
+    ensures never_usage { result ≢ Status.Usage }
+    ensures never_source_fault { result ≢ Status.SourceFault }
+    ensures sink_fault { result ≡ Status.SinkFault
+        → Rose (W.sink_faults world.old) (W.sink_faults world.new) }
+    ensures disk_fault { result ≡ Status.DiskFault
+        → Rose (W.disk_faults world.old) (W.disk_faults world.new) }
+    ensures damaged { (d : Damage) → result ≡ Status.Damaged d → W.tells world.new
+        → IsDamaged d ((W.view world.old).reads A) }
+    ensures told { W.tells world.new → HasChecked (W.view world.old) (W.view world.new) result }
+    ensures complete { W.tells world.new
+        → ¬ (Rose (W.sink_faults world.old) (W.sink_faults world.new))
+        → ¬ (Rose (W.disk_faults world.old) (W.disk_faults world.new))
+        → (state : State) → StandsFor ((W.view world.old).reads A) state
+        → (result ≡ Status.Done) ⊎ (result ≡ Status.NoMemory) }
+    ensures goes_on { GoesOn ⟦<W as Outside>⟧ world.old world.new }
+{
+    match Store::start(rt, alloc, world) {
+        Ok(store) => match count_state(alloc, store.state()) {
+            Ok(lines) => give_lines(world, &lines),
+            Err(NoMemory) => Status::NoMemory,
+        },
+        Err(error) => status_unstarted(error),
+    }
+}
+
+/// Gives the lines that tell of a map that nobody wrote.
+pub(crate) fn tell_map<R: Threads + Sync, W: Outside>(
+    rt: &R,
+    alloc: Global,
+    world: &mut W,
+    lines: u64,
+    start: u64,
+) -> Status
+    requires few { lines ≤ 100000 }
+    ensures never_usage { result ≢ Status.Usage }
+    ensures never_source_fault { result ≢ Status.SourceFault }
+    ensures never_disk_fault { result ≢ Status.DiskFault }
+    ensures never_damaged { (d : Damage) → result ≢ Status.Damaged d }
+    ensures sink_fault { result ≡ Status.SinkFault
+        → Rose (W.sink_faults world.old) (W.sink_faults world.new) }
+    ensures told { W.tells world.new
+        → HasGenerated lines start (W.view world.old) (W.view world.new) result }
+    ensures complete { ¬ (Rose (W.sink_faults world.old) (W.sink_faults world.new))
+        → (result ≡ Status.Done) ⊎ (result ≡ Status.NoMemory) }
+    ensures goes_on { GoesOn ⟦<W as Outside>⟧ world.old world.new }
+{
+    match generate(rt, alloc, lines, start) {
+        Ok(told) => give_lines(world, &told),
+        Err(NoMemory) => Status::NoMemory,
+    }
+}
+
+// Gives the lines whole, or as many of their bytes as the sink took before it failed.
+fn give_lines<W: Outside>(world: &mut W, lines: &Reply) -> Status
+    ensures ends { (result ≡ Status.Done) ⊎ (result ≡ Status.SinkFault) }
+    ensures sink_fault { result ≡ Status.SinkFault
+        → Rose (W.sink_faults world.old) (W.sink_faults world.new) }
+    ensures told { W.tells world.new
+        → GivesLines (W.view world.old) (W.view world.new) lines.now result }
+    ensures goes_on { GoesOn ⟦<W as Outside>⟧ world.old world.new }
+{
+    match give_all(world, lines.bytes()) {
+        Ok(()) => Status::Done,
+        Err(Failed) => Status::SinkFault,
+    }
+}

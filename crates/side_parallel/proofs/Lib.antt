@@ -1,0 +1,2 @@
+-- outcomes that are all good
+pub mod Gathered

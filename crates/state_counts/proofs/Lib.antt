@@ -1,0 +1,2 @@
+-- how many originals have an id below a number
+pub mod IdsBelow

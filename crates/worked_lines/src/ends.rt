@@ -1,0 +1,137 @@
+//! What words do, and how runs end: behind long lines, at faults and at budgets.
+use crate::running::{run_words, serve_within, world_of};
+use grid_base::NoMemory;
+use std::alloc::Global;
+use std::process::Abort;
+use std::thread::Threads;
+
+// Words, what they give over an empty file, and the status.
+static WORDS: [(&str, &str, u8); 9] = [
+    ("", "", 1),
+    ("run x", "", 1),
+    ("check check", "", 1),
+    ("--help", "", 1),
+    ("gen 100001 7", "", 1),
+    ("run", "realm 0 0\n", 0),
+    (
+        "check",
+        "changes 0\noriginals 0\nvalues 0\npoints 0\npieces 0\n",
+        0,
+    ),
+    (
+        "gen 0 7",
+        "gen 0 7\noriginals 0\nvalues 0\npoints 0\npieces 0\nsteps 0\n",
+        0,
+    ),
+    (
+        "gen 1 7",
+        "gen 1 7\noriginals 1\nvalues 0\npoints 2\npieces 1\nsteps 0\n",
+        0,
+    ),
+];
+
+// These words give this.
+fn look_at_words<R: Threads + Sync + Abort>(
+    rt: &R,
+    alloc: Global,
+    words: &str,
+    given: &str,
+    number: u8,
+) -> Result<(), NoMemory> {
+    let mut world = world_of(alloc, "realm\n", b"", &[])?;
+    let status = run_words(rt, alloc, words, &mut world)?;
+    assert_eq!(rt; status.number(), number, "at {words:?}");
+    assert_eq!(rt; world.given(), given.as_bytes(), "at {words:?}");
+    Ok(())
+}
+
+#[test]
+fn words_choose_what_is_done(rt: HostRuntime) {
+    for (words, given, number) in WORDS.iter() {
+        let done = look_at_words(&rt, rt.alloc(), words, given, *number);
+        assert!(rt; done.is_ok(), "no memory");
+    }
+}
+
+// Of sessions that begin with one line of so many bytes: what stands behind them, the budget and the replies.
+static LONG_LINES: [(usize, &str, u64, &str); 4] = [
+    (1_048_576, "\nrealm\n", 2_000_000, "no line 0\nrealm 0 0\n"),
+    (
+        1_048_577,
+        "\nrealm\n",
+        2_000_000,
+        "no too-long\nrealm 0 0\n",
+    ),
+    // What stands after the last line feed is a line only at the end of the input.
+    (1_048_577, "", 2_000_000, "no too-long\n"),
+    (1_048_578, "", 1_048_577, ""),
+];
+
+// This session gets its replies.
+fn look_at_line<R: Threads + Sync + Abort>(
+    rt: &R,
+    alloc: Global,
+    size: usize,
+    behind: &str,
+    budget: u64,
+    replies: &str,
+) -> Result<(), NoMemory> {
+    let mut input = "x".repeat(alloc, size)?;
+    input.push_str(behind)?;
+    let mut world = world_of(alloc, input.as_str(), b"", &[])?;
+    let _ = serve_within(rt, alloc, &mut world, budget);
+    assert_eq!(rt; world.given(), replies.as_bytes(), "at {size} bytes");
+    Ok(())
+}
+
+#[test]
+fn a_line_has_a_mebibyte_at_most(rt: HostRuntime) {
+    for (size, behind, budget, replies) in LONG_LINES.iter() {
+        let done = look_at_line(&rt, rt.alloc(), *size, behind, *budget, replies);
+        assert!(rt; done.is_ok(), "no memory");
+    }
+}
+
+// Of a session with the one line `realm`: the call that fails, the budget, the status and the replies. The start makes two
+// calls, a take is the third, and the give of the reply the fourth.
+static FAULTS: [(u64, u64, u8, &str); 7] = [
+    (1, 1_000, 4, ""),
+    (3, 1_000, 2, ""),
+    (4, 1_000, 3, ""),
+    (5, 1_000, 2, "realm 0 0\n"),
+    (9, 0, 7, ""),
+    (9, 5, 7, ""),
+    (9, 6, 0, "realm 0 0\n"),
+];
+
+// This session ends so.
+fn look_at_fault<R: Threads + Sync + Abort>(
+    rt: &R,
+    alloc: Global,
+    call: u64,
+    budget: u64,
+    number: u8,
+    replies: &str,
+) -> Result<(), NoMemory> {
+    let mut world = world_of(alloc, "realm\n", b"", &[call])?;
+    let status = serve_within(rt, alloc, &mut world, budget);
+    assert_eq!(rt;
+        status.number(),
+        number,
+        "at call {call} and budget {budget}"
+    );
+    assert_eq!(rt;
+        world.given(),
+        replies.as_bytes(),
+        "at call {call} and budget {budget}"
+    );
+    Ok(())
+}
+
+#[test]
+fn a_fault_or_the_budget_ends_the_session(rt: HostRuntime) {
+    for (call, budget, number, replies) in FAULTS.iter() {
+        let done = look_at_fault(&rt, rt.alloc(), *call, *budget, *number, replies);
+        assert!(rt; done.is_ok(), "no memory");
+    }
+}

@@ -1,0 +1,206 @@
+//! File A: its bytes after a commit, what is found in it after a crash, and what is told of one that is damaged. The bytes
+//! are the example of docs/formats/FILES.md.
+use crate::running::{left, look, run_words, told, world_of};
+use grid_base::NoMemory;
+use outside_world::{Leave, MemoryWorld};
+use std::alloc::Global;
+use std::process::Abort;
+use std::thread::Threads;
+
+// The first gate, and the head of a first generation but for its zeros.
+static FRONT: [u8; 18] = [
+    0xa5, 0x52, 0x4f, 0x53, 0x45, 0x52, 0x45, 0x4c, 0x00, 0x01, 0x00, 0x00, 0x00, 0x00, 0x00, 0x00,
+    0x00, 0x01,
+];
+
+// An open gate, and behind it change 0, `point 3 0`, with no step.
+static POINT: [u8; 38] = [
+    0xa5, 0x00, 0x00, 0x00, 0x00, 0x00, 0x00, 0x00, 0x1d, 0x00, 0x00, 0x00, 0x00, 0x00, 0x00, 0x00,
+    0x00, 0x00, 0x00, 0x00, 0x09, 0x70, 0x6f, 0x69, 0x6e, 0x74, 0x20, 0x33, 0x20, 0x30, 0x00, 0x00,
+    0x00, 0x00, 0x00, 0x00, 0x00, 0x00,
+];
+
+// A file of this generation, with records of these numbers, each behind an open gate, and these bytes behind them.
+fn file_of(
+    alloc: Global,
+    generation: u8,
+    numbers: &[u8],
+    behind: &[u8],
+) -> Result<Vec<u8>, NoMemory> {
+    let mut file = Vec::from_slice(alloc, &FRONT)?;
+    file[17] = generation;
+    file.resize(4_096, 0)?;
+    for number in numbers {
+        let mut record = POINT;
+        record[16] = *number;
+        file.extend_from_slice(&record)?;
+    }
+    file.extend_from_slice(behind)?;
+    Ok(file)
+}
+
+// The numbers of the records in a file and the bytes behind them; the number of one change more, and its reply.
+static COMMITS: [(&[u8], &[u8], u8, &str); 4] = [
+    (b"", b"\0", 1, "ok 1 steps 0 first 1 new 0\n"),
+    (b"\x01", b"\0", 2, "ok 2 steps 0 first 1 new 0\n"),
+    // The byte of the next gate is missing.
+    (b"\x01", b"", 2, "ok 2 steps 0 first 1 new 0\n"),
+    (
+        b"\x01\x02\x03\x04\x05\x06\x07\x08\x09",
+        b"\0",
+        10,
+        "ok 10 steps 0 first 1 new 0\n",
+    ),
+];
+
+// The change has its reply, and its record stands behind the others.
+fn look_at_commit<R: Threads + Sync + Abort>(
+    rt: &R,
+    alloc: Global,
+    numbers: &[u8],
+    behind: &[u8],
+    number: u8,
+    reply: &str,
+) -> Result<(), NoMemory> {
+    let before = file_of(alloc, 1, numbers, behind)?;
+    let world = look(rt, alloc, "point 3 0\n", &before, reply, 0)?;
+    let after = left(&world, world.calls(), Leave::New)?;
+    let mut more = Vec::from_slice(alloc, numbers)?;
+    more.push(number)?;
+    let wanted = file_of(alloc, 1, &more, b"\0")?;
+    assert!(rt; after == wanted, "at {numbers:?} and {behind:?}");
+    Ok(())
+}
+
+#[test]
+fn a_commit_writes_its_record(rt: HostRuntime) {
+    for (numbers, behind, number, reply) in COMMITS.iter() {
+        let done = look_at_commit(&rt, rt.alloc(), numbers, behind, *number, reply);
+        assert!(rt; done.is_ok(), "no memory");
+    }
+}
+
+// What is told of a whole file: a status, and the number of changes, of the page or of the record.
+static WHOLE: [(&[u8], u8, u64); 5] = [
+    (b"", 0, 0),
+    (b"\xa5", 0, 0),
+    (b"\0", 0, 0),
+    (b"\0R", 0, 0),
+    (b"\xa5R", 5, 0),
+];
+
+// The same of a file of this generation, with records of these numbers and these bytes behind them.
+static RECORDS: [(u8, &[u8], &[u8], u8, u64); 7] = [
+    (2, b"", b"", 5, 0),
+    (1, b"", b"", 0, 0),
+    (1, b"\x01", b"", 0, 1),
+    (1, b"\x01", b"\0\xa5", 0, 1),
+    (1, b"\x02", b"", 5, 1),
+    (1, b"", b"\xa5\0\0\0\0\0\0\0\x1d", 5, 1),
+    (1, b"\x01\x01", b"", 5, 2),
+];
+
+// A start tells this of the file, and a run on it gives nothing and ends with this status.
+fn look_at_file<R: Threads + Sync + Abort>(
+    rt: &R,
+    alloc: Global,
+    file: &[u8],
+    status: u8,
+    number: u64,
+) -> Result<(), NoMemory> {
+    let found = told(rt, alloc, file);
+    assert_eq!(rt; found, (status, number), "{file:?}");
+    let _ = look(rt, alloc, "", file, "", status)?;
+    Ok(())
+}
+
+// The same of a file with these records.
+fn look_at_records<R: Threads + Sync + Abort>(
+    rt: &R,
+    alloc: Global,
+    generation: u8,
+    numbers: &[u8],
+    behind: &[u8],
+    status: u8,
+    number: u64,
+) -> Result<(), NoMemory> {
+    let file = file_of(alloc, generation, numbers, behind)?;
+    look_at_file(rt, alloc, &file, status, number)
+}
+
+#[test]
+fn files_stand_for_states_or_are_damaged(rt: HostRuntime) {
+    for (file, status, number) in WHOLE.iter() {
+        let done = look_at_file(&rt, rt.alloc(), file, *status, *number);
+        assert!(rt; done.is_ok(), "no memory");
+    }
+    for (generation, numbers, behind, status, number) in RECORDS.iter() {
+        let done = look_at_records(
+            &rt,
+            rt.alloc(),
+            *generation,
+            numbers,
+            behind,
+            *status,
+            *number,
+        );
+        assert!(rt; done.is_ok(), "no memory");
+    }
+}
+
+// Lines on an empty file and their replies; then the words of a run on the file that they leave, its lines and what it gives.
+static AGAIN: [(&str, &str, &str, &str, &str); 3] = [
+    (
+        "segment 0 0 3 1\nsegment 0 1 3 0\n",
+        "ok 1 steps 0 first 1 new 1\nok 2 steps 1 first 2 new 1\n",
+        "check",
+        "",
+        "changes 2\noriginals 2\nvalues 0\npoints 5\npieces 4\n",
+    ),
+    (
+        "lines l 0 0 3 0\nsegment 1 0 1 2\ndrop l\n",
+        "ok 1 steps 0 first 1 new 1\nok 2 steps 1 first 2 new 1\nok 3 steps 0 first 3 new 0\n",
+        "run",
+        "show l\nchain 1\ntrace 2\n",
+        "no no-name\nchain 3\n0 0\n1 0\n3 0\ntrace 1\nsplit 1 0 0 0 3 0\n",
+    ),
+    // A value by an operator stands by itself.
+    (
+        "lines l 0 0 3 0\nlet p = vertices l\ndrop l\ndelete 1\n",
+        "ok 1 steps 0 first 1 new 1\nok 2 steps 0 first 2 new 0\n\
+         ok 3 steps 0 first 2 new 0\nok 4 steps 0 first 2 new 0\n",
+        "run",
+        "show p\ntrace 2\n",
+        "points 2\n0 0\n3 0\ntrace 0\n",
+    ),
+];
+
+// The second run gives this.
+fn look_again<R: Threads + Sync + Abort>(
+    rt: &R,
+    alloc: Global,
+    before: &MemoryWorld,
+    words: &str,
+    lines: &str,
+    given: &str,
+) -> Result<(), NoMemory> {
+    let file = left(before, before.calls(), Leave::Old)?;
+    let mut world = world_of(alloc, lines, &file, &[])?;
+    let status = run_words(rt, alloc, words, &mut world)?;
+    assert_eq!(rt; status.number(), 0, "at {words:?}");
+    assert_eq!(rt; world.given(), given.as_bytes(), "at {words:?}");
+    Ok(())
+}
+
+#[test]
+fn what_was_made_is_found_again(rt: HostRuntime) {
+    for (lines, replies, words, more, given) in AGAIN.iter() {
+        match look(&rt, rt.alloc(), lines, b"", replies, 0) {
+            Ok(world) => {
+                let done = look_again(&rt, rt.alloc(), &world, words, more, given);
+                assert!(rt; done.is_ok(), "no memory");
+            }
+            Err(NoMemory) => assert!(rt; false, "no memory"),
+        }
+    }
+}

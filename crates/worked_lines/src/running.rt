@@ -1,0 +1,85 @@
+//! Runs in worlds in memory.
+use grid_base::NoMemory;
+use outside_world::{Leave, MemoryWorld};
+use realm_store::{Damage, StartError, Store};
+use rose_shell::{Status, run, serve};
+use std::alloc::Global;
+use std::process::Abort;
+use std::thread::Threads;
+
+/// A world with this input and file A, in which the calls of these numbers fail.
+pub(crate) fn world_of(
+    alloc: Global,
+    input: &str,
+    file: &[u8],
+    failing: &[u64],
+) -> Result<MemoryWorld, NoMemory> {
+    let input = Vec::from_slice(alloc, input.as_bytes())?;
+    let file = Vec::from_slice(alloc, file)?;
+    let failing = Vec::from_slice(alloc, failing)?;
+    MemoryWorld::new(alloc, input, file, Vec::new(alloc), failing)
+}
+
+/// What the program does with these words there, one space between two of them.
+pub(crate) fn run_words<R: Threads + Sync>(
+    rt: &R,
+    alloc: Global,
+    text: &str,
+    world: &mut MemoryWorld,
+) -> Result<Status, NoMemory> {
+    let mut words = Vec::new(alloc);
+    for word in text.split_whitespace() {
+        words.push(String::from_str(alloc, word)?)?;
+    }
+    Ok(run(rt, alloc, words.as_slice(), world))
+}
+
+/// Serves the lines of the input, with this budget.
+pub(crate) fn serve_within<R: Threads + Sync>(
+    rt: &R,
+    alloc: Global,
+    world: &mut MemoryWorld,
+    budget: u64,
+) -> Status {
+    match Store::start(rt, alloc, world) {
+        Ok(mut store) => serve(rt, alloc, &mut store, world, budget),
+        Err(_) => Status::DiskFault,
+    }
+}
+
+/// A run over these lines on file A gives this and ends with this number.
+pub(crate) fn look<R: Threads + Sync + Abort>(
+    rt: &R,
+    alloc: Global,
+    lines: &str,
+    file: &[u8],
+    replies: &str,
+    number: u8,
+) -> Result<MemoryWorld, NoMemory> {
+    let mut world = world_of(alloc, lines, file, &[])?;
+    let status = run_words(rt, alloc, "run", &mut world)?;
+    assert_eq!(rt; status.number(), number, "at {lines:?}");
+    assert_eq!(rt; world.given(), replies.as_bytes(), "at {lines:?}");
+    Ok(world)
+}
+
+/// What a start tells of a file A with these bytes: 0 and the number of its changes; or 5 and the number of the record or
+/// the page that is damaged; or the number of another status.
+pub(crate) fn told<R: Threads + Sync>(rt: &R, alloc: Global, file: &[u8]) -> (u8, u64) {
+    let Ok(mut world) = world_of(alloc, "", file, &[]) else {
+        return (6, 0);
+    };
+    match Store::start(rt, alloc, &mut world) {
+        Ok(store) => (0, store.state().changes()),
+        Err(StartError::Damaged(Damage::BadPage { page, .. })) => (5, page),
+        Err(StartError::Damaged(Damage::BadRecord { number, .. })) => (5, number),
+        Err(StartError::Disk) => (4, 0),
+        Err(StartError::NoMemory) => (6, 0),
+    }
+}
+
+/// File A as a crash after so many calls leaves it.
+pub(crate) fn left(world: &MemoryWorld, moment: u64, leave: Leave) -> Result<Vec<u8>, NoMemory> {
+    let (a, _) = world.images(moment.min(world.calls()), leave)?;
+    Ok(a)
+}
