@@ -1,0 +1,84 @@
+#!/usr/bin/env bash
+# compare.sh ROSE: runs the program ROSE on each scene of this folder, and on the lines that the tutorial and the
+# reference show, and compares the replies with those that stand there. Ends with 0 where all are equal, else with 1.
+#
+# A scene NAME.txt has its replies in NAME.out. In a page a block marked `input` has lines, one marked `words` a command
+# line, and the block marked `reply` behind it what they are answered. An `input killed` is killed by SIGKILL once its
+# replies have come, while it waits for more lines. Each scene, and each block of the reference, runs in an empty folder
+# of its own; the blocks of the tutorial run one after another in one folder.
+set -u
+
+[ $# -eq 1 ] && [ -x "$1" ] || { echo "usage: compare.sh ROSE" >&2; exit 2; }
+rose=$(realpath "$1")
+here=$(cd "$(dirname "${BASH_SOURCE[0]}")" && pwd)
+work=$(mktemp -d)
+trap 'rm -rf "$work"' EXIT
+equal=0 different=0
+
+# judge NAME WANTED GOT: whether the two files are equal
+judge() {
+    if diff "$2" "$3" > "$work/diff"; then
+        equal=$((equal + 1))
+    else
+        different=$((different + 1))
+        echo "$1 differs (< wanted, > given):"
+        head -n 20 "$work/diff"
+    fi
+}
+
+# run_killed LINES GIVEN WANTED: gives the lines, and kills the run once as many bytes have come as are wanted
+run_killed() {
+    local lines=$1 given=$2 wanted=$3 pid
+    rm -f feed && mkfifo feed
+    "$rose" run < feed > "$given" &
+    pid=$!
+    exec 3> feed
+    cat "$lines" >&3
+    for _ in $(seq 200); do
+        [ "$(wc -c < "$given")" -ge "$(wc -c < "$wanted")" ] && break
+        sleep 0.05
+    done
+    { kill -9 "$pid" && wait "$pid"; } 2> "$work/killed"
+    exec 3>&-
+    rm -f feed
+}
+
+# blocks PAGE FOLDER: the blocks of a page, as FOLDER/NUMBER.kind, .lines and .reply
+blocks() {
+    awk -v folder="$2" '
+        /^```(input|words)/ { number++; name = sprintf("%s/%03d", folder, number); print substr($0, 4) > (name ".kind")
+                              file = name ".lines"; printf "" > file; inside = 1; next }
+        /^```reply/         { file = name ".reply"; printf "" > file; inside = 1; next }
+        /^```/              { inside = 0; next }
+        inside              { print > file }' "$1"
+}
+
+# page NAME SHARED: each block of a page, in one folder where SHARED is 1, and else in a new one each
+page() {
+    local name=$1 shared=$2 folder=$work/$1 room at kind
+    mkdir -p "$folder" && blocks "$here/../docs/$name.md" "$folder"
+    for kind in "$folder"/*.kind; do
+        at=${kind%.kind}
+        room=$folder/room
+        [ "$shared" = 1 ] || room=$at.room
+        mkdir -p "$room" && cd "$room" || exit 2
+        case $(cat "$kind") in
+            input) "$rose" run < "$at.lines" > "$at.given" ;;
+            "input killed") run_killed "$at.lines" "$at.given" "$at.reply" ;;
+            words) read -ra words < "$at.lines" && "$rose" "${words[@]:1}" < /dev/null > "$at.given" ;;
+        esac
+        judge "docs/$name.md, block $(basename "$at")" "$at.reply" "$at.given"
+    done
+}
+
+for scene in "$here"/*.txt; do
+    name=$(basename "$scene" .txt)
+    mkdir "$work/scene" && cd "$work/scene" || exit 2
+    "$rose" run < "$scene" > "$work/$name.given"
+    judge "examples/$name" "$here/$name.out" "$work/$name.given"
+    rm -rf "$work/scene"
+done
+page TUTORIAL 1
+page REFERENCE 0
+echo "$equal equal, $different different"
+[ "$different" -eq 0 ]
