@@ -26,6 +26,13 @@ judge() {
     fi
 }
 
+# run GIVEN WORD..: runs the program, its output into GIVEN, with a line more where it doesn't end with 0
+run() {
+    local given=$1
+    shift
+    "$rose" "$@" > "$given" || echo "ended with $?" >> "$given"
+}
+
 # run_killed LINES GIVEN WANTED: gives the lines, and kills the run once as many bytes have come as are wanted
 run_killed() {
     local lines=$1 given=$2 wanted=$3 pid
@@ -63,9 +70,9 @@ page() {
         [ "$shared" = 1 ] || room=$at.room
         mkdir -p "$room" && cd "$room" || exit 2
         case $(cat "$kind") in
-            input) "$rose" run < "$at.lines" > "$at.given" ;;
+            input) run "$at.given" run < "$at.lines" ;;
             "input killed") run_killed "$at.lines" "$at.given" "$at.reply" ;;
-            words) read -ra words < "$at.lines" && "$rose" "${words[@]:1}" < /dev/null > "$at.given" ;;
+            words) read -ra words < "$at.lines" && run "$at.given" "${words[@]:1}" < /dev/null ;;
         esac
         judge "docs/$name.md, block $(basename "$at")" "$at.reply" "$at.given"
     done
@@ -74,7 +81,7 @@ page() {
 for scene in "$here"/*.txt; do
     name=$(basename "$scene" .txt)
     mkdir "$work/scene" && cd "$work/scene" || exit 2
-    "$rose" run < "$scene" > "$work/$name.given"
+    run "$work/$name.given" run < "$scene"
     judge "examples/$name" "$here/$name.out" "$work/$name.given"
     rm -rf "$work/scene"
 done
