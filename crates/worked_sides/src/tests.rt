@@ -1,0 +1,95 @@
+//! The sides of the sides of nested squares, by a sweep whose calls are counted, and by threads.
+ghost use Rattle.std.specs.Prelude.{◌≡◌};
+
+use crate::counting::Counting;
+use crate::noded::are_one_realm;
+use crate::squares::{all_sides_of_squares, region, wanted};
+use grid_base::{Segment, Sides, Steps};
+use plane_sweep::all_sides_by;
+use rose_values::RegionsValue;
+use side_parallel::sides_of_all;
+use std::alloc::Global;
+use std::cell::Cell;
+use std::marker::Brand;
+use std::process::Abort;
+use std::sync::ledger::{Blank, Ledger};
+use std::thread::Threads;
+
+// The sides of the list, by this order.
+fn swept<L: Ledger>(
+    alloc: Global,
+    order: &Counting,
+    region: &RegionsValue,
+    list: &[Segment],
+    blank: Blank,
+) -> Option<Vec<Sides>>
+    requires parts { blank.parts ≡ 1 }
+    requires same { (L.name ≡ blank.name) × (L.parts ≡ blank.parts) }
+{
+    let border = region.segments();
+    if !are_one_realm(border, list) {
+        return None;
+    }
+    let mut steps = Steps::<L>::new(blank);
+    all_sides_by(alloc, order, border, list, &mut steps).ok()
+}
+
+// The sides of the list, by threads where it is long.
+fn shared<R: Threads + Sync>(
+    rt: &R,
+    alloc: Global,
+    region: &RegionsValue,
+    list: &[Segment],
+) -> Option<Vec<Sides>> {
+    let border = region.segments();
+    if !are_one_realm(border, list) {
+        return None;
+    }
+    sides_of_all(rt, alloc, border, list).ok()
+}
+
+// Each side of a square has what its picture says beside it.
+fn compare<R: Abort>(rt: &R, list: &[Segment], told: &[Sides]) {
+    assert_eq!(rt; told.len(), list.len());
+    for (s, found) in list.iter().zip(told) {
+        assert_eq!(rt; *found, wanted(s), "{s:?}");
+    }
+}
+
+// How often the order is asked.
+fn look_at_sweep<R: Abort>(rt: &R, alloc: Global) -> Option<u64> {
+    let region = region(alloc)?;
+    let order = Counting {
+        calls: Cell::new(0),
+    };
+    let told = swept::<Brand>(alloc, &order, &region, region.segments(), Blank::new(1))?;
+    compare(rt, region.segments(), &told);
+    Some(order.calls.get())
+}
+
+// A loop over the border for each of its segments wouldn't ask, and one over all pairs would ask 160,000 times.
+#[test]
+fn sweep_calls(rt: HostRuntime) {
+    let calls = look_at_sweep(&rt, rt.alloc()).unwrap_or(0);
+    assert!(rt; 100 <= calls && calls <= 14_400, "{calls} calls");
+}
+
+// The list is the sides of all squares so many times over.
+fn look_at_threads<R: Threads + Sync + Abort>(rt: &R, alloc: Global, times: u64) -> Option<()> {
+    let region = region(alloc)?;
+    let list = all_sides_of_squares(alloc, times)?;
+    let told = shared(rt, alloc, &region, &list)?;
+    compare(rt, &list, &told);
+    Some(())
+}
+
+// 400 segments are told by one thread, and 1,200 in parts.
+#[test]
+fn threads_tell_the_same(rt: HostRuntime) {
+    for times in [1, 3] {
+        assert!(rt;
+            look_at_threads(&rt, rt.alloc(), times).is_some(),
+            "no memory"
+        );
+    }
+}
