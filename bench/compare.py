@@ -1,0 +1,470 @@
+#!/usr/bin/env python3
+"""Compares what `rose run` answers of small random values with a count by the definitions. See README.md."""
+import argparse
+import itertools
+import os
+import random
+import subprocess
+import sys
+import tempfile
+from fractions import Fraction
+
+TWO = ["intersection", "plus", "minus", "common_border"]
+ONE = ["vertices", "contour", "interior"]
+PREDICATES = ["equal", "inside", "edge_inside", "vertex_inside", "area_disjoint", "edge_disjoint", "disjoint", "intersects", "meets",
+              "adjacent", "encloses", "on_border_of", "border_in_common"]
+NUMBERS = ["area2", "diameter2", "no_of_components"]
+KINDS = {"points": "P", "lines": "L", "regions": "R"}
+WORDS = {letter: word for word, letter in KINDS.items()}
+# The kinds that a predicate takes, as in docs/VALUES.md.
+TAKES = {
+    "equal": "PP LL RR", "inside": "PL PR LR RR", "edge_inside": "RR", "vertex_inside": "RR", "area_disjoint": "RR",
+    "edge_disjoint": "RR", "disjoint": "PP PL PR LL LR RR", "intersects": "LL LR RR", "meets": "LR RR", "adjacent": "RR",
+    "encloses": "RR", "on_border_of": "PR LR", "border_in_common": "LR RR",
+}
+
+
+# ---- the plane of one drawing, cut at the columns of all ends
+def height(s, x):
+    """Where the segment, which isn't vertical, has the column x."""
+    (ax, ay), (bx, by) = s
+    return ay + Fraction((by - ay) * (x - ax), bx - ax)
+
+
+class Plane:
+    """Places of the plane such that each value of the drawing has all of a cell or nothing of it, for one place of each cell.
+    `walls` has the places on the columns of ends, and `strips` has the segments across each strip between two, from below."""
+
+    def __init__(self, points, segments):
+        ends = {p for s in segments for p in s} | set(points)
+        self.columns = sorted({x for x, _ in ends})
+        self.segments = sorted(segments)
+        self.walls, self.strips = [], [[]]
+        for i, x in enumerate(self.columns):
+            rows = {y for u, y in ends if u == x} | {height(s, x) for s in self.segments if s[0][0] < x < s[1][0]}
+            self.walls.append(around(sorted(rows)))
+            after = self.columns[i + 1] if i + 1 < len(self.columns) else x
+            middle = Fraction(x + after, 2)
+            passing = [s for s in self.segments if s[0][0] <= x and after <= s[1][0] and x < after]
+            self.strips.append(sorted(passing, key=lambda s: height(s, middle)))
+
+    def strip_places(self):
+        """Each place within a strip: the strip, how many segments are below, and the segment that it is on, if any."""
+        for i, strip in enumerate(self.strips):
+            for k, s in enumerate(strip):
+                yield i, k, None
+                yield i, k, s
+            yield i, len(strip), None
+
+
+def around(rows):
+    """The rows, with one row between each two neighbours, one below all and one above all."""
+    found = [Fraction(rows[0] - 1)]
+    for low, high in zip(rows, rows[1:]):
+        found += [Fraction(low), Fraction(low + high) / 2]
+    return found + [Fraction(rows[-1]), Fraction(rows[-1] + 1)]
+
+
+def holds(s, x, y):
+    """Whether the place is on the segment."""
+    (ax, ay), (bx, by) = s
+    return min(ay, by) <= y <= max(ay, by) if ax == x == bx else ax <= x <= bx and height(s, x) == y
+
+
+class Value:
+    """A value with its places: `on` its points or segments, `odd` by the even-odd rule, and the cells off its segments."""
+
+    def __init__(self, kind, plane, content):
+        self.kind, self.content = kind, set(content)
+        self.segments = set() if kind == "P" else self.content
+        self.vertices = self.content if kind == "P" else {p for s in self.content for p in s}
+        self.on, self.odd, self.cell, self.parent = [], [], [], {}
+        for j, wall in enumerate(plane.walls):
+            self.put_wall(plane, j, wall)
+        for i, k, s in plane.strip_places():
+            strip = plane.strips[i]
+            below = sum(t in self.segments for t in strip[:k])
+            above = sum(t in self.segments for t in strip[k + (s is not None):])
+            self.put(s in self.segments, above % 2 == 1, ("strip", i, below))
+        self.outer = self.root(("strip", 0, 0))
+
+    def put_wall(self, plane, j, wall):
+        x, before = plane.columns[j], None
+        own = [s for s in self.segments if s[0][0] <= x <= s[1][0]]
+        for k, y in enumerate(wall):
+            on = any(holds(s, x, y) for s in own) if self.kind != "P" else (x, y) in self.content
+            above = sum(s[0][0] <= x < s[1][0] and height(s, x) > y for s in own)
+            node = ("wall", j, k)
+            self.put(on, above % 2 == 1, node)
+            if not on:
+                for side in (j, j + 1):
+                    below = sum(s in self.segments and height(s, x) < y for s in plane.strips[side])
+                    self.join(node, ("strip", side, below))
+                if before is not None:
+                    self.join(node, before)
+            before = None if on else node
+
+    def put(self, on, odd, node):
+        self.on.append(on)
+        self.odd.append(odd)
+        self.cell.append(node)
+
+    def root(self, node):
+        while node in self.parent:
+            node = self.parent[node]
+        return node
+
+    def join(self, one, other):
+        one, other = self.root(one), self.root(other)
+        if one != other:
+            self.parent[one] = other
+
+    def has(self, i):
+        return self.on[i] or (self.kind == "R" and self.odd[i])
+
+    def interior(self, i):
+        return self.kind == "R" and self.odd[i] and not self.on[i]
+
+    def is_outer(self, i):
+        return not self.on[i] and self.root(self.cell[i]) == self.outer
+
+
+# ---- predicates, numbers and operators, by their rows
+def says(predicate, a, b):
+    """Whether the predicate holds of the two values."""
+    places = range(len(a.on))
+    inside = all(b.has(i) for i in places if a.has(i))
+    areas = any(a.interior(i) and b.interior(i) for i in places)
+    shared = bool(a.segments & b.segments)
+    common = any(a.has(i) and b.has(i) for i in places)
+    reaches = any(a.has(i) and b.interior(i) for i in places)
+    if predicate == "equal":
+        return inside and all(a.has(i) for i in places if b.has(i))
+    if predicate == "vertex_inside":
+        return inside and not any(a.on[i] and b.on[i] for i in places)
+    if predicate == "intersects":
+        return common if b.kind == "L" else reaches if a.kind == "L" else areas
+    if predicate == "meets":
+        return common and not reaches if a.kind == "L" else common and not areas and not shared
+    if predicate == "encloses":
+        return not areas and not any(b.interior(i) and a.is_outer(i) for i in places)
+    return {
+        "inside": inside, "edge_inside": inside and not shared, "area_disjoint": not areas,
+        "edge_disjoint": not areas and not shared, "disjoint": not common, "adjacent": not areas and shared,
+        "on_border_of": all(b.on[i] for i in places if a.has(i)), "border_in_common": shared,
+    }[predicate]
+
+
+def parts(items, joined):
+    """How many connected parts the items have."""
+    left, number = set(items), 0
+    while left:
+        number, reached = number + 1, [left.pop()]
+        while reached:
+            one = reached.pop()
+            found = {other for other in left if joined(one, other)}
+            left -= found
+            reached += found
+    return number
+
+
+def counted(number, a):
+    """The number of one value, or None where there is none."""
+    if number == "area2":
+        return abs_area(a)
+    if number == "diameter2":
+        return max(((p[0] - q[0]) ** 2 + (p[1] - q[1]) ** 2 for p in a.vertices for q in a.vertices), default=None)
+    if a.kind == "P":
+        return len(a.content)
+    if a.kind == "L":
+        return parts(a.content, lambda s, t: set(s) & set(t))
+    return len({a.root(a.cell[i]) for i in range(len(a.on)) if a.interior(i)})
+
+
+def abs_area(a):
+    """Twice the area, strip by strip: the odd parts of a strip are trapezoids, each between two neighbours of the border."""
+    total = Fraction(0)
+    columns = sorted({x for x, _ in a.vertices})
+    for x, u in zip(columns, columns[1:]):
+        rows = sorted((height(s, x) + height(s, u) for s in a.segments if s[0][0] <= x and u <= s[1][0]), reverse=True)
+        total += sum((high - low) * (u - x) for high, low in zip(rows[::2], rows[1::2]))
+    return total
+
+
+def border_of(plane, has):
+    """The segments of the drawing that have the region of these places on one side alone."""
+    places = dict(zip([("wall", j, k) for j, wall in enumerate(plane.walls) for k in range(len(wall))]
+                      + list(plane.strip_places()), itertools.count()))
+    found = set()
+    for s in plane.segments:
+        if s[0][0] == s[1][0]:
+            j = plane.columns.index(s[0][0])
+            middle = Fraction(s[0][1] + s[1][1], 2)
+            sides = [sum(height(t, s[0][0]) < middle for t in plane.strips[side]) for side in (j, j + 1)]
+            two = [places[side, below, None] for side, below in zip((j, j + 1), sides)]
+        else:
+            i = plane.columns.index(s[0][0]) + 1
+            k = plane.strips[i].index(s)
+            two = [places[i, k, None], places[i, k + 1, None]]
+        if has(two[0]) != has(two[1]):
+            found.add(s)
+    return found
+
+
+def made(plane, op, a, b):
+    """The kind and the content of what the operator makes, or None where it doesn't take the values."""
+    kinds = a.kind + (b.kind if b else "")
+    if op == "vertices" and kinds in ("L", "R"):
+        return "P", a.vertices
+    if op == "contour" and kinds == "R":
+        return "L", a.content
+    if op == "interior" and kinds == "L":
+        return "R", border_of(plane, lambda i: not a.on[i] and not a.is_outer(i))
+    if op == "common_border" and kinds == "RR":
+        return "L", a.content & b.content
+    if op == "intersection" and kinds == "PP":
+        return "P", a.content & b.content
+    if op == "intersection" and kinds == "LL":
+        return "P", (a.vertices & b.vertices) - {p for s in a.content & b.content for p in s}
+    if op == "intersection" and kinds == "RL":
+        sides = range(len(a.on))
+        within = {s: all(a.has(i) for i in sides if place_on(plane, i) == s) for s in b.content}
+        return "L", {s for s in b.content if within[s]}
+    if kinds not in ("PP", "LL", "RR") or op not in ("intersection", "plus", "minus"):
+        return None
+    if kinds != "RR":
+        return a.kind, a.content | b.content if op == "plus" else a.content - b.content
+    test = {"intersection": lambda i: a.odd[i] and b.odd[i], "plus": lambda i: a.odd[i] or b.odd[i],
+            "minus": lambda i: a.odd[i] and not b.odd[i]}[op]
+    return "R", border_of(plane, test)
+
+
+def place_on(plane, i):
+    """The segment that the place is inside of, if any: each segment is inside of a strip, or upright on a wall."""
+    if plane_key(plane) not in place_on.known:
+        place_on.known.clear()
+        table = []
+        for j, wall in enumerate(plane.walls):
+            x = plane.columns[j]
+            upright = [s for s in plane.segments if s[0][0] == x == s[1][0]]
+            for y in wall:
+                table.append(next((s for s in upright if s[0][1] < y < s[1][1]), None))
+        table += [s for _, _, s in plane.strip_places()]
+        place_on.known[plane_key(plane)] = table
+    return place_on.known[plane_key(plane)][i]
+
+
+place_on.known = {}
+
+
+def plane_key(plane):
+    return id(plane)
+
+
+# ---- drawings
+def paper(draw, cells):
+    """Squared paper whose cells are cut by one diagonal each: its points, edges, and triangles."""
+    points = list(itertools.product(range(cells + 1), repeat=2))
+    edges = [((x, y), (x + 1, y)) for x in range(cells) for y in range(cells + 1)]
+    edges += [((x, y), (x, y + 1)) for x in range(cells + 1) for y in range(cells)]
+    triangles = []
+    for x, y in itertools.product(range(cells), repeat=2):
+        low, right, left, high = (x, y), (x + 1, y), (x, y + 1), (x + 1, y + 1)
+        if draw.random() < 0.5:
+            edges.append((low, high))
+            triangles += [(low, right, high), (low, high, left)]
+        else:
+            edges.append((left, right))
+            triangles += [(low, right, left), (left, right, high)]
+    return points, edges, triangles
+
+
+def some(draw, items, share):
+    return [it for it in items if draw.random() < share]
+
+
+def edges_of(triangle):
+    p, q, r = triangle
+    return [tuple(sorted(two)) for two in ((p, q), (q, r), (r, p))]
+
+
+def shut_in(triangles, edges, ring):
+    """The triangles that aren't in the ring and from which no way leads round its triangles to the outside."""
+    free = [t for t in triangles if t not in ring]
+    by_edge = {e: [t for t in free if e in edges_of(t)] for e in edges}
+    inner = [e for e in edges if sum(e in edges_of(t) for t in triangles) == 2]
+    rims = [t for t in free if any(e not in inner for e in edges_of(t))]
+    reached = set(rims)
+    while rims:
+        for e in edges_of(rims.pop()):
+            for t in by_edge[e]:
+                if t not in reached:
+                    reached.add(t)
+                    rims.append(t)
+    return [t for t in free if t not in reached]
+
+
+def on_paper(draw):
+    """Values that don't cross: the names with their kinds and what they are made of."""
+    points, edges, triangles = paper(draw, draw.choice([2, 3, 4]))
+    share = draw.choice([0.15, 0.3, 0.6])
+    first = some(draw, triangles, share)
+    rest = [t for t in triangles if t not in first]
+    ring = some(draw, triangles, 0.8)
+    border = [e for e in edges if sum(e in edges_of(t) for t in first) == 1]
+    deep = [t for t in first if not any(e in border for e in edges_of(t))]
+    regions = [first, some(draw, rest, share), some(draw, first, 0.7), deep, ring, shut_in(triangles, edges, ring)]
+    within = [e for e in edges if any(e in edges_of(t) for t in first)]
+    lines = [some(draw, edges, share), some(draw, border, 0.8), some(draw, within, 0.5)]
+    ends = sorted({p for e in border for p in e})
+    wells = [some(draw, points, share), some(draw, ends, 0.5), some(draw, sorted({p for e in within for p in e}), 0.5)]
+    found = [("P", it) for it in wells] + [("L", it) for it in lines] + [("R", it) for it in regions]
+    return found + draw.sample([("P", []), ("L", []), ("R", [])], 1)
+
+
+def crossing(draw):
+    """Values whose segments cross, so that they are redrawn: points, lines and polygons."""
+    side = draw.choice([8, 15, 40])
+
+    def point():
+        return draw.randrange(side), draw.randrange(side)
+
+    def corners(number):
+        while True:
+            found = [point() for _ in range(number)]
+            if all(p != q for p, q in zip(found, found[1:] + found[:1])):
+                return found
+
+    def pieces(number):
+        return [tuple(sorted(corners(2))) for _ in range(number)]
+
+    found = [("P", [point() for _ in range(3)]) for _ in range(2)]
+    found += [("L", pieces(draw.choice([1, 2, 4]))) for _ in range(2)]
+    return found + [("R", [tuple(corners(draw.choice([3, 4, 5]))) for _ in range(draw.choice([1, 1, 2]))]) for _ in range(4)]
+
+
+def text(items):
+    """Places, or lists of places with `;` between."""
+    return " ; ".join(" ".join(f"{x} {y}" for x, y in it) for it in items)
+
+
+def definition(name, kind, content):
+    listed = [tuple(content)] if kind == "P" and content else content
+    return f"{WORDS[kind]} {name} {text(listed)}".rstrip()
+
+
+# ---- the program
+class Asked:
+    """The lines of one run and the replies to them."""
+
+    def __init__(self):
+        self.lines = []
+
+    def ask(self, line):
+        self.lines.append(line)
+
+    def replies(self, program):
+        with tempfile.TemporaryDirectory() as folder:
+            run = subprocess.run([program, "run"], input="".join(f"{line}\n" for line in self.lines).encode(), cwd=folder,
+                                 stdout=subprocess.PIPE, check=True)
+        rest = iter(run.stdout.decode().splitlines())
+        return [self.reply(rest) for _ in self.lines]
+
+    @staticmethod
+    def reply(rest):
+        head = next(rest).split(" ")
+        if head[0] not in KINDS:
+            return " ".join(head)
+        rows = [tuple(map(int, next(rest).split(" "))) for _ in range(int(head[1]))]
+        kind = KINDS[head[0]]
+        return kind, rows if kind == "P" else [(row[:2], row[2:]) for row in rows]
+
+
+def questions(names, values, plane):
+    """Each question about the values with the reply that the definitions give."""
+    for name, a in zip(names, values):
+        for op in ONE:
+            yield f"eval {op} {name}", made(plane, op, a, None)
+        for number in NUMBERS:
+            takes = number != "area2" or a.kind == "R"
+            yield f"num {number} {name}", counted(number, a) if takes else False
+    for (name, a), (other, b) in itertools.product(zip(names, values), repeat=2):
+        for op in TWO:
+            yield f"eval {op} {name} {other}", made(plane, op, a, b)
+        for predicate in PREDICATES:
+            takes = a.kind + b.kind in TAKES[predicate].split()
+            yield f"ask {predicate} {name} {other}", says(predicate, a, b) if takes else None
+        distances = [(p[0] - q[0]) ** 2 + (p[1] - q[1]) ** 2 for p in a.content for q in b.content] if a.kind == b.kind == "P" else []
+        yield f"num dist2 {name} {other}", min(distances, default=None) if a.kind == b.kind == "P" else False
+
+
+def wanted(line, answer):
+    """The reply to the line."""
+    word = line.split(" ")[0]
+    if answer is (False if word == "num" else None):
+        return "no types"
+    if word == "num":
+        return "num none" if answer is None else f"num {answer}"
+    return str(answer).lower() if word == "ask" else (answer[0], sorted(answer[1]))
+
+
+def compare(program, draw, drawing):
+    """How many replies were compared and of how many kinds; the first that differs ends the run."""
+    drawn = drawing(draw)
+    names = [f"v{k}" for k in range(len(drawn))]
+    told = Asked()
+    for name, (kind, content) in zip(names, drawn):
+        told.ask(definition(name, kind, content))
+    for name in names:
+        told.ask(f"show {name}")
+    shown = told.replies(program)[len(names):]
+    if drawing is on_paper:
+        for (kind, content), (_, rows) in zip(drawn, shown):
+            sides = [e for t in content for e in edges_of(t)] if kind == "R" else content
+            expect = sorted({e for e in sides if kind != "R" or sides.count(e) % 2 == 1})
+            if rows != expect:
+                raise SystemExit(f"{told.lines}: shows {rows}, and {expect} was drawn")
+    plane = Plane([p for kind, rows in shown if kind == "P" for p in rows], {s for kind, rows in shown if kind != "P" for s in rows})
+    values = [Value(kind, plane, rows) for kind, rows in shown]
+    asked = list(questions(names, values, plane))
+    again = Asked()
+    for line in told.lines[:len(names)] + [line for line, _ in asked]:
+        again.ask(line)
+    counts = {}
+    for (line, answer), reply in zip(asked, again.replies(program)[len(names):]):
+        if reply != wanted(line, answer):
+            drawn = "\n".join(told.lines[:len(names)])
+            raise SystemExit(f"{drawn}\n{line}\ngot  {reply}\nwant {wanted(line, answer)}")
+        kinds = " ".join(WORDS[values[int(name[1:])].kind] for name in line.split(" ")[2:])
+        key = f"{' '.join(line.split(' ')[:2])} {kinds}"
+        if reply == "no types":
+            key = "refused for their kinds"
+        seen = counts.setdefault(key, {})
+        what = reply if line[0] == "a" else "none" if reply == "num none" else "some" if reply[1] else "empty"
+        if reply == "no types":
+            what = "all"
+        seen[what] = seen.get(what, 0) + 1
+    return counts
+
+
+def main():
+    parser = argparse.ArgumentParser(description=__doc__)
+    parser.add_argument("program")
+    parser.add_argument("--papers", type=int, default=100, help="drawings without crossings")
+    parser.add_argument("--crossings", type=int, default=50, help="drawings whose segments cross")
+    parser.add_argument("--seed", type=int, default=1)
+    given = parser.parse_args()
+    program = os.path.abspath(given.program)
+    total = {}
+    for k in range(given.papers + given.crossings):
+        draw = random.Random(given.seed * 1000003 + k)
+        for key, seen in compare(program, draw, on_paper if k < given.papers else crossing).items():
+            for what, number in seen.items():
+                total.setdefault(key, {})[what] = total.get(key, {}).get(what, 0) + number
+    for key in sorted(total):
+        print(f"{key:48} {', '.join(f'{what} {number}' for what, number in sorted(total[key].items()))}")
+    print(sum(sum(seen.values()) for seen in total.values()), "replies, all as counted")
+
+
+if __name__ == "__main__":
+    sys.exit(main())
