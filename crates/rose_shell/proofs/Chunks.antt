@@ -5,12 +5,13 @@ use Rattle.std.proofs.lemmas.List.{append-nil}
 use Rattle.outside_world.specs.View.{View}
 use Rattle.rose_shell.specs.declared.feeding.Halt.{Halt}
 use Rattle.rose_shell.specs.declared.feeding.Halt.TheVariants as halts
+use Rattle.rose_shell.specs.declared.waiting.Waiting.{Waiting}
 use Rattle.rose_shell.specs.Lines.{lines_from, part_from}
-use Rattle.rose_shell.specs.Desk.{Terms}
-use Rattle.rose_shell.specs.Loop.{Went, Stopped}
+use Rattle.rose_shell.specs.Desk.{Terms, AllRest}
+use Rattle.rose_shell.specs.Loop.{IsWaiting, Went, Stopped}
 use Rattle.rose_shell.proofs.Cuts.{HasNoFeed, lines_from-append, part_from-append, lines_from-no_feed, part_from-no_feed}
 use Rattle.rose_shell.proofs.Cuts.{lines_from-line, split_at_feed}
-use Rattle.rose_shell.proofs.Runs.{went_then, stopped_behind, stopped_more, stopped_then}
+use Rattle.rose_shell.proofs.Runs.{went_none, went_then, stopped_behind, stopped_more, stopped_then}
 
 -- the chunk, cut behind the next line feed
 pub cut_at_feed : {chunk behind : List ℕ} (done rest : List ℕ) (n : ℕ) → chunk ≡ done ++ rest → n < length rest
@@ -34,39 +35,54 @@ part_at_end part done rest split none =
     ap (λ (l : List ℕ). part_from part l) split ∙ part_from-append part done rest
     ∙ part_from-no_feed (part_from part done) rest none
 
-module _ {S : Type 0} {terms : Terms S} where
-  -- one line more is answered
-  pub went_line : {old mid new : View} {start between end : S} (part done line : List ℕ) → HasNoFeed line
-      → Went terms old mid start between (lines_from part done)
-      → Went terms mid new between end ((part_from part done ++ line) ∷ [])
-      → Went terms old new start end (lines_from part (done ++ (line ++ 10 ∷ [])))
-  went_line {old} {new = new} {start} {end = end} part done line none first second =
-      subst (λ (ls : List (List ℕ)). Went terms old new start end ls) (sym (lines_from-line part done line none))
-      (went_then first second)
+module _ {S : Type 0} {terms : Terms S} (held : List (List ℕ)) where
+  -- before the first line
+  pub nothing_heard : {v : View} {s : S} {waiting : Waiting} (part : List ℕ) → AllRest terms v s → IsWaiting waiting held
+      → Went terms ⊥ v v s s (held ++ lines_from part []) waiting
+  nothing_heard {v} {s} {waiting} part rest waits =
+      subst (λ (ls : List (List ℕ)). Went terms ⊥ v v s s ls waiting) (sym (append-nil held)) (went_none rest waits)
+
+  -- one line more is heard
+  pub went_line : {old mid new : View} {start between end : S} {before after : Waiting} (part done line : List ℕ) → HasNoFeed line
+      → (first : Went terms ⊥ old mid start between (held ++ lines_from part done) before)
+      → Went terms ⊥ mid new between end (first.held ++ (part_from part done ++ line) ∷ []) after
+      → Went terms ⊥ old new start end (held ++ lines_from part (done ++ (line ++ 10 ∷ []))) after
+  went_line {old} {new = new} {start} {end = end} {after = after} part done line none first second =
+      let one = (part_from part done ++ line) ∷ [] in
+      let lines : (held ++ lines_from part done) ++ one ≡ held ++ lines_from part (done ++ (line ++ 10 ∷ [])) =
+      append_assoc held (lines_from part done) one
+      ∙ ap (λ (ls : List (List ℕ)). held ++ ls) (sym (lines_from-line part done line none)) in
+      subst (λ (ls : List (List ℕ)). Went terms ⊥ old new start end ls after) lines (went_then one first second)
 
   -- or halts the run, and what is left isn't read
-  pub stopped_line : {old mid new : View} {start between end : S} {chunk : List ℕ} {halt : Halt}
+  pub stopped_line : {old mid new : View} {start between end : S} {before : Waiting} {chunk : List ℕ} {halt : Halt}
       (part done line rest : List ℕ) → HasNoFeed line → chunk ≡ (done ++ (line ++ 10 ∷ [])) ++ rest
-      → Went terms old mid start between (lines_from part done)
-      → Stopped terms mid new between end ((part_from part done ++ line) ∷ []) halt
-      → Stopped terms old new start end (lines_from part chunk) halt
-  stopped_line {old} {new = new} {start} {end = end} {chunk} {halt} part done line rest none split first second =
+      → (first : Went terms ⊥ old mid start between (held ++ lines_from part done) before)
+      → Stopped terms ⊥ mid new between end (first.held ++ (part_from part done ++ line) ∷ []) halt
+      → Stopped terms ⊥ old new start end (held ++ lines_from part chunk) halt
+  stopped_line {old} {new = new} {start} {end = end} {chunk = chunk} {halt} part done line rest none split first second =
       let some = done ++ (line ++ 10 ∷ []) in
+      let one = (part_from part done ++ line) ∷ [] in
       let more = lines_from (part_from part some) rest in
-      let lines : (lines_from part done ++ (part_from part done ++ line) ∷ []) ++ more ≡ lines_from part chunk =
+      let here : (lines_from part done ++ one) ++ more ≡ lines_from part chunk =
       ap (λ (ls : List (List ℕ)). ls ++ more) (sym (lines_from-line part done line none))
       ∙ sym (ap (λ (l : List ℕ). lines_from part l) split ∙ lines_from-append part some rest) in
-      subst (λ (ls : List (List ℕ)). Stopped terms old new start end ls halt) lines
-      (stopped_more more (stopped_then first second))
+      let lines : ((held ++ lines_from part done) ++ one) ++ more ≡ held ++ lines_from part chunk =
+      ap (λ (ls : List (List ℕ)). ls ++ more) (append_assoc held (lines_from part done) one)
+      ∙ append_assoc held (lines_from part done ++ one) more ∙ ap (λ (ls : List (List ℕ)). held ++ ls) here in
+      subst (λ (ls : List (List ℕ)). Stopped terms ⊥ old new start end ls halt) lines
+      (stopped_more more (stopped_then one first second))
 
   -- no line more ends in the chunk
-  pub went_end : {old new : View} {start end : S} {chunk : List ℕ} (part done rest : List ℕ) → chunk ≡ done ++ rest → HasNoFeed rest
-      → Went terms old new start end (lines_from part done) → Went terms old new start end (lines_from part chunk)
-  went_end {old} {new} {start} {end} part done rest split none went =
-      subst (λ (ls : List (List ℕ)). Went terms old new start end ls) (sym (lines_at_end part done rest split none)) went
+  pub went_end : {old new : View} {start end : S} {after : Waiting} {chunk : List ℕ} (part done rest : List ℕ) → chunk ≡ done ++ rest
+      → HasNoFeed rest → Went terms ⊥ old new start end (held ++ lines_from part done) after
+      → Went terms ⊥ old new start end (held ++ lines_from part chunk) after
+  went_end {old} {new} {start} {end} {after} {chunk} part done rest split none went =
+      subst (λ (ls : List (List ℕ)). Went terms ⊥ old new start end (held ++ ls) after)
+      (sym (lines_at_end part done rest split none)) went
 
   -- and memory runs out for what is left
-  pub stopped_end : {old new : View} {start end : S} {chunk : List ℕ} (part done rest : List ℕ) → chunk ≡ done ++ rest → HasNoFeed rest
-      → Went terms old new start end (lines_from part done)
-      → Stopped terms old new start end (lines_from part chunk) halts.NoMemory
+  pub stopped_end : {old new : View} {start end : S} {after : Waiting} {chunk : List ℕ} (part done rest : List ℕ) → chunk ≡ done ++ rest
+      → HasNoFeed rest → Went terms ⊥ old new start end (held ++ lines_from part done) after
+      → Stopped terms ⊥ old new start end (held ++ lines_from part chunk) halts.NoMemory
   stopped_end part done rest split none went = stopped_behind (went_end part done rest split none went)

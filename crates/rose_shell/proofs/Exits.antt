@@ -10,16 +10,17 @@ use Rattle.rose_shell.specs.declared.feeding.Halt.{Halt}
 use Rattle.rose_shell.specs.declared.status.Status.{Status}
 use Rattle.rose_shell.specs.declared.status.Status.TheVariants.{Done, SourceFault, InputLimit}
 use Rattle.rose_shell.specs.Lines.{lines_from, part_from, whole_lines, last_line, all_lines, IsKept}
+use Rattle.rose_shell.specs.declared.waiting.Waiting.{Waiting}
 use Rattle.rose_shell.specs.Desk.{Terms, AllRest}
 use Rattle.rose_shell.specs.Session.{lines_of, IsCutOff, Served}
-use Rattle.rose_shell.specs.Loop.{Went, Stopped, status_at}
-use Rattle.rose_shell.proofs.Turns.{given_in_part_behind, cut_off_behind}
+use Rattle.rose_shell.specs.Loop.{IsWaiting, Went, Stopped, status_at}
+use Rattle.rose_shell.proofs.Turns.{full_wider, full-append, given_in_part_behind, cut_off_behind}
 use Rattle.rose_shell.proofs.Cuts.{lines_from-append}
 use Rattle.rose_shell.proofs.Runs.{run_then, ends_then, replies_then, crash_then}
-use Rattle.rose_shell.proofs.Treatments.{went_empty}
+use Rattle.rose_shell.proofs.Batches.{none_waits}
 use Rattle.rose_shell.proofs.Halts.{other_halts, sink_halts, disk_halts, memory_halts}
 use Rattle.rose_shell.proofs.Halts.{halt_is_not_done, halt_is_no_source_fault, halt_is_no_limit}
-use Rattle.rose_shell.proofs.Takes.{Ahead, Keeping, took_some, took_none, took_empty, asked_then, left_then, lines_then}
+use Rattle.rose_shell.proofs.Takes.{Ahead, Keeping, took, took_some, took_none, took_empty, asked_then, left_then, lines_then}
 
 -- a take of no byte into a buffer with room finds the input at its end
 input_ended : {mid between : View} {buf : List ℕ} {n : ℕ} → Took mid between buf (Ok n) → n ≡ 0 → 0 < length buf
@@ -34,21 +35,23 @@ module _ {S : Type 0} {terms : Terms S} where
   source_failed {old} {new} {bytes = bytes} ahead within = record {
     bytes = bytes;
     turns = ahead.turns;
-    unread = last_line (part_from [] bytes);
+    unread = ahead.answered.held ++ last_line (part_from [] bytes);
     unsent = [];
     later = ahead.made.later;
     left = ahead.left;
     taken = ahead.taken ∙ ap (λ (l : List ℕ). old.taken ++ l) (append-nil bytes);
     is_run = ahead.made.is_run;
-    of_lines = ap (λ (l : List (List ℕ)). l ++ last_line (part_from [] bytes)) ahead.of_lines;
-    whole = inr ([], append-nil (lines_of ahead.turns) ∙ ahead.of_lines);
+    of_lines = sym (append_assoc (lines_of ahead.turns) ahead.answered.held (last_line (part_from [] bytes)))
+        ∙ ap (λ (l : List (List ℕ)). l ++ last_line (part_from [] bytes)) ahead.answered.lines;
+    full = full_wider (λ never. absurd never) ahead.turns ahead.answered.full;
+    whole = inr (ahead.answered.held, ahead.answered.lines);
     given = append-nil new.given ∙ ahead.made.given;
     ends = λ _ _. ahead.made.ends;
     asked = ahead.asked;
     crash = ahead.made.crash;
     rest = λ _. subst (λ (s : S). AllRest terms new s) ahead.made.ends ahead.rest;
     done = λ is. absurd (cc);
-    source = λ _. (ahead.of_lines, refl);
+    source = λ _. (ahead.answered, refl);
     sink = λ is. absurd (cc);
     disk = λ is. absurd (cc);
     memory = λ is. absurd (cc);
@@ -65,16 +68,22 @@ module _ {S : Type 0} {terms : Terms S} where
       record {
         bytes = bytes ++ more;
         turns = ahead.turns;
-        unread = rest ++ part;
+        unread = ahead.answered.held ++ (rest ++ part);
         unsent = [];
         later = ahead.made.later;
         left = ahead.left ∙ sym (append_assoc bytes more new.left);
         taken = ahead.taken;
         is_run = ahead.made.is_run;
-        of_lines = ap (λ (l : List (List ℕ)). l ++ (rest ++ part)) ahead.of_lines
+        of_lines = sym (append_assoc (lines_of ahead.turns) ahead.answered.held (rest ++ part))
+            ∙ ap (λ (l : List (List ℕ)). l ++ (rest ++ part)) ahead.answered.lines
             ∙ sym (append_assoc (whole_lines bytes) rest part)
             ∙ ap (λ (l : List (List ℕ)). l ++ part) (sym (lines_from-append [] bytes more));
-        whole = inr (rest, ap (λ (l : List (List ℕ)). l ++ rest) ahead.of_lines ∙ sym (lines_from-append [] bytes more));
+        full = full_wider (λ never. absurd never) ahead.turns ahead.answered.full;
+        whole = inr (
+          ahead.answered.held ++ rest,
+          sym (append_assoc (lines_of ahead.turns) ahead.answered.held rest)
+              ∙ ap (λ (l : List (List ℕ)). l ++ rest) ahead.answered.lines ∙ sym (lines_from-append [] bytes more),
+        );
         given = append-nil new.given ∙ ahead.made.given;
         ends = λ _ _. ahead.made.ends;
         asked = ahead.asked;
@@ -85,17 +94,21 @@ module _ {S : Type 0} {terms : Terms S} where
         sink = λ is. absurd (cc);
         disk = λ is. absurd (cc);
         memory = λ is. absurd (cc);
-        limit = λ _. (bytes, more, refl, all, some, ahead.of_lines, refl);
+        limit = λ _. (bytes, more, refl, all, some, ahead.answered, refl);
         within = λ other. absurd (other refl);
       }
 
-  -- the input has ended, and what had come of a line is answered
-  ended : {old mid new : View} {start between end : S} {bytes : List ℕ} {budget : ℕ}
-      → Ahead terms old mid start between bytes [] → mid.left ≡ [] → length bytes ≤ budget
-      → Went terms mid new between end (last_line (part_from [] bytes))
-      → Served terms old new start end budget Done
-  ended {old} {mid} {new} {bytes = bytes} ahead none within went =
+  -- the input has ended, and what had come of a line and of a batch is answered
+  ended : {old mid new : View} {start between end : S} {bytes : List ℕ} {budget : ℕ} {waiting : Waiting}
+      (ahead : Ahead terms old mid start between bytes []) → mid.left ≡ [] → length bytes ≤ budget
+      → Went terms Unit mid new between end (ahead.answered.held ++ last_line (part_from [] bytes)) waiting
+      → waiting.missing ≡ 0 → Served terms old new start end budget Done
+  ended {old} {mid} {new} {bytes = bytes} {waiting = waiting} ahead none within went no_more =
       let us = went.turns in
+      let over : new.left ≡ [] = went.takes.left ∙ none in
+      let nothing : went.held ≡ [] = (none_waits waiting went.held went.waits no_more).0 in
+      let lines : lines_of us ++ [] ≡ ahead.answered.held ++ last_line (part_from [] bytes) =
+      ap (λ (l : List (List ℕ)). lines_of us ++ l) (sym nothing) ∙ went.of_lines in
       record {
         bytes = bytes;
         turns = ahead.turns ++ us;
@@ -105,15 +118,16 @@ module _ {S : Type 0} {terms : Terms S} where
         left = left_then ahead went.takes ∙ ap (λ (l : List ℕ). l ++ new.left) (append-nil bytes);
         taken = went.takes.taken ∙ ahead.taken ∙ ap (λ (l : List ℕ). old.taken ++ l) (append-nil bytes);
         is_run = run_then ahead.made us went.is_run;
-        of_lines = append-nil (lines_of (ahead.turns ++ us)) ∙ lines_then ahead went.takes us
-            ∙ ap (λ (l : List (List ℕ)). whole_lines bytes ++ l) went.of_lines;
-        whole = inl (went.takes.left ∙ none);
+        of_lines = lines_then ahead went.takes us [] (last_line (part_from [] bytes)) lines;
+        full = full-append ((new.left ≡ []) × ([] ≡ [])) ahead.turns us ahead.answered.full
+            (full_wider (λ _. (over, refl)) us went.full);
+        whole = inl over;
         given = append-nil new.given ∙ went.given ∙ replies_then ahead.made us;
         ends = λ _ _. went.ends ∙ ends_then ahead.made us;
         asked = asked_then ahead went.takes us;
         crash = crash_then ahead.made us new went.crash;
         rest = λ _. subst (λ (s : S). AllRest terms new s) (went.ends ∙ ends_then ahead.made us) went.rest;
-        done = λ _. (went.takes.left ∙ none, refl, refl);
+        done = λ _. (over, refl, refl);
         source = λ is. absurd (cc);
         sink = λ is. absurd (cc);
         disk = λ is. absurd (cc);
@@ -123,17 +137,22 @@ module _ {S : Type 0} {terms : Terms S} where
       }
 
   -- the run halts at a line among those that end in the bytes ahead, or at the last one where the input has ended
-  halted : {old mid new : View} {start between end : S} {bytes more : List ℕ} {lines : List (List ℕ)} {budget : ℕ}
-      (halt : Halt) (rest : List (List ℕ)) → Ahead terms old mid start between bytes more
-      → Stopped terms mid new between end lines halt → whole_lines bytes ++ (lines ++ rest) ≡ all_lines (bytes ++ more)
+  halted : {old mid new : View} {start between end : S} {bytes more : List ℕ} {budget : ℕ} {none_left : Type 0}
+      (halt : Halt) (lines rest : List (List ℕ)) (ahead : Ahead terms old mid start between bytes more)
+      → Stopped terms none_left mid new between end (ahead.answered.held ++ lines) halt
+      → whole_lines bytes ++ (lines ++ rest) ≡ all_lines (bytes ++ more)
       → (mid.left ≡ []) ⊎ (whole_lines bytes ++ lines ≡ whole_lines (bytes ++ more))
+      → (none_left → (mid.left ≡ []) × (rest ≡ []))
       → length (bytes ++ more) ≤ budget → Served terms old new start end budget (status_at halt)
-  halted {mid = mid} {new} {start} {bytes = bytes} {more} {lines} halt rest ahead stopped all whole within =
+  halted {mid = mid} {new} {start} {bytes = bytes} {more} {none_left = none_left} halt lines rest ahead stopped all whole over within =
       let us = stopped.turns in
       let first : lines_of (ahead.turns ++ us) ++ stopped.unread ≡ whole_lines bytes ++ lines =
-      ap (λ (l : List (List ℕ)). l ++ stopped.unread) (lines_then ahead stopped.takes us)
-      ∙ append_assoc (whole_lines bytes) (lines_of us) stopped.unread
-      ∙ ap (λ (l : List (List ℕ)). whole_lines bytes ++ l) stopped.of_lines in
+      lines_then ahead stopped.takes us stopped.unread lines stopped.of_lines in
+      let last : none_left × (stopped.unread ≡ []) → (new.left ≡ []) × (stopped.unread ++ rest ≡ []) =
+      λ ended. (
+        stopped.takes.left ∙ (over ended.0).0,
+        ap (λ (l : List (List ℕ)). l ++ rest) ended.1 ∙ (over ended.0).1,
+      ) in
       record {
         bytes = bytes ++ more;
         turns = ahead.turns ++ us;
@@ -145,6 +164,8 @@ module _ {S : Type 0} {terms : Terms S} where
         is_run = run_then ahead.made us stopped.is_run;
         of_lines = sym (append_assoc (lines_of (ahead.turns ++ us)) stopped.unread rest)
             ∙ ap (λ (l : List (List ℕ)). l ++ rest) first ∙ append_assoc (whole_lines bytes) lines rest ∙ all;
+        full = full-append ((new.left ≡ []) × (stopped.unread ++ rest ≡ [])) ahead.turns us ahead.answered.full
+            (full_wider last us stopped.full);
         whole = ⊎_elim
             (λ none. inl (stopped.takes.left ∙ none))
             (λ (same : whole_lines bytes ++ lines ≡ whole_lines (bytes ++ more)). inr (stopped.unread, first ∙ same)) whole;
@@ -166,24 +187,26 @@ module _ {S : Type 0} {terms : Terms S} where
       }
 
   -- the take fails
-  pub served_source : {old mid new : View} {start end : S} {kept buf : List ℕ} {e : Failed} {room budget : ℕ}
-      → Keeping terms old mid start end kept room budget → Took mid new buf (Err e)
+  pub served_source : {old mid new : View} {start end : S} {waiting : Waiting} {kept buf : List ℕ} {e : Failed} {room budget : ℕ}
+      → Keeping terms old mid start end waiting kept room budget → Took mid new buf (Err e)
       → Served terms old new start end budget SourceFault
   served_source keeping call = source_failed (took_none keeping.ahead call) (omega (arith, keeping.spent))
 
   -- it gives more than is left of the budget
-  pub served_limit : {old mid new : View} {start end : S} {kept buf : List ℕ} {n room budget : ℕ}
-      → Keeping terms old mid start end kept room budget → Took mid new buf (Ok n) → room ≡ 0 → 0 < n
+  pub served_limit : {old mid new : View} {start end : S} {waiting : Waiting} {kept buf : List ℕ} {n room budget : ℕ}
+      → Keeping terms old mid start end waiting kept room budget → Took mid new buf (Ok n) → room ≡ 0 → 0 < n
       → n ≤ length buf → Served terms old new start end budget InputLimit
   served_limit {buf = buf} {n} keeping call none some in_buf =
       limited (took_some keeping.ahead call) (omega (arith, keeping.spent)) (omega (arith, length-take n buf))
 
   -- one of its lines halts the run
-  pub served_halt : {old mid between new : View} {start before end : S} {kept buf : List ℕ} {n room budget : ℕ} {halt : Halt}
-      {status : Status} → status ≡ status_at halt → Keeping terms old mid start before kept room budget
+  pub served_halt : {old mid between new : View} {start before end : S} {waiting : Waiting} {kept buf : List ℕ} {n room budget : ℕ}
+      {halt : Halt} {status : Status} → status ≡ status_at halt → Keeping terms old mid start before waiting kept room budget
       → Took mid between buf (Ok n) → n ≤ length buf → n ≤ room
-      → ((part : List ℕ) → IsKept kept part → Stopped terms between new before end (lines_from part (take n buf)) halt)
+      → ((part : List ℕ) (held : List (List ℕ)) → IsKept kept part → IsWaiting waiting held
+      → Stopped terms ⊥ between new before end (held ++ lines_from part (take n buf)) halt)
       → Served terms old new start end budget status
+  unfolding took took_some
   served_halt {old} {new = new} {start} {end = end} {buf = buf} {n} {budget = budget} {halt} is keeping call in_buf in_room stopped =
       let bytes = keeping.bytes in
       let more = take n buf in
@@ -192,39 +215,41 @@ module _ {S : Type 0} {terms : Terms S} where
       sym (append_assoc (whole_lines bytes) (lines_from (part_from [] bytes) more) rest)
       ∙ ap (λ (l : List (List ℕ)). l ++ rest) (sym (lines_from-append [] bytes more)) in
       subst (λ (s : Status). Served terms old new start end budget s) (sym is)
-      (halted halt rest (took_some keeping.ahead call) (stopped (part_from [] bytes) keeping.part) all
-      (inr (sym (lines_from-append [] bytes more)))
+      (halted halt (lines_from (part_from [] bytes) more) rest (took_some keeping.ahead call)
+      (stopped (part_from [] bytes) keeping.ahead.answered.held keeping.part keeping.waits) all
+      (inr (sym (lines_from-append [] bytes more))) (λ never. absurd never)
       (omega (arith, keeping.spent, length-append bytes more, length-take n buf, in_buf, in_room)))
 
-  -- it gives nothing, since the input has ended, and what had come of a line is answered
-  pub served_all : {old mid between new : View} {start before end : S} {kept buf : List ℕ} {n room budget : ℕ}
-      → Keeping terms old mid start before kept room budget → Took mid between buf (Ok n) → n ≡ 0 → 0 < length buf
-      → ((line : List ℕ) → IsKept kept line → Went terms between new before end (last_line line))
-      → Served terms old new start end budget Done
-  served_all keeping call none wide went =
-      ended (took_empty keeping.ahead call none) (input_ended call none wide) (omega (arith, keeping.spent))
-      (went (part_from [] keeping.bytes) keeping.part)
+  -- it gives nothing, since the input has ended, and what had come of a line and of a batch is answered
+  pub served_all : {old mid between new : View} {start before end : S} {waiting later_waiting : Waiting} {kept buf : List ℕ}
+      {n room budget : ℕ} → Keeping terms old mid start before waiting kept room budget → Took mid between buf (Ok n) → n ≡ 0
+      → 0 < length buf
+      → ((line : List ℕ) (held : List (List ℕ)) → IsKept kept line → IsWaiting waiting held
+      → Went terms Unit between new before end (held ++ last_line line) later_waiting)
+      → later_waiting.missing ≡ 0 → Served terms old new start end budget Done
+  unfolding took took_empty
+  served_all keeping call none wide went no_more =
+      let ahead = took_empty keeping.ahead call none in
+      ended ahead (input_ended call none wide) (omega (arith, keeping.spent))
+      (went (part_from [] keeping.bytes) ahead.answered.held keeping.part keeping.waits) no_more
 
-  -- nothing had come of a line
-  pub served_whole : {old mid between : View} {start before : S} {kept buf : List ℕ} {n room budget : ℕ}
-      → Keeping terms old mid start before kept room budget → Took mid between buf (Ok n) → n ≡ 0 → 0 < length buf
-      → length kept ≡ 0 → Served terms old between start before budget Done
-  served_whole keeping call none wide empty =
-      served_all keeping call none wide (λ line is. went_empty line empty is (took_empty keeping.ahead call none).rest)
-
-  -- the line of which something had come halts the run
-  pub served_last : {old mid between new : View} {start before end : S} {kept buf : List ℕ} {n room budget : ℕ} {halt : Halt}
-      {status : Status} → status ≡ status_at halt → Keeping terms old mid start before kept room budget
+  -- or halts the run
+  pub served_last : {old mid between new : View} {start before end : S} {waiting : Waiting} {kept buf : List ℕ} {n room budget : ℕ}
+      {halt : Halt} {status : Status} → status ≡ status_at halt → Keeping terms old mid start before waiting kept room budget
       → Took mid between buf (Ok n) → n ≡ 0 → 0 < length buf
-      → ((line : List ℕ) → IsKept kept line → Stopped terms between new before end (last_line line) halt)
+      → ((line : List ℕ) (held : List (List ℕ)) → IsKept kept line → IsWaiting waiting held
+      → Stopped terms Unit between new before end (held ++ last_line line) halt)
       → Served terms old new start end budget status
+  unfolding took took_empty
   served_last {old} {new = new} {start} {end = end} {budget = budget} {halt} is keeping call none wide stopped =
       let bytes = keeping.bytes in
       let last = last_line (part_from [] bytes) in
+      let ahead = took_empty keeping.ahead call none in
       let no_more : bytes ≡ bytes ++ [] = sym (append-nil bytes) in
       let all : whole_lines bytes ++ (last ++ []) ≡ all_lines (bytes ++ []) =
       ap (λ (l : List (List ℕ)). whole_lines bytes ++ l) (append-nil last) ∙ ap (λ (l : List ℕ). all_lines l) no_more in
       subst (λ (s : Status). Served terms old new start end budget s) (sym is)
-      (halted halt [] (took_empty keeping.ahead call none) (stopped (part_from [] bytes) keeping.part) all
-      (inl (input_ended call none wide))
+      (halted halt last [] ahead
+      (stopped (part_from [] bytes) ahead.answered.held keeping.part keeping.waits) all
+      (inl (input_ended call none wide)) (λ _. (input_ended call none wide, refl))
       (subst (λ (l : List ℕ). length l ≤ budget) no_more (omega (arith, keeping.spent))))

@@ -2,6 +2,8 @@
 mod Traces
 -- what the store answers to a change is an answer to its line
 mod ChangeAnswers
+-- a batch whose number is out of range is refused
+mod RefusedBatches
 -- a store keeps its terms at the desk
 mod Stores
 -- an answer is one step
@@ -14,12 +16,16 @@ mod Cuts
 mod Keeps
 -- turns are put together
 mod Turns
--- one line is answered, and its reply given
-mod OneTurn
 -- lines are answered one after another
 mod Runs
+-- one line or batch is answered, and its reply given
+mod OneTurn
 -- a line is treated by its length
 mod Treatments
+-- what follows of outcomes
+mod Results
+-- the lines of a batch are answered together
+mod Batches
 -- a chunk of the input is fed line by line
 mod Chunks
 -- the loop goes on from take to take

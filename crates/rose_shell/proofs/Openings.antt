@@ -1,5 +1,5 @@
 -- This file shows that a session that begins after file A was read is one from before.
-use Rattle.std.proofs.Common.{◌≡◌, ◌⊎◌, inl, inr, ⊎_elim, ℕ, ◌≤◌, false, List, ◌++◌, sym, ◌∙◌, ap, subst, arith}
+use Rattle.std.proofs.Common.{◌≡◌, inl, ⊎_elim, ℕ, ◌≤◌, false, List, ◌++◌, sym, ◌∙◌, ap, subst, arith}
 use Rattle.std.specs.Prelude.{◌^◌}
 use Rattle.outside_world.specs.declared.world.FileName.TheVariants.{A}
 use Rattle.outside_world.specs.View.{View, Moment, MayLeave}
@@ -11,7 +11,7 @@ use Rattle.realm_store.specs.Keeping.{Kept, SpendableKept, RestsAt}
 use Rattle.realm_store.specs.Starting.{KnowsGate, IsOpened}
 use Rattle.rose_shell.specs.declared.status.Status.{Status}
 use Rattle.rose_shell.specs.Desk.{Terms}
-use Rattle.rose_shell.specs.Session.{Turn, replies, IsMoment, IsCutOff, IsAnswered, Served}
+use Rattle.rose_shell.specs.Session.{Turn, replies, IsMoment, IsCutOff, Served}
 use Rattle.rose_shell.specs.Running.{kept_of, is_accepted, StandsInA, IsCrashOf, HasServed, HasBegun, ready_store}
 use Rattle.rose_shell.proofs.Prefixes.{start_is_prefix}
 
@@ -54,6 +54,7 @@ module _ {old mid : View} (now : (t : ℕ) (m : Moment) → t ≤ old.moment →
       taken = served.taken ∙ ap (λ (l : List ℕ). l ++ served.bytes) asks.takes.taken;
       is_run = served.is_run;
       of_lines = served.of_lines;
+      full = served.full;
       whole = served.whole;
       given = served.given ∙ ap (λ (l : List ℕ). l ++ replies served.turns) asks.given;
       ends = served.ends;
@@ -64,7 +65,7 @@ module _ {old mid : View} (now : (t : ℕ) (m : Moment) → t ≤ old.moment →
             others = is.others;
             some = is.some;
             taken = is.taken ∙ ap (λ (l : List ℕ). l ++ is.bytes) asks.takes.taken;
-            lines = is.lines;
+            answered = is.answered;
             given = is.given ∙ ap (λ (l : List ℕ). l ++ replies is.done) asks.given;
           }));
       crash = crash_behind new (λ given m. IsMoment terms.stands start served.turns given m) served.crash;

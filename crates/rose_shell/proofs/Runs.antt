@@ -5,17 +5,18 @@ use Rattle.outside_world.specs.View.{View, Moment}
 use Rattle.outside_world.specs.Since.{LeavesOnly}
 use Rattle.rose_shell.specs.declared.feeding.Halt.{Halt}
 use Rattle.rose_shell.specs.declared.feeding.Halt.TheVariants as halts
+use Rattle.rose_shell.specs.declared.waiting.Waiting.{Waiting}
 use Rattle.rose_shell.specs.Desk.{Terms, AllRest}
 use Rattle.rose_shell.specs.Session.{Turn, IsRun, end_of, replies, lines_of, IsMoment, IsCutOff}
-use Rattle.rose_shell.specs.Loop.{Went, Stopped}
+use Rattle.rose_shell.specs.Loop.{IsWaiting, Went, Stopped}
 use Rattle.outside_world.proofs.Moments.{only_nothing, only_wider, only_then, none_taken, none_taken_then}
-use Rattle.rose_shell.proofs.Turns.{end_of-append, replies-append, lines_of-append, run-append}
+use Rattle.rose_shell.proofs.Turns.{end_of-append, replies-append, lines_behind, full_wider, full-append, run-append}
 use Rattle.rose_shell.proofs.Turns.{given_in_part_behind, cut_off_behind, moment_before, moment_behind}
 
 -- these turns were made, and their replies given whole
 pub record Made {S : Type 0} (terms : Terms S) (old new : View) (start end : S)
     (turns : List (Turn S)) : Type 0 where
-  pub is_run : IsRun terms.answers start turns
+  pub is_run : IsRun terms start turns
   pub ends : end ≡ end_of start turns
   pub given : new.given ≡ old.given ++ replies turns
   pub later : old.moment ≤ new.moment
@@ -24,8 +25,8 @@ pub record Made {S : Type 0} (terms : Terms S) (old new : View) (start end : S)
 -- more turns behind these
 module _ {S : Type 0} {terms : Terms S} {old mid : View} {start between : S} {ts : List (Turn S)}
     (made : Made terms old mid start between ts) (us : List (Turn S)) where
-  pub run_then : IsRun terms.answers between us → IsRun terms.answers start (ts ++ us)
-  run_then run = run-append terms.answers start ts us made.is_run (subst (λ (s : S). IsRun terms.answers s us) made.ends run)
+  pub run_then : IsRun terms between us → IsRun terms start (ts ++ us)
+  run_then run = run-append terms start ts us made.is_run (subst (λ (s : S). IsRun terms s us) made.ends run)
 
   pub ends_then : end_of between us ≡ end_of start (ts ++ us)
   ends_then = ap (λ (s : S). end_of s us) made.ends ∙ sym (end_of-append start ts us)
@@ -47,11 +48,15 @@ module _ {S : Type 0} {terms : Terms S} {old mid : View} {start between : S} {ts
       only_then (only_wider made.crash (moment_before terms.stands start ts us old.given)) made.later (only_wider crash moment_then)
 
 module _ {S : Type 0} {terms : Terms S} where
-  -- no line is answered
-  pub went_none : {v : View} {s : S} → AllRest terms v s → Went terms v v s s []
-  went_none {v} rest = record {
+  -- no line is answered, and all wait
+  pub went_none : {v : View} {s : S} {lines : List (List ℕ)} {waiting : Waiting} {none_left : Type 0} → AllRest terms v s
+      → IsWaiting waiting lines → Went terms none_left v v s s lines waiting
+  went_none {v} {lines = lines} rest waits = record {
     turns = [];
+    held = lines;
     is_run = tt;
+    full = tt;
+    waits = waits;
     of_lines = refl;
     ends = refl;
     given = sym (append-nil v.given);
@@ -60,15 +65,76 @@ module _ {S : Type 0} {terms : Terms S} where
     crash = only_nothing;
   }
 
-  -- memory runs out when these lines are answered
-  pub stopped_behind : {old new : View} {start end : S} {lines : List (List ℕ)} → Went terms old new start end lines
-      → Stopped terms old new start end lines halts.NoMemory
+  -- memory runs out before any line is answered
+  pub stopped_none : {v : View} {s : S} {none_left : Type 0} (lines : List (List ℕ)) → AllRest terms v s
+      → Stopped terms none_left v v s s lines halts.NoMemory
+  stopped_none lines rest = record {
+    turns = [];
+    unread = lines;
+    unsent = [];
+    is_run = tt;
+    full = tt;
+    of_lines = refl;
+    given = refl;
+    takes = none_taken;
+    rest = λ _. rest;
+    crash = only_nothing;
+    sink = λ is. absurd (cc);
+    disk = λ is. absurd (cc);
+    memory = λ _. refl;
+  }
+
+  -- the sink fails
+  pub stopped_at : {old new : View} {start end : S} {lines : List (List ℕ)} {halt : Halt} {none_left : Type 0} → halt ≡ halts.Sink
+      → Stopped terms none_left old new start end lines halts.Sink → Stopped terms none_left old new start end lines halt
+  stopped_at {old} {new} {start} {end} {lines} {none_left = none_left} is stopped =
+      subst (λ (h : Halt). Stopped terms none_left old new start end lines h) (sym is) stopped
+
+  -- where the input has ended the last batch may have fewer lines than it asks for
+  pub went_to_end : {old new : View} {start end : S} {lines : List (List ℕ)} {waiting : Waiting} {none_left : Type 0}
+      → Went terms ⊥ old new start end lines waiting → Went terms none_left old new start end lines waiting
+  went_to_end went = record {
+    turns = went.turns;
+    held = went.held;
+    is_run = went.is_run;
+    full = full_wider (λ never. absurd never) went.turns went.full;
+    waits = went.waits;
+    of_lines = went.of_lines;
+    ends = went.ends;
+    given = went.given;
+    takes = went.takes;
+    rest = went.rest;
+    crash = went.crash;
+  }
+
+  pub stopped_to_end : {old new : View} {start end : S} {lines : List (List ℕ)} {halt : Halt} {none_left : Type 0}
+      → Stopped terms ⊥ old new start end lines halt → Stopped terms none_left old new start end lines halt
+  stopped_to_end stopped = record {
+    turns = stopped.turns;
+    unread = stopped.unread;
+    unsent = stopped.unsent;
+    is_run = stopped.is_run;
+    full = full_wider (λ never. absurd never.0) stopped.turns stopped.full;
+    of_lines = stopped.of_lines;
+    given = stopped.given;
+    takes = stopped.takes;
+    rest = stopped.rest;
+    crash = stopped.crash;
+    sink = stopped.sink;
+    disk = stopped.disk;
+    memory = stopped.memory;
+  }
+
+  -- memory runs out when these lines are answered, but for those that wait
+  pub stopped_behind : {old new : View} {start end : S} {lines : List (List ℕ)} {waiting : Waiting} {none_left : Type 0}
+      → Went terms ⊥ old new start end lines waiting → Stopped terms none_left old new start end lines halts.NoMemory
   stopped_behind {new = new} went = record {
     turns = went.turns;
-    unread = [];
+    unread = went.held;
     unsent = [];
     is_run = went.is_run;
-    of_lines = append-nil (lines_of went.turns) ∙ went.of_lines;
+    full = full_wider (λ never. absurd never) went.turns went.full;
+    of_lines = went.of_lines;
     given = append-nil new.given ∙ went.given;
     takes = went.takes;
     rest = λ _. subst (λ (s : S). AllRest terms new s) went.ends went.rest;
@@ -80,12 +146,13 @@ module _ {S : Type 0} {terms : Terms S} where
 
   -- more lines that aren't read
   pub stopped_more : {old new : View} {start end : S} {lines : List (List ℕ)} {halt : Halt} (more : List (List ℕ))
-      → Stopped terms old new start end lines halt → Stopped terms old new start end (lines ++ more) halt
+      → Stopped terms ⊥ old new start end lines halt → Stopped terms ⊥ old new start end (lines ++ more) halt
   stopped_more more stopped = record {
     turns = stopped.turns;
     unread = stopped.unread ++ more;
     unsent = stopped.unsent;
     is_run = stopped.is_run;
+    full = full_wider (λ never. absurd never.0) stopped.turns stopped.full;
     of_lines = sym (append_assoc (lines_of stopped.turns) stopped.unread more) ∙ ap (λ (l : List (List ℕ)). l ++ more) stopped.of_lines;
     given = stopped.given;
     takes = stopped.takes;
@@ -96,22 +163,25 @@ module _ {S : Type 0} {terms : Terms S} where
     memory = stopped.memory;
   }
 
-  made_by : {old new : View} {start end : S} {lines : List (List ℕ)} (went : Went terms old new start end lines)
-      → Made terms old new start end went.turns
+  made_by : {old new : View} {start end : S} {lines : List (List ℕ)} {waiting : Waiting} {none_left : Type 0}
+      (went : Went terms none_left old new start end lines waiting) → Made terms old new start end went.turns
   made_by went = record { is_run = went.is_run; ends = went.ends; given = went.given; later = went.takes.later; crash = went.crash }
 
   -- lines after others
-  pub went_then : {old mid new : View} {start between end : S} {lines more : List (List ℕ)}
-      → Went terms old mid start between lines → Went terms mid new between end more
-      → Went terms old new start end (lines ++ more)
-  went_then {new = new} {lines = lines} first second =
+  pub went_then : {old mid new : View} {start between end : S} {lines : List (List ℕ)} {before after : Waiting}
+      {none_left : Type 0} (more : List (List ℕ)) (first : Went terms ⊥ old mid start between lines before)
+      → Went terms none_left mid new between end (first.held ++ more) after
+      → Went terms none_left old new start end (lines ++ more) after
+  went_then {new = new} {none_left = none_left} more first second =
       let made = made_by first in
       let us = second.turns in
       record {
         turns = first.turns ++ us;
+        held = second.held;
         is_run = run_then made us second.is_run;
-        of_lines = lines_of-append first.turns us ∙ ap (λ (l : List (List ℕ)). l ++ lines_of us) first.of_lines
-            ∙ ap (λ (l : List (List ℕ)). lines ++ l) second.of_lines;
+        full = full-append none_left first.turns us first.full second.full;
+        waits = second.waits;
+        of_lines = lines_behind first.turns us first.held second.held more first.of_lines second.of_lines;
         ends = second.ends ∙ ends_then made us;
         given = second.given ∙ replies_then made us;
         takes = none_taken_then first.takes second.takes;
@@ -119,10 +189,11 @@ module _ {S : Type 0} {terms : Terms S} where
         crash = crash_then made us new second.crash;
       }
 
-  pub stopped_then : {old mid new : View} {start between end : S} {lines more : List (List ℕ)} {halt : Halt}
-      → Went terms old mid start between lines → Stopped terms mid new between end more halt
-      → Stopped terms old new start end (lines ++ more) halt
-  stopped_then {mid = mid} {new} {start} {lines = lines} first second =
+  pub stopped_then : {old mid new : View} {start between end : S} {lines : List (List ℕ)} {before : Waiting} {halt : Halt}
+      {none_left : Type 0} (more : List (List ℕ)) (first : Went terms ⊥ old mid start between lines before)
+      → Stopped terms none_left mid new between end (first.held ++ more) halt
+      → Stopped terms none_left old new start end (lines ++ more) halt
+  stopped_then {mid = mid} {new} {start} {none_left = none_left} more first second =
       let made = made_by first in
       let us = second.turns in
       record {
@@ -130,9 +201,8 @@ module _ {S : Type 0} {terms : Terms S} where
         unread = second.unread;
         unsent = second.unsent;
         is_run = run_then made us second.is_run;
-        of_lines = ap (λ (l : List (List ℕ)). l ++ second.unread)
-            (lines_of-append first.turns us ∙ ap (λ (l : List (List ℕ)). l ++ lines_of us) first.of_lines)
-            ∙ append_assoc lines (lines_of us) second.unread ∙ ap (λ (l : List (List ℕ)). lines ++ l) second.of_lines;
+        full = full-append (none_left × (second.unread ≡ [])) first.turns us first.full second.full;
+        of_lines = lines_behind first.turns us first.held second.unread more first.of_lines second.of_lines;
         given = second.given ∙ replies_then made us;
         takes = none_taken_then first.takes second.takes;
         rest = λ other. subst (λ (s : S). AllRest terms new s) (ends_then made us) (second.rest other);

@@ -1,6 +1,6 @@
 -- This file shows that each turn of a session is one step, so each state on the way is a realm, its changes are counted, and
 -- each crash leaves the state after a prefix of them.
-use Rattle.std.proofs.Common.{◌≡◌, inl, inr, nat_lt, ℕ, ◌+◌, ◌<◌, Bool, true, false, MatchBool, List, [], ◌∷◌, ◌++◌, length, All}
+use Rattle.std.proofs.Common.{◌≡◌, ◌⊎◌, inl, inr, nat_lt, ℕ, ◌+◌, ◌<◌, Bool, true, false, MatchBool, List, [], ◌∷◌, ◌++◌, length, All}
 use Rattle.std.proofs.Common.{sym, ◌∙◌, ap, subst, arith}
 use Rattle.std.specs.Prelude.{◌≢◌}
 use Rattle.std.proofs.lemmas.Bool.Decides.{nat_tests}
@@ -15,10 +15,9 @@ use Rattle.realm_store.specs.Stands.{StandsFor}
 use Rattle.realm_store.specs.Keeping.{Kept, SpendableKept, AllRest}
 use Rattle.rose_shell.specs.declared.status.Status.{Status}
 use Rattle.rose_shell.specs.declared.status.Status.TheVariants.{DiskFault, NoMemory}
-use Rattle.rose_shell.specs.Answers.{StoreAnswers}
 use Rattle.rose_shell.specs.Lines.{longest_line}
 use Rattle.rose_shell.specs.Desk.{Stands}
-use Rattle.rose_shell.specs.Session.{Turn, Treats, IsRun, IsMoment, Served}
+use Rattle.rose_shell.specs.Session.{Turn, Treats, IsSingle, IsBatch, IsRun, IsMoment, Served}
 use Rattle.rose_shell.specs.Prefixes.{IsCounted}
 use Rattle.rose_shell.specs.Running.{StoreTerms, kept_of, is_accepted, StandsInA, IsCrashOf, HasServed}
 use Rattle.rose_shell.proofs.Steps.{IsOneStep, line_steps}
@@ -30,14 +29,19 @@ either : (test : Bool) (P Q R : Type 0) → (P → R) → (Q → R) → MatchBoo
 either true P Q R first second chosen = first chosen
 either false P Q R first second chosen = second chosen
 
--- each turn is one step
-turn_steps : (old : SpendableKept) (line reply : List ℕ) (new : SpendableKept) → Treats StoreAnswers old line reply new
+-- each turn is one step: a batch changes nothing
+treated_steps : (old : SpendableKept) (line reply : List ℕ) (new : SpendableKept) → Treats StoreTerms.answers old line reply new
     → IsOneStep old.kept reply new.kept
-turn_steps old line reply new treated =
+treated_steps old line reply new treated =
     either (nat_lt longest_line (length line)) _ _ (IsOneStep old.kept reply new.kept)
     (λ refused. inl (ap kept_of refused.1))
     (λ answered. line_steps old.kept line reply new.kept answered.outcome)
     treated
+
+turn_steps : (old : SpendableKept) (turn : Turn SpendableKept)
+    → IsSingle StoreTerms.answers old turn ⊎ IsBatch StoreTerms.tells old turn → IsOneStep old.kept turn.reply turn.after.kept
+turn_steps old turn (inl single) = treated_steps old turn.line turn.reply turn.after single.treats
+turn_steps old turn (inr batch) = inl (ap kept_of batch.stays)
 
 -- a step leads from a realm to a realm
 step_realm : (old : Kept) (reply : List ℕ) (new : Kept) → IsOneStep old reply new → IsDrawnRealm old.state.drawing
@@ -45,11 +49,11 @@ step_realm : (old : Kept) (reply : List ℕ) (new : Kept) → IsOneStep old repl
 step_realm old reply new (inl same) realm = subst (λ (k : Kept). IsDrawnRealm k.state.drawing) (sym same) realm
 step_realm old reply new (inr accepted) realm = drawn_realm_by new.state.drawing accepted.settled
 
-run_realms : (start : SpendableKept) (turns : List (Turn SpendableKept)) → IsRun StoreAnswers start turns
+run_realms : (start : SpendableKept) (turns : List (Turn SpendableKept)) → IsRun StoreTerms start turns
     → IsDrawnRealm start.kept.state.drawing → All (λ turn. IsDrawnRealm turn.after.kept.state.drawing) turns
 run_realms start [] run realm = All-nil (λ turn. IsDrawnRealm turn.after.kept.state.drawing)
 run_realms start (turn ∷ turns) run realm =
-    let step = turn_steps start turn.line turn.reply turn.after run.0 in
+    let step = turn_steps start turn run.0 in
     let after = step_realm start.kept turn.reply turn.after.kept step realm in
     All-cons (λ t. IsDrawnRealm t.after.kept.state.drawing) turn turns after (run_realms turn.after turns run.1 after)
 
@@ -70,11 +74,11 @@ step_counted old reply new (inr accepted) =
     subst (λ (b : Bool). MatchBool b (0 < length reply) (new ≡ old))
     (sym (is_more old.state.changes new.state.changes accepted.changes)) accepted.has_reply
 
-run_counted : (start : SpendableKept) (turns : List (Turn SpendableKept)) → IsRun StoreAnswers start turns
+run_counted : (start : SpendableKept) (turns : List (Turn SpendableKept)) → IsRun StoreTerms start turns
     → IsCounted kept_of is_accepted start turns
 run_counted start [] run = tt
 run_counted start (turn ∷ turns) run = (
-  step_counted start.kept turn.reply turn.after.kept (turn_steps start turn.line turn.reply turn.after run.0),
+  step_counted start.kept turn.reply turn.after.kept (turn_steps start turn run.0),
   run_counted turn.after turns run.1,
 )
 
@@ -88,20 +92,20 @@ abbrev InA : Stands SpendableKept
 InA s files = StandsFor (files A) s.kept.state
 
 moment_in_a : (start : SpendableKept) (turns : List (Turn SpendableKept)) (given : List ℕ) (m : Moment)
-    → IsRun StoreAnswers start turns → start.kept.has_gate ≡ true → IsMoment StoreTerms.stands start turns given m
+    → IsRun StoreTerms start turns → start.kept.has_gate ≡ true → IsMoment StoreTerms.stands start turns given m
     → IsMoment InA start turns given m
 moment_in_a start [] given m run has is = (is.0, is.1 has)
 moment_in_a start (turn ∷ turns) given m run has (inl before) = inl (before.0, before.1 has)
 moment_in_a start (turn ∷ turns) given m run has (inr (inl (sent, unsent, split, is, stand))) =
-    let step = turn_steps start turn.line turn.reply turn.after run.0 in
+    let step = turn_steps start turn run.0 in
     inr (inl (sent, unsent, split, is, stand (step_gate start.kept turn.reply turn.after.kept step has)))
 moment_in_a start (turn ∷ turns) given m run has (inr (inr later)) =
-    let step = turn_steps start turn.line turn.reply turn.after run.0 in
+    let step = turn_steps start turn run.0 in
     inr (inr (moment_in_a turn.after turns (given ++ turn.reply) m run.1
     (step_gate start.kept turn.reply turn.after.kept step has) later))
 
 -- and each crash leaves the state after a prefix of the changes
-run_prefix : (old new : View) (start : SpendableKept) (turns : List (Turn SpendableKept)) → IsRun StoreAnswers start turns
+run_prefix : (old new : View) (start : SpendableKept) (turns : List (Turn SpendableKept)) → IsRun StoreTerms start turns
     → LeavesOnly old new (IsMoment StoreTerms.stands start turns old.given) → start.kept.has_gate ≡ true
     → LeavesOnly old new (IsCrashOf start turns old.given)
 run_prefix old new start turns run crash has =

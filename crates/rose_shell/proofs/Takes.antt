@@ -7,32 +7,36 @@ use Rattle.outside_world.specs.declared.world.Failed.{Failed}
 use Rattle.outside_world.specs.View.{View, Asked}
 use Rattle.outside_world.specs.Calls.{Asks, Ticks, SameFiles, Took}
 use Rattle.outside_world.specs.Since.{OnlyAdds, TakesNone}
+use Rattle.rose_shell.specs.declared.waiting.Waiting.{Waiting}
 use Rattle.rose_shell.specs.Lines.{lines_from, part_from, whole_lines, IsKept}
 use Rattle.rose_shell.specs.Desk.{Terms, AllRest}
-use Rattle.rose_shell.specs.Session.{Turn, replies, lines_of, IsAnswered}
-use Rattle.rose_shell.specs.Loop.{Went}
+use Rattle.rose_shell.specs.Session.{Turn, replies, lines_of, AreTurnsOf, IsAnswered}
+use Rattle.rose_shell.specs.Loop.{IsWaiting, Went}
 use Rattle.outside_world.proofs.Moments.{only_nothing, only_wider, only_then, only_of_adds}
-use Rattle.rose_shell.proofs.Turns.{lines_of-append, moment_now}
+use Rattle.rose_shell.proofs.Turns.{lines_behind, full-append, moment_now}
 use Rattle.rose_shell.proofs.Cuts.{lines_from-append, part_from-append}
 use Rattle.rose_shell.proofs.Runs.{Made, run_then, ends_then, replies_then, crash_then}
 use Rattle.rose_shell.proofs.OneTurn.{still_rest}
+use Rattle.rose_shell.proofs.Batches.{are_held}
 
 -- the whole lines among these bytes were answered, and more bytes were taken
 pub record Ahead {S : Type 0} (terms : Terms S) (old new : View) (start end : S)
     (bytes more : List ℕ) : Type 0 where
   pub turns : List (Turn S)
   pub made : Made terms old new start end turns
-  pub of_lines : lines_of turns ≡ whole_lines bytes
+  pub answered : AreTurnsOf turns bytes
   pub left : old.left ≡ bytes ++ (more ++ new.left)
   pub taken : new.taken ≡ old.taken ++ (bytes ++ more)
   pub rest : AllRest terms new end
   pub asked : OnlyAdds old.moment old.asked_since new.asked_since (IsAnswered old turns)
 
--- between two takes no bytes are ahead, what has come of a line is kept, and this room is left of the budget
+-- between two takes no bytes are ahead, what has come of a line is kept, as are the lines of a batch, and this room is left of
+-- the budget
 pub record Keeping {S : Type 0} (terms : Terms S) (old new : View) (start end : S)
-    (kept : List ℕ) (room budget : ℕ) : Type 0 where
+    (waiting : Waiting) (kept : List ℕ) (room budget : ℕ) : Type 0 where
   pub bytes : List ℕ
   pub ahead : Ahead terms old new start end bytes []
+  pub waits : IsWaiting waiting ahead.answered.held
   pub part : IsKept kept (part_from [] bytes)
   pub spent : length bytes + room ≡ budget
 
@@ -44,31 +48,32 @@ answered_more {S} ts us a is = record {
   others = is.others ++ us;
   some = ap (λ (l : List (Turn S)). l ++ us) is.some ∙ append_assoc is.done is.others us;
   taken = is.taken;
-  lines = is.lines;
+  answered = is.answered;
   given = is.given;
 }
 
 module _ {S : Type 0} {terms : Terms S} where
   -- before the first take
-  pub keeping_none : {v : View} {s : S} {kept : List ℕ} (budget : ℕ) → kept ≡ [] → AllRest terms v s
-      → Keeping terms v v s s kept budget budget
-  keeping_none {v} budget none rest = record {
+  pub keeping_none : {v : View} {s : S} {waiting : Waiting} {kept : List ℕ} (budget : ℕ) → IsWaiting waiting [] → kept ≡ []
+      → AllRest terms v s → Keeping terms v v s s waiting kept budget budget
+  keeping_none {v} budget waits none rest = record {
     bytes = [];
     ahead = record {
       turns = [];
       made = record { is_run = tt; ends = refl; given = sym (append-nil v.given); later = omega arith; crash = only_nothing };
-      of_lines = refl;
+      answered = record { held = []; are_held = tt; lines = refl; full = tt };
       left = refl;
       taken = sym (append-nil v.taken);
       rest = rest;
       asked = only_nothing;
     };
+    waits = waits;
     part = none;
     spent = omega arith;
   }
 
   -- one take, whether it gives anything or fails: all whole lines had been answered when it began
-  took : {old mid new : View} {start end : S} {bytes : List ℕ} (more : List ℕ) → Ahead terms old mid start end bytes []
+  unfoldable pub took : {old mid new : View} {start end : S} {bytes : List ℕ} (more : List ℕ) → Ahead terms old mid start end bytes []
       → Ticks (Asks mid) mid new → SameFiles mid new → new.given ≡ mid.given → mid.left ≡ more ++ new.left
       → new.taken ≡ mid.taken ++ more → Ahead terms old new start end bytes more
   took {old} {mid} {new} {start} {end} {bytes} more ahead ticks files given left taken =
@@ -89,7 +94,7 @@ module _ {S : Type 0} {terms : Terms S} where
               (subst (λ (s : S). terms.stands s m.files) made.ends
               (terms.rest_stands end m.files (rest.each m.files may.1)))));
         };
-        of_lines = ahead.of_lines;
+        answered = ahead.answered;
         left = ahead.left ∙ ap (λ (l : List ℕ). bytes ++ l) left;
         taken = taken ∙ ap (λ (l : List ℕ). l ++ more) all_taken ∙ append_assoc old.taken bytes more;
         rest = rest;
@@ -100,12 +105,12 @@ module _ {S : Type 0} {terms : Terms S} where
               others = [];
               some = sym (append-nil turns);
               taken = asks.0 ∙ all_taken;
-              lines = ahead.of_lines;
+              answered = ahead.answered;
               given = asks.1 ∙ made.given;
             }));
       }
 
-  pub took_some : {old mid new : View} {start end : S} {bytes buf : List ℕ} {n : ℕ} → Ahead terms old mid start end bytes []
+  unfoldable pub took_some : {old mid new : View} {start end : S} {bytes buf : List ℕ} {n : ℕ} → Ahead terms old mid start end bytes []
       → Took mid new buf (Ok n) → Ahead terms old new start end bytes (take n buf)
   took_some {buf = buf} {n} ahead call = took (take n buf) ahead call.ticks call.files call.given call.moved.left call.moved.taken
 
@@ -113,11 +118,12 @@ module _ {S : Type 0} {terms : Terms S} where
       → Ahead terms old mid start end bytes [] → Took mid new buf (Err e) → Ahead terms old new start end bytes []
   took_none ahead call = took [] ahead call.ticks call.files call.given call.failed.left call.failed.taken
 
-  pub took_empty : {old mid new : View} {start end : S} {bytes buf : List ℕ} {n : ℕ}
+  unfoldable pub took_empty : {old mid new : View} {start end : S} {bytes buf : List ℕ} {n : ℕ}
       → Ahead terms old mid start end bytes [] → Took mid new buf (Ok n) → n ≡ 0 → Ahead terms old new start end bytes []
-  took_empty {old} {new = new} {start} {end} {bytes} {buf} ahead call none =
-      subst (λ (l : List ℕ). Ahead terms old new start end bytes l) (ap (λ (k : ℕ). take k buf) none)
-      (took_some ahead call)
+  took_empty {mid = mid} {new} {buf = buf} ahead call none =
+      took [] ahead call.ticks call.files call.given
+      (call.moved.left ∙ ap (λ (k : ℕ). take k buf ++ new.left) none)
+      (call.moved.taken ∙ ap (λ (k : ℕ). mid.taken ++ take k buf) none)
 
   -- turns after those so far
   module _ {old mid new : View} {start between : S} {bytes more : List ℕ}
@@ -131,14 +137,17 @@ module _ {S : Type 0} {terms : Terms S} where
     left_then =
         ahead.left ∙ sym (append_assoc bytes more mid.left) ∙ ap (λ (l : List ℕ). (bytes ++ more) ++ l) (sym takes.left)
 
-    pub lines_then : (us : List (Turn S)) → lines_of (ahead.turns ++ us) ≡ whole_lines bytes ++ lines_of us
-    lines_then us = lines_of-append ahead.turns us ∙ ap (λ (l : List (List ℕ)). l ++ lines_of us) ahead.of_lines
+    pub lines_then : (us : List (Turn S)) (later lines : List (List ℕ)) → lines_of us ++ later ≡ ahead.answered.held ++ lines
+        → lines_of (ahead.turns ++ us) ++ later ≡ whole_lines bytes ++ lines
+    lines_then us later lines second =
+        lines_behind ahead.turns us ahead.answered.held later lines ahead.answered.lines second
 
-  -- the lines that end in the bytes ahead are answered
-  fed : {old mid new : View} {start between end : S} {bytes more : List ℕ} → Ahead terms old mid start between bytes more
-      → Went terms mid new between end (lines_from (part_from [] bytes) more)
+  -- the lines that end in the bytes ahead are heard
+  fed : {old mid new : View} {start between end : S} {bytes more : List ℕ} {waiting : Waiting}
+      (ahead : Ahead terms old mid start between bytes more)
+      → Went terms ⊥ mid new between end (ahead.answered.held ++ lines_from (part_from [] bytes) more) waiting
       → Ahead terms old new start end (bytes ++ more) []
-  fed {old} {new = new} {bytes = bytes} {more} ahead went =
+  fed {old} {new = new} {bytes = bytes} {more} {waiting} ahead went =
       let us = went.turns in
       record {
         turns = ahead.turns ++ us;
@@ -149,26 +158,35 @@ module _ {S : Type 0} {terms : Terms S} where
           later = omega (arith, ahead.made.later, went.takes.later);
           crash = crash_then ahead.made us new went.crash;
         };
-        of_lines = lines_then ahead went.takes us ∙ ap (λ (l : List (List ℕ)). whole_lines bytes ++ l) went.of_lines
-            ∙ sym (lines_from-append [] bytes more);
+        answered = record {
+          held = went.held;
+          are_held = are_held waiting went.held went.waits;
+          lines = lines_then ahead went.takes us went.held (lines_from (part_from [] bytes) more) went.of_lines ∙ sym (lines_from-append [] bytes more);
+          full = full-append ⊥ ahead.turns us ahead.answered.full went.full;
+        };
         left = left_then ahead went.takes;
         taken = went.takes.taken ∙ ahead.taken ∙ ap (λ (l : List ℕ). old.taken ++ l) (sym (append-nil (bytes ++ more)));
         rest = went.rest;
         asked = asked_then ahead went.takes us;
       }
 
-  -- one turn of the loop: a take that gives something, whose lines are answered
-  pub keeping_more : {old mid between new : View} {start before end : S} {kept later_kept buf : List ℕ} {n room budget : ℕ}
-      → Keeping terms old mid start before kept room budget → Took mid between buf (Ok n) → n ≤ length buf → n ≤ room
-      → ((part : List ℕ) → IsKept kept part → Went terms between new before end (lines_from part (take n buf)))
+  -- one turn of the loop: a take that gives something, whose lines are heard
+  pub keeping_more : {old mid between new : View} {start before end : S} {waiting later_waiting : Waiting}
+      {kept later_kept buf : List ℕ} {n room budget : ℕ}
+      → Keeping terms old mid start before waiting kept room budget → Took mid between buf (Ok n) → n ≤ length buf → n ≤ room
+      → ((part : List ℕ) (held : List (List ℕ)) → IsKept kept part → IsWaiting waiting held
+      → Went terms ⊥ between new before end (held ++ lines_from part (take n buf)) later_waiting)
       → ((part : List ℕ) → IsKept kept part → IsKept later_kept (part_from part (take n buf)))
-      → Keeping terms old new start end later_kept (room - n) budget
+      → Keeping terms old new start end later_waiting later_kept (room - n) budget
+  unfolding took took_some fed
   keeping_more {later_kept = later_kept} {buf} {n} keeping call in_buf in_room went part =
       let bytes = keeping.bytes in
       let more = take n buf in
+      let then = went (part_from [] bytes) keeping.ahead.answered.held keeping.part keeping.waits in
       record {
         bytes = bytes ++ more;
-        ahead = fed (took_some keeping.ahead call) (went (part_from [] bytes) keeping.part);
+        ahead = fed (took_some keeping.ahead call) then;
+        waits = then.waits;
         part = subst (λ (l : List ℕ). IsKept later_kept l) (sym (part_from-append [] bytes more))
             (part (part_from [] bytes) keeping.part);
         spent = omega (arith, keeping.spent, length-append bytes more, length-take n buf, in_buf, in_room);

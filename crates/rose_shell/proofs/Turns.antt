@@ -1,9 +1,9 @@
 -- This file shows how turns are put together.
-use Rattle.std.proofs.Common.{◌≡◌, ◌⊎◌, inl, inr, ℕ, List, [], ◌∷◌, ◌++◌, refl, sym, ◌∙◌, ap, subst, append_assoc}
+use Rattle.std.proofs.Common.{◌≡◌, ◌⊎◌, inl, inr, ⊎_elim, ℕ, List, [], ◌∷◌, ◌++◌, refl, sym, ◌∙◌, ap, subst, append_assoc}
 use Rattle.std.proofs.lemmas.List.{append-nil}
 use Rattle.outside_world.specs.View.{View, Moment}
-use Rattle.rose_shell.specs.Desk.{Rule, Stands, Terms}
-use Rattle.rose_shell.specs.Session.{Turn, IsRun, end_of, replies, lines_of, IsMoment, IsGivenInPart, IsCutOff}
+use Rattle.rose_shell.specs.Desk.{Stands, Terms}
+use Rattle.rose_shell.specs.Session.{Turn, IsRun, IsFull, AreFull, end_of, replies, lines_of, IsMoment, IsGivenInPart, IsCutOff}
 
 module _ {S : Type 0} where
   pub end_of-append : (start : S) (ts us : List (Turn S)) → end_of start (ts ++ us) ≡ end_of (end_of start ts) us
@@ -17,7 +17,33 @@ module _ {S : Type 0} where
 
   pub lines_of-append : (ts us : List (Turn S)) → lines_of (ts ++ us) ≡ lines_of ts ++ lines_of us
   lines_of-append [] us = refl
-  lines_of-append (t ∷ ts) us = ap (λ (l : List (List ℕ)). t.line ∷ l) (lines_of-append ts us)
+  lines_of-append (t ∷ ts) us =
+      ap (λ (l : List (List ℕ)). t.line ∷ l)
+      (ap (λ (l : List (List ℕ)). t.batch ++ l) (lines_of-append ts us)
+      ∙ sym (append_assoc t.batch (lines_of ts) (lines_of us)))
+
+  -- turns behind others, with the lines that were held before them and are held behind them
+  pub lines_behind : (ts us : List (Turn S)) (held later more : List (List ℕ)) {all : List (List ℕ)} → lines_of ts ++ held ≡ all
+      → lines_of us ++ later ≡ held ++ more → lines_of (ts ++ us) ++ later ≡ all ++ more
+  lines_behind ts us held later more first second =
+      ap (λ (l : List (List ℕ)). l ++ later) (lines_of-append ts us) ∙ append_assoc (lines_of ts) (lines_of us) later
+      ∙ ap (λ (l : List (List ℕ)). lines_of ts ++ l) second ∙ sym (append_assoc (lines_of ts) held more)
+      ∙ ap (λ (l : List (List ℕ)). l ++ more) first
+
+  -- full turns stay so, whatever is said of the last one
+  pub full_wider : {P Q : Type 0} → (P → Q) → (ts : List (Turn S)) → AreFull P ts → AreFull Q ts
+  full_wider wider [] full = tt
+  full_wider {P} {Q} wider (t ∷ ts) full = (
+    ⊎_elim (λ (is : IsFull t). inl is) (λ (last : (ts ≡ []) × P). inr (last.0, wider last.1)) full.0,
+    full_wider wider ts full.1,
+  )
+
+  pub full-append : (P : Type 0) (ts us : List (Turn S)) → AreFull ⊥ ts → AreFull P us → AreFull P (ts ++ us)
+  full-append P [] us first second = second
+  full-append P (t ∷ ts) us first second = (
+    ⊎_elim (λ (is : IsFull t). inl is) (λ (last : (ts ≡ []) × ⊥). absurd last.1) first.0,
+    full-append P ts us first.1 second,
+  )
 
   pub given_in_part_behind : (ts : List (Turn S)) {us : List (Turn S)} {unsent : List ℕ}
       → IsGivenInPart us unsent → IsGivenInPart (ts ++ us) unsent
@@ -50,9 +76,9 @@ module _ {S : Type 0} {terms : Terms S} {old mid new : View} where
             subst (λ (s : S). terms.stands s files ⊎ terms.stands cut.last.after files) same (cut.either files image);
       }
 
-module _ {S : Type 0} (answers : Rule S) where
-  pub run-append : (start : S) (ts us : List (Turn S)) → IsRun answers start ts → IsRun answers (end_of start ts) us
-      → IsRun answers start (ts ++ us)
+module _ {S : Type 0} (terms : Terms S) where
+  pub run-append : (start : S) (ts us : List (Turn S)) → IsRun terms start ts → IsRun terms (end_of start ts) us
+      → IsRun terms start (ts ++ us)
   run-append start [] us first second = second
   run-append start (t ∷ ts) us first second = (first.0, run-append t.after ts us first.1 second)
 

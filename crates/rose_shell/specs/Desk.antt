@@ -1,5 +1,5 @@
 -- One answer of a desk, and what a crash may leave while it is made.
-use Rattle.std.specs.Prelude.{◌≡◌, ◌⊎◌, ℕ, List, Result, Err, OnOk}
+use Rattle.std.specs.Prelude.{◌≡◌, ◌⊎◌, ℕ, List, Option, Result, Err, OnOk}
 use Rattle.outside_world.specs.declared.world.FileName.{FileName}
 use Rattle.outside_world.specs.View.{View, Moment}
 use Rattle.outside_world.specs.Since.{TakesNone, LeavesOnly}
@@ -17,6 +17,8 @@ Stands S = S → (FileName → List ℕ) → Type 0
 -- what a desk goes by, S being its states
 pub record Terms (S : Type 0) : Type 1 where
   pub answers : Rule S
+  -- in this state, a line of a batch gets this reply, none being one that is too long
+  pub tells : S → Option (List ℕ) → List ℕ → Type 0
   -- in this state, this line may write to the files
   pub writes : S → List ℕ → Type 0
   -- files that stand for this state

@@ -2,8 +2,8 @@
 pub mod Status
 -- bytes, cut into lines
 pub mod Lines
--- the reply to a line that is no command's text
-pub mod Replies
+-- lines that are answered together
+pub mod Batches
 -- what each line is answered
 pub mod Answers
 -- bytes that are given, whole or in part

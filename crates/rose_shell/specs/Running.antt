@@ -17,6 +17,7 @@ use Rattle.realm_store.specs.Keeping.{Kept, SpendableKept, RestsAt, AllRest}
 use Rattle.realm_store.specs.Starting.{KnowsGate}
 use Rattle.realm_store.specs.Damages.{IsDamaged}
 use Rattle.realm_store.specs.declared.damage.Damage.{Damage}
+use Rattle.query_batch.specs.Answers.{TellsLine}
 use Rattle.rose_shell.specs.Answers.{StoreAnswers}
 use Rattle.rose_shell.specs.Desk.{Terms}
 use Rattle.rose_shell.specs.Session.{Turn, end_of, Served}
@@ -33,6 +34,7 @@ IsChangeLine line = (c : Change) × Says line (commands.Change c)
 abbrev pub StoreTerms : Terms SpendableKept
 StoreTerms = record {
   answers = StoreAnswers;
+  tells = λ s line reply. TellsLine s.kept.state line reply;
   writes = λ s line. IsChangeLine line;
   stands = λ s files. s.kept.has_gate ≡ true → StandsFor (files A) s.kept.state;
   rests = λ s files. RestsAt s.kept (files A);

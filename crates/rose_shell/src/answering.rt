@@ -8,15 +8,17 @@ ghost use Rattle.line_grammar.specs.Spelling.{text_of, change_text};
 ghost use Rattle.line_grammar.specs.Spellable.{IsSpellable, IsSpellableChange};
 ghost use Rattle.realm_store.specs.Keeping.{AllRest};
 ghost use Rattle.rose_shell.specs.Lines.{longest_line};
+ghost use Rattle.rose_shell.specs.Batches.{OpensNone};
 ghost use Rattle.rose_shell.specs.Answers.{StoreAnswers, Unspent, AnswersCommand, AnswersChange};
 ghost use Rattle.rose_shell.specs.Desk.{Answered};
 ghost use Rattle.rose_shell.specs.Running.{StoreTerms};
 
 use crate::desk::{Desk, Stop};
-use crate::refusals::refuse_text;
 use grid_base::{NoMemory, Reply};
 use line_grammar::{Change, Command, LineError, read_line};
 use outside_world::Outside;
+use query_batch::refuse_text;
+use realm_insert::{Engine, Refusal};
 use realm_store::{CommitError, Store};
 use rose_query::{answer, refuse, refuse_unbuilt};
 use std::alloc::Global;
@@ -36,6 +38,10 @@ impl<W: Outside> Desk<W> for Store {
     ) -> Result<Reply, Stop> {
         answer_line(rt, alloc, self, world, line)
     }
+
+    fn engine(&self) -> &Engine {
+        self.state()
+    }
 }
 
 // Answers a line.
@@ -48,6 +54,7 @@ fn answer_line<R: Threads + Sync, W: Outside>(
 ) -> Result<Reply, Stop>
     requires ready { store.old.spent ≡ false }
     requires short { length line.now ≤ longest_line }
+    requires opens_none { OpensNone line.now }
     requires rest { W.tells world.old → AllRest store.old.kept (W.view world.old) }
     ensures answer { IfOk result (λ reply. StoreAnswers store.old line.now reply store.new) }
     ensures disk_fault { IsErrOf result Stop.Disk
@@ -74,6 +81,7 @@ fn execute<R: Threads + Sync, W: Outside>(
     requires ready { store.old.spent ≡ false }
     requires spellable { IsSpellable command.now }
     requires short { length (text_of command.now) ≤ longest_line }
+    requires opens_none { OpensNone (text_of command.now) }
     requires rest { W.tells world.old → AllRest store.old.kept (W.view world.old) }
     ensures answer { IfOk result (λ reply. Unspent (AnswersCommand command.now) store.old reply store.new) }
     ensures disk_fault { IsErrOf result Stop.Disk
@@ -85,7 +93,8 @@ fn execute<R: Threads + Sync, W: Outside>(
     match command {
         Command::Change(change) => answer_change(rt, alloc, store, world, change),
         Command::Query(query) => or_stop(answer(rt, alloc, store.state(), query)),
-        Command::Batch(_) | Command::Checkpoint => or_stop(refuse_unbuilt(alloc)),
+        Command::Batch(_) => or_stop(refuse(alloc, Refusal::Range)),
+        Command::Checkpoint => or_stop(refuse_unbuilt(alloc)),
     }
 }
 

@@ -1,13 +1,16 @@
 //! What answers a line.
-ghost use Rattle.std.specs.Prelude.{◌≡◌, ◌≤◌, length, IfOk, OnOk, IsErrOf};
+ghost use Rattle.std.specs.Prelude.{◌≡◌, ◌≤◌, ℕ, List, Option, false, length, IfOk, OnOk, IsErrOf};
 ghost use Rattle.std.specs.Thread.{IsSync};
 ghost use Rattle.outside_world.specs.Counts.{Rose};
 ghost use Rattle.outside_world.specs.GoesOn.{GoesOn};
+ghost use Rattle.query_batch.specs.Answers.{TellsLine};
 ghost use Rattle.rose_shell.specs.Lines.{longest_line};
+ghost use Rattle.rose_shell.specs.Batches.{OpensNone};
 ghost use Rattle.rose_shell.specs.Desk.{Terms, AllRest, Answered};
 
 use grid_base::Reply;
 use outside_world::Outside;
+use realm_insert::Engine;
 use std::alloc::Global;
 use std::thread::Threads;
 
@@ -28,7 +31,7 @@ pub trait Desk<W: Outside> {
     /// What it answers, and what the files are to it.
     ghost terms: { Terms Self };
 
-    /// Answers a line, which comes without its line feed. The reply isn't given yet.
+    /// Answers a line, which comes without its line feed and begins no batch. The reply isn't given yet.
     fn answer<R: Threads + Sync>(
         &mut self,
         rt: &R,
@@ -39,6 +42,7 @@ pub trait Desk<W: Outside> {
         requires shared { IsSync R.row }
         requires ready { ready self.old }
         requires short { length line.now ≤ longest_line }
+        requires opens_none { OpensNone line.now }
         requires rest { W.tells world.old → AllRest terms (W.view world.old) self.old }
         ensures answer { IfOk result (λ reply. terms.answers self.old line.now reply self.new) }
         ensures ready { OnOk result (ready self.new) }
@@ -47,4 +51,11 @@ pub trait Desk<W: Outside> {
         ensures goes_on { GoesOn ⟦<W as Outside>⟧ world.old world.new }
         ensures told { W.tells world.new
             → Answered terms (W.view world.old) (W.view world.new) self.old self.new line.now result };
+
+    /// The state about which it answers the lines of a batch.
+    fn engine(&self) -> &Engine
+        requires ready { ready self.now }
+        ensures ready { result.now.spent ≡ false }
+        ensures tells { (line : Option (List ℕ)) (reply : List ℕ) → TellsLine result.now.state line reply
+            → terms.tells self.now line reply };
 }

@@ -1,4 +1,4 @@
-//! Answers the lines that end in the bytes that were read.
+//! Hears the lines that end in the bytes that were read.
 //! Of a line no more than one byte beyond the longest is kept. This much tells whether the line is too
 //! long, and where it isn't, this is the line.
 ghost use Rattle.std.specs.Prelude.{◌≡◌, ◌≢◌, ◌<◌, ℕ, List, [], ◌∷◌, ◌++◌, All, length, take};
@@ -7,13 +7,15 @@ ghost use Rattle.outside_world.specs.Counts.{Rose};
 ghost use Rattle.outside_world.specs.GoesOn.{GoesOn};
 ghost use Rattle.rose_shell.specs.Lines.{lines_from, part_from, IsKept};
 ghost use Rattle.rose_shell.specs.Desk.{AllRest};
-ghost use Rattle.rose_shell.specs.Loop.{Went, Stopped, halt_at};
+ghost use Rattle.rose_shell.specs.Loop.{IsWaiting, Went, Stopped};
 
-use crate::desk::{Desk, Stop};
-use crate::giving::give_all;
-use crate::{LONG_LINE_REFUSAL, LONGEST_LINE};
+use crate::LONGEST_LINE;
+use crate::desk::Desk;
+use crate::hearing::hear_line;
+use crate::waiting::Waiting;
 use grid_base::NoMemory;
-use outside_world::{Failed, Outside};
+use outside_world::Outside;
+use query_batch::Gate;
 use std::alloc::Global;
 use std::thread::Threads;
 
@@ -28,12 +30,14 @@ pub(crate) enum Halt {
     NoMemory,
 }
 
-/// Reads a chunk of the input, and answers each line that ends in it.
-pub(crate) fn feed<R: Threads + Sync, W: Outside, D: Desk<W>>(
+/// Reads a chunk of the input, and hears each line that ends in it.
+pub(crate) fn feed<R: Threads + Sync, G: Gate, W: Outside, D: Desk<W>>(
     rt: &R,
     alloc: Global,
+    gate: &G,
     desk: &mut D,
     world: &mut W,
+    waiting: &mut Waiting,
     kept: &mut Vec<u8>,
     chunk: &[u8],
 ) -> Result<(), Halt>
@@ -41,13 +45,14 @@ pub(crate) fn feed<R: Threads + Sync, W: Outside, D: Desk<W>>(
     requires rest { W.tells world.old → AllRest D.terms (W.view world.old) desk.old }
     ensures kept { OnOk result ((part : List ℕ) → IsKept kept.old.items part
         → IsKept kept.new.items (part_from part chunk.now)) }
-    ensures went { OnOk result ((part : List ℕ) → IsKept kept.old.items part → W.tells world.new
-        → Went D.terms (W.view world.old) (W.view world.new) desk.old desk.new
-        (lines_from part chunk.now)) }
-    ensures stopped { IfErr result (λ halt. (part : List ℕ) → IsKept kept.old.items part
-        → W.tells world.new
-        → Stopped D.terms (W.view world.old) (W.view world.new) desk.old desk.new
-        (lines_from part chunk.now) halt) }
+    ensures went { OnOk result ((part : List ℕ) (held : List (List ℕ)) → IsKept kept.old.items part
+        → IsWaiting waiting.old held → W.tells world.new
+        → Went D.terms ⊥ (W.view world.old) (W.view world.new) desk.old desk.new
+        (held ++ lines_from part chunk.now) waiting.new) }
+    ensures stopped { IfErr result (λ halt. (part : List ℕ) (held : List (List ℕ))
+        → IsKept kept.old.items part → IsWaiting waiting.old held → W.tells world.new
+        → Stopped D.terms ⊥ (W.view world.old) (W.view world.new) desk.old desk.new
+        (held ++ lines_from part chunk.now) halt) }
     ensures sink_fault { IsErrOf result Halt.Sink
         → Rose (W.sink_faults world.old) (W.sink_faults world.new) }
     ensures disk_fault { IsErrOf result Halt.Disk
@@ -58,7 +63,7 @@ pub(crate) fn feed<R: Threads + Sync, W: Outside, D: Desk<W>>(
 {
     let mut rest = chunk;
     while let Some(end) = line_end(rest) {
-        match end_line(rt, alloc, desk, world, kept, &rest[..end]) {
+        match end_line(rt, alloc, gate, desk, world, waiting, kept, &rest[..end]) {
             Ok(()) => {}
             Err(halt) => return Err(halt),
         }
@@ -79,25 +84,28 @@ fn line_end(bytes: &[u8]) -> Option<usize>
     bytes.iter().position(|b| *b == b'\n')
 }
 
-/// Answers the line that these bytes end.
-fn end_line<R: Threads + Sync, W: Outside, D: Desk<W>>(
+/// Hears the line that these bytes end.
+fn end_line<R: Threads + Sync, G: Gate, W: Outside, D: Desk<W>>(
     rt: &R,
     alloc: Global,
+    gate: &G,
     desk: &mut D,
     world: &mut W,
+    waiting: &mut Waiting,
     kept: &mut Vec<u8>,
     bytes: &[u8],
 ) -> Result<(), Halt>
     requires ready { D.ready desk.old }
     requires rest { W.tells world.old → AllRest D.terms (W.view world.old) desk.old }
     ensures kept { OnOk result (kept.new.items ≡ []) }
-    ensures went { OnOk result ((part : List ℕ) → IsKept kept.old.items part → W.tells world.new
-        → Went D.terms (W.view world.old) (W.view world.new) desk.old desk.new
-        ((part ++ bytes.now) ∷ [])) }
-    ensures stopped { IfErr result (λ halt. (part : List ℕ) → IsKept kept.old.items part
-        → W.tells world.new
-        → Stopped D.terms (W.view world.old) (W.view world.new) desk.old desk.new
-        ((part ++ bytes.now) ∷ []) halt) }
+    ensures went { OnOk result ((part : List ℕ) (held : List (List ℕ)) → IsKept kept.old.items part
+        → IsWaiting waiting.old held → W.tells world.new
+        → Went D.terms ⊥ (W.view world.old) (W.view world.new) desk.old desk.new
+        (held ++ (part ++ bytes.now) ∷ []) waiting.new) }
+    ensures stopped { IfErr result (λ halt. (part : List ℕ) (held : List (List ℕ))
+        → IsKept kept.old.items part → IsWaiting waiting.old held → W.tells world.new
+        → Stopped D.terms ⊥ (W.view world.old) (W.view world.new) desk.old desk.new
+        (held ++ (part ++ bytes.now) ∷ []) halt) }
     ensures sink_fault { IsErrOf result Halt.Sink
         → Rose (W.sink_faults world.old) (W.sink_faults world.new) }
     ensures disk_fault { IsErrOf result Halt.Disk
@@ -110,7 +118,7 @@ fn end_line<R: Threads + Sync, W: Outside, D: Desk<W>>(
         Ok(()) => {}
         Err(NoMemory) => return Err(Halt::NoMemory),
     }
-    match answer_kept(rt, alloc, desk, world, kept) {
+    match hear_line(rt, alloc, gate, desk, world, waiting, kept) {
         Ok(()) => {}
         Err(halt) => return Err(halt),
     }
@@ -126,55 +134,4 @@ fn keep(kept: &mut Vec<u8>, bytes: &[u8]) -> Result<(), NoMemory>
     let room = (LONGEST_LINE + 1).saturating_sub(kept.len());
     kept.extend_from_slice(&bytes[..room.min(bytes.len())])?;
     Ok(())
-}
-
-/// Answers the line of which this was kept: refuses it unread where it is too long.
-pub(crate) fn answer_kept<R: Threads + Sync, W: Outside, D: Desk<W>>(
-    rt: &R,
-    alloc: Global,
-    desk: &mut D,
-    world: &mut W,
-    kept: &[u8],
-) -> Result<(), Halt>
-    requires ready { D.ready desk.old }
-    requires rest { W.tells world.old → AllRest D.terms (W.view world.old) desk.old }
-    ensures went { OnOk result ((line : List ℕ) → IsKept kept.now line → W.tells world.new
-        → Went D.terms (W.view world.old) (W.view world.new) desk.old desk.new
-        (line ∷ [])) }
-    ensures stopped { IfErr result (λ halt. (line : List ℕ) → IsKept kept.now line → W.tells world.new
-        → Stopped D.terms (W.view world.old) (W.view world.new) desk.old desk.new
-        (line ∷ []) halt) }
-    ensures sink_fault { IsErrOf result Halt.Sink
-        → Rose (W.sink_faults world.old) (W.sink_faults world.new) }
-    ensures disk_fault { IsErrOf result Halt.Disk
-        → Rose (W.disk_faults world.old) (W.disk_faults world.new) }
-    ensures ready { result ≢ Err Halt.NoMemory → result ≢ Err Halt.Disk → D.ready desk.new }
-    ensures rest { OnOk result (W.tells world.new → AllRest D.terms (W.view world.new) desk.new) }
-    ensures goes_on { GoesOn ⟦<W as Outside>⟧ world.old world.new }
-{
-    if kept.len() > LONGEST_LINE {
-        return match give_all(world, &LONG_LINE_REFUSAL) {
-            Ok(()) => Ok(()),
-            Err(Failed) => Err(Halt::Sink),
-        };
-    }
-    match desk.answer(rt, alloc, world, kept) {
-        Err(stop) => Err(halt_of(stop)),
-        Ok(reply) => match give_all(world, reply.bytes()) {
-            Ok(()) => Ok(()),
-            Err(Failed) => Err(Halt::Sink),
-        },
-    }
-}
-
-/// Where a desk that stops halts the lines.
-fn halt_of(stop: Stop) -> Halt
-    ensures halt { result ≡ halt_at stop }
-    ensures disk { result ≡ Halt.Disk → stop ≡ Stop.Disk }
-    ensures never_sink { result ≢ Halt.Sink }
-{
-    match stop {
-        Stop::Disk => Halt::Disk,
-        Stop::NoMemory => Halt::NoMemory,
-    }
 }

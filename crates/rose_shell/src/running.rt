@@ -18,6 +18,7 @@ use crate::status::{Status, status_unstarted};
 use crate::telling::{tell_map, tell_store};
 use command_words::{Word, one_command, read_words};
 use outside_world::Outside;
+use query_batch::{Gate, Open};
 use realm_store::Store;
 use std::alloc::Global;
 use std::thread::Threads;
@@ -162,8 +163,45 @@ pub fn serve<R: Threads + Sync, W: Outside>(
         → AllRest store.new.kept (W.view world.new) }
     ensures goes_on { GoesOn ⟦<W as Outside>⟧ world.old world.new }
 {
+    serve_gated(rt, alloc, store, world, budget, &Open)
+}
+
+/// The same, with a gate round the jobs of each batch.
+pub fn serve_gated<R: Threads + Sync, W: Outside, G: Gate>(
+    rt: &R,
+    alloc: Global,
+    store: &mut Store,
+    world: &mut W,
+    budget: u64,
+    gate: &G,
+) -> Status
+    requires ready { store.old.spent ≡ false }
+    requires rest { W.tells world.old → AllRest store.old.kept (W.view world.old) }
+    ensures never_usage { result ≢ Status.Usage }
+    ensures never_damaged { (d : Damage) → result ≢ Status.Damaged d }
+    ensures source_fault { result ≡ Status.SourceFault
+        → Rose (W.source_faults world.old) (W.source_faults world.new) }
+    ensures sink_fault { result ≡ Status.SinkFault
+        → Rose (W.sink_faults world.old) (W.sink_faults world.new) }
+    ensures disk_fault { result ≡ Status.DiskFault
+        → Rose (W.disk_faults world.old) (W.disk_faults world.new) }
+    ensures told { W.tells world.new
+        → HasServed (W.view world.old) (W.view world.new) store.old store.new budget result }
+    // Where no call fails and the input ends within the budget, nothing but memory can be wanting.
+    ensures complete { W.tells world.new
+        → ¬ (Rose (W.source_faults world.old) (W.source_faults world.new))
+        → ¬ (Rose (W.sink_faults world.old) (W.sink_faults world.new))
+        → ¬ (Rose (W.disk_faults world.old) (W.disk_faults world.new))
+        → length (W.view world.old).left ≤ budget
+        → (result ≡ Status.Done) ⊎ (result ≡ Status.NoMemory) }
+    // But for want of memory and a disk fault it can go on.
+    ensures ready { result ≢ Status.NoMemory → result ≢ Status.DiskFault → store.new.spent ≡ false }
+    ensures rest { result ≢ Status.NoMemory → result ≢ Status.DiskFault → W.tells world.new
+        → AllRest store.new.kept (W.view world.new) }
+    ensures goes_on { GoesOn ⟦<W as Outside>⟧ world.old world.new }
+{
     // The session begins with a realm.
     let _drawing = store.state().drawing();
     let mut chunk = [0u8; 65_536];
-    serve_by_chunks(rt, alloc, store, world, budget, &mut chunk)
+    serve_by_chunks(rt, alloc, gate, store, world, budget, &mut chunk)
 }

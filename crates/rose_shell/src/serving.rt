@@ -9,18 +9,23 @@ ghost use Rattle.rose_shell.specs.Session.{Served};
 ghost use Rattle.rose_shell.specs.Loop.{status_at};
 
 use crate::desk::Desk;
-use crate::feeding::{Halt, answer_kept, feed};
+use crate::feeding::{Halt, feed};
+use crate::hearing::answer_end;
 use crate::status::Status;
+use crate::waiting::Waiting;
 use outside_world::{Failed, Outside};
+use query_batch::Gate;
 use std::alloc::Global;
 use std::thread::Threads;
 
 /// Reads lines to the end of the input, and answers each, with this room for the bytes of one take. What stands
-/// after the last line feed is a line too, where it isn't empty. The run ends at the first fault, at want of
-/// memory, and at the first take that gives more after `budget` bytes were taken.
-pub(crate) fn serve_by_chunks<R: Threads + Sync, W: Outside, D: Desk<W>>(
+/// after the last line feed is a line too, where it isn't empty. The lines of a batch are answered once all have come,
+/// or the input has ended. The run ends at the first fault, at want of memory, and at the first take that gives more
+/// after `budget` bytes were taken.
+pub(crate) fn serve_by_chunks<R: Threads + Sync, G: Gate, W: Outside, D: Desk<W>>(
     rt: &R,
     alloc: Global,
+    gate: &G,
     desk: &mut D,
     world: &mut W,
     budget: u64,
@@ -43,6 +48,7 @@ pub(crate) fn serve_by_chunks<R: Threads + Sync, W: Outside, D: Desk<W>>(
     ensures goes_on { GoesOn ⟦<W as Outside>⟧ world.old world.new }
 {
     let mut kept = Vec::new(alloc);
+    let mut waiting = Waiting::new(alloc);
     let mut room = budget;
     loop {
         let n = match next_bytes(world, chunk, room) {
@@ -50,10 +56,7 @@ pub(crate) fn serve_by_chunks<R: Threads + Sync, W: Outside, D: Desk<W>>(
             Err(Failed) => return Status::SourceFault,
         };
         if n == 0 {
-            if kept.is_empty() {
-                return Status::Done;
-            }
-            match answer_kept(rt, alloc, desk, world, &kept) {
+            match answer_end(rt, alloc, gate, desk, world, &mut waiting, &kept) {
                 Ok(()) => return Status::Done,
                 Err(halt) => return status_of(halt),
             }
@@ -62,7 +65,16 @@ pub(crate) fn serve_by_chunks<R: Threads + Sync, W: Outside, D: Desk<W>>(
             return Status::InputLimit;
         }
         room -= n as u64;
-        match feed(rt, alloc, desk, world, &mut kept, &chunk[..n]) {
+        match feed(
+            rt,
+            alloc,
+            gate,
+            desk,
+            world,
+            &mut waiting,
+            &mut kept,
+            &chunk[..n],
+        ) {
             Ok(()) => {}
             Err(halt) => return status_of(halt),
         }

@@ -9,6 +9,8 @@ mod ends;
 #[cfg(test)]
 mod files;
 #[cfg(test)]
+mod gates;
+#[cfg(test)]
 mod running;
 #[cfg(test)]
 mod sessions;

@@ -290,15 +290,36 @@ static REFUSED: [(&str, &str); 4] = [
         "no range\nno line 25\n",
     ),
     // Whatever else is wrong with these lines.
-    (
-        "faces a\nbatch 0\ncheckpoint\n",
-        "no not-built\nno not-built\nno not-built\n",
-    ),
+    ("faces a\ncheckpoint\n", "no not-built\nno not-built\n"),
 ];
 
 #[test]
 fn other_lines_are_refused(rt: HostRuntime) {
     compare(&rt, rt.alloc(), &REFUSED);
+}
+
+static BATCHES: [(&str, &str); 4] = [
+    // A change isn't made in a batch, and the line behind the batch is answered alone.
+    (
+        "segment 0 0 4 0\nbatch 3\nrealm\nsegment 1 1 2 2\nchain 1\nrealm\n",
+        "ok 1 steps 0 first 1 new 1\nrealm 2 1\n0 0\n4 0\n0 0 4 0\nno batch-change\n\
+         chain 2\n0 0\n4 0\nrealm 2 1\n0 0\n4 0\n0 0 4 0\n",
+    ),
+    (
+        "batch 0\nbatch 65\nrealm\n",
+        "no range\nno range\nrealm 0 0\n",
+    ),
+    // The input ends within a batch, once behind a line without a line feed.
+    (
+        "batch 64\nrealm\nbatch 2\nchain 1",
+        "realm 0 0\nno batch-change\nno no-id\n",
+    ),
+    ("batch 2\n\nrealmx\nbatch 1\n", "no line 0\nno line 5\n"),
+];
+
+#[test]
+fn the_lines_of_a_batch_are_answered_in_order(rt: HostRuntime) {
+    compare(&rt, rt.alloc(), &BATCHES);
 }
 
 // Seventeen changes, and the traces of the first two.

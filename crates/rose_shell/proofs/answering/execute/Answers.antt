@@ -2,6 +2,8 @@ use Rattle.std.proofs.Common.{subst, sym}
 use Rattle.std.proofs.lemmas.Result.{IfOk-weaker}
 use Rattle.line_grammar.specs.declared.command.Command.{Command}
 use Rattle.rose_shell.specs.Answers.{AnswersCommand}
+use Rattle.rose_shell.proofs.ChangeAnswers.{still_ok}
+use Rattle.rose_shell.proofs.RefusedBatches.{out_of_range, refused_batch}
 use Rattle.rose_shell.proofs.answering.execute.Goals as goal
 
 -- what a change is answered, its command is
@@ -15,3 +17,12 @@ returns-in-Change-clause-answer g c =
           (sym c.in-Change.is) is.outcome;
     })
     c.answer_change.ensures.answer
+
+-- a batch that is read is out of range
+pub returns-in-Batch-clause-answer : goal.returns-in-Batch-clause-answer
+returns-in-Batch-clause-answer g c =
+    let out = out_of_range c.args.command.now _ c.in-Batch.is c.requires.spellable c.requires.short
+    c.requires.opens_none in
+    still_ok _ c.refuse.result c.or_stop-in-Batch.result _ _
+    (λ reply said. refused_batch c.args.command.now _ c.in-Batch.is c.requires.ready out reply said)
+    c.or_stop-in-Batch.ensures.same c.refuse.ensures

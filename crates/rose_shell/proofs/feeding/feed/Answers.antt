@@ -4,8 +4,7 @@ use Rattle.outside_world.proofs.GoingOn.{goes_on_none, goes_on_then}
 use Rattle.rose_shell.specs.Lines.{longest_line, part_from}
 use Rattle.rose_shell.proofs.Cuts.{part_from-line}
 use Rattle.rose_shell.proofs.Keeps.{kept_none}
-use Rattle.rose_shell.proofs.Runs.{went_none}
-use Rattle.rose_shell.proofs.Chunks.{cut_at_feed, part_at_end, went_line, stopped_line, went_end, stopped_end}
+use Rattle.rose_shell.proofs.Chunks.{cut_at_feed, part_at_end, nothing_heard, went_line, stopped_line, went_end, stopped_end}
 use Rattle.rose_shell.proofs.feeding.feed.Goals as goal
 
 -- nothing of the chunk is done
@@ -17,7 +16,7 @@ loop-end-init g c = record {
   ready = c.requires.ready;
   rest = c.requires.rest;
   kept = λ part is. is;
-  went = λ part is t. went_none (c.requires.rest t);
+  went = λ part held is waits t. nothing_heard held part (c.requires.rest t) waits;
 }
 
 -- one line more is done, its line feed with it
@@ -36,21 +35,23 @@ loop-end-preserved g c =
       ready = ens.ready (λ is. cc) (λ is. cc);
       rest = ens.rest;
       kept = λ part is. kept_none (longest_line + 1) (part_from-line part inv.done (take n rest)) ens.kept;
-      went = λ part is t.
-          went_line part inv.done (take n rest) at.2 (inv.went part is (ens.goes_on.tells t))
-          (ens.went (part_from part inv.done) (inv.kept part is) t);
+      went = λ part held is waits t.
+          let first = inv.went part held is waits (ens.goes_on.tells t) in
+          went_line held part inv.done (take n rest) at.2 first
+          (ens.went (part_from part inv.done) first.held (inv.kept part is) first.waits t);
     }
 
--- the lines before were answered whole
+-- the lines before were heard
 pub returns-in-Err-clause-stopped : goal.returns-in-Err-clause-stopped
-returns-in-Err-clause-stopped g c = λ part is t.
+returns-in-Err-clause-stopped g c = λ part held is waits t.
     let inv = c.loop-end.invariant in
     let ens = c.in-Err.ensures in
     let at = c.in-Some.ensures in
     let rest = c.loop-end.rest.now in
     let n = c.in-Some.end in
-    stopped_line part inv.done (take n rest) (drop (n + 1) rest) at.2 (cut_at_feed inv.done rest n inv.split at.0 at.1 refl)
-    (inv.went part is (ens.goes_on.tells t)) (ens.stopped (part_from part inv.done) (inv.kept part is) t)
+    let first = inv.went part held is waits (ens.goes_on.tells t) in
+    stopped_line held part inv.done (take n rest) (drop (n + 1) rest) at.2 (cut_at_feed inv.done rest n inv.split at.0 at.1 refl)
+    first (ens.stopped (part_from part inv.done) first.held (inv.kept part is) first.waits t)
 
 -- what is left of the chunk ends no line, and is kept
 pub returns-in-Ok-keep-clause-kept : goal.returns-in-Ok-keep-clause-kept
@@ -62,12 +63,12 @@ returns-in-Ok-keep-clause-kept g c = λ part is.
 
 -- so the lines that are done are all
 pub returns-in-Ok-keep-clause-went : goal.returns-in-Ok-keep-clause-went
-returns-in-Ok-keep-clause-went g c = λ part is t.
+returns-in-Ok-keep-clause-went g c = λ part held is waits t.
     let inv = c.loop-end.invariant in
-    went_end part inv.done c.loop-end.rest.now inv.split c.in_default.ensures (inv.went part is t)
+    went_end held part inv.done c.loop-end.rest.now inv.split c.in_default.ensures (inv.went part held is waits t)
 
 -- or memory runs out
 pub returns-in-Err-keep-clause-stopped : goal.returns-in-Err-keep-clause-stopped
-returns-in-Err-keep-clause-stopped g c = λ part is t.
+returns-in-Err-keep-clause-stopped g c = λ part held is waits t.
     let inv = c.loop-end.invariant in
-    stopped_end part inv.done c.loop-end.rest.now inv.split c.in_default.ensures (inv.went part is t)
+    stopped_end held part inv.done c.loop-end.rest.now inv.split c.in_default.ensures (inv.went part held is waits t)

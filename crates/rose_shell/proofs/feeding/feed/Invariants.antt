@@ -2,7 +2,7 @@ use Rattle.std.proofs.Common.{◌≡◌, ℕ, List, ◌++◌, length}
 use Rattle.outside_world.specs.GoesOn.{GoesOn}
 use Rattle.rose_shell.specs.Lines.{lines_from, part_from, IsKept}
 use Rattle.rose_shell.specs.Desk.{AllRest}
-use Rattle.rose_shell.specs.Loop.{Went}
+use Rattle.rose_shell.specs.Loop.{IsWaiting, Went}
 use Rattle.rose_shell.proofs.feeding.feed.Given as goal
 
 abbrev pub invariant-loop-end : goal.invariant-loop-end
@@ -13,9 +13,10 @@ invariant-loop-end g l = record {
   ready : g.D.Desk.ready l.desk;
   rest : g.W.Outside.tells l.world → AllRest g.D.Desk.terms (g.W.Outside.view l.world) l.desk;
   kept : (part : List ℕ) → IsKept l.fn.kept.items part → IsKept l.kept.items (part_from part done);
-  went : (part : List ℕ) → IsKept l.fn.kept.items part → g.W.Outside.tells l.world
-      → Went g.D.Desk.terms (g.W.Outside.view l.fn.world) (g.W.Outside.view l.world)
-      l.fn.desk l.desk (lines_from part done);
+  went : (part : List ℕ) (held : List (List ℕ)) → IsKept l.fn.kept.items part → IsWaiting l.fn.waiting held
+      → g.W.Outside.tells l.world
+      → Went g.D.Desk.terms ⊥ (g.W.Outside.view l.fn.world) (g.W.Outside.view l.world)
+      l.fn.desk l.desk (held ++ lines_from part done) l.waiting;
 }
 
 abbrev pub decreases-loop-end : goal.decreases-loop-end

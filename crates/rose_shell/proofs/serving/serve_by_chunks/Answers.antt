@@ -1,9 +1,7 @@
-use Rattle.std.proofs.Common.{◌≡◌, ◌<◌, length, arith, rules, ◌∙◌}
-use Rattle.std.proofs.lemmas.Bool.Decides.{nat_tests}
+use Rattle.std.proofs.Common.{◌∙◌, arith}
 use Rattle.outside_world.proofs.GoingOn.{goes_on_none, goes_on_then}
 use Rattle.rose_shell.proofs.Takes.{keeping_none, keeping_more}
-use Rattle.rose_shell.proofs.Exits.{served_source, served_limit, served_halt, served_whole, served_all, served_last}
-use Rattle.rose_shell.proofs.Treatments.{went_last, stopped_last}
+use Rattle.rose_shell.proofs.Exits.{served_source, served_limit, served_halt, served_all, served_last}
 use Rattle.rose_shell.proofs.serving.serve_by_chunks.Goals as goal
 
 -- nothing was taken, and all of the budget is left
@@ -11,7 +9,9 @@ pub loop-n-init : goal.loop-n-init
 loop-n-init g c = record {
   goes_on = goes_on_none;
   ready = c.requires.ready;
-  keeping = λ t. keeping_none c.args.budget c.new-kept.ensures.items (c.requires.rest t);
+  keeping = λ t.
+      keeping_none c.args.budget (c.new-waiting.ensures.missing, c.new-waiting.ensures.lines) c.new-kept.ensures.items
+      (c.requires.rest t);
 }
 
 -- the lines that end in the bytes of this take are answered
@@ -26,7 +26,7 @@ loop-n-preserved g c =
       keeping = λ t.
           let then = ens.goes_on.tells t in
           keeping_more (inv.keeping (took.goes_on.tells then)) (took.told then) took.within (omega (arith, took.room))
-          (λ part is. ens.went part is t) (λ part is. ens.kept part is);
+          (λ part held is waits. ens.went part held is waits t) (λ part is. ens.kept part is);
     }
 
 -- the source has failed when all whole lines were answered
@@ -40,33 +40,24 @@ returns-then-room-eq0-clause-told g c = λ t.
     let took = c.in-Ok.ensures in
     served_limit (c.loop-n.invariant.keeping (took.goes_on.tells t)) (took.told t) c.if-room-eq0.true (omega arith) took.within
 
--- the input has ended, and nothing had come of a line
-pub returns-then-is_empty-clause-told : goal.returns-then-is_empty-clause-told
-returns-then-is_empty-clause-told g c = λ t.
+-- the input has ended, and what had come of a line and of a batch is answered
+pub returns-in-Ok-answer_end-clause-told : goal.returns-in-Ok-answer_end-clause-told
+returns-in-Ok-answer_end-clause-told g c = λ t.
     let took = c.in-Ok.ensures in
-    let empty : length c.loop-n.kept.items ≡ 0 = search rules in
-    served_whole (c.loop-n.invariant.keeping (took.goes_on.tells t)) (took.told t) c.if-n-eq0.true (omega arith) empty
-
--- or something had, and it is answered
-pub returns-in-Ok-answer_kept-clause-told : goal.returns-in-Ok-answer_kept-clause-told
-returns-in-Ok-answer_kept-clause-told g c = λ t.
-    let took = c.in-Ok.ensures in
-    let ens = c.in-Ok-answer_kept.ensures in
+    let ens = c.in-Ok-answer_end.ensures in
     let then = ens.goes_on.tells t in
-    let some : 0 < length c.loop-n.kept.items = grind (arith, nat_tests, c.is_empty.ensures, c.if-is_empty.false) in
     served_all (c.loop-n.invariant.keeping (took.goes_on.tells then)) (took.told then) c.if-n-eq0.true (omega arith)
-    (λ line is. went_last line some is (ens.went line (c.deref.ensures.value ∙ is) t))
+    (λ line held is waits. ens.went line held (c.deref.ensures.value ∙ is) waits t) ens.none_waits
 
 -- or halts the run
-pub returns-in-Err-answer_kept-clause-told : goal.returns-in-Err-answer_kept-clause-told
-returns-in-Err-answer_kept-clause-told g c = λ t.
+pub returns-in-Err-answer_end-clause-told : goal.returns-in-Err-answer_end-clause-told
+returns-in-Err-answer_end-clause-told g c = λ t.
     let took = c.in-Ok.ensures in
-    let ens = c.in-Err-answer_kept.ensures in
+    let ens = c.in-Err-answer_end.ensures in
     let then = ens.goes_on.tells t in
-    let some : 0 < length c.loop-n.kept.items = grind (arith, nat_tests, c.is_empty.ensures, c.if-is_empty.false) in
     served_last c.status_of.ensures.status (c.loop-n.invariant.keeping (took.goes_on.tells then)) (took.told then)
     c.if-n-eq0.true (omega arith)
-    (λ line is. stopped_last line some is (ens.stopped line (c.deref.ensures.value ∙ is) t))
+    (λ line held is waits. ens.stopped line held (c.deref.ensures.value ∙ is) waits t)
 
 -- a line among those of this take halts the run
 pub returns-in-Err-feed-clause-told : goal.returns-in-Err-feed-clause-told
@@ -75,4 +66,4 @@ returns-in-Err-feed-clause-told g c = λ t.
     let ens = c.in-Err-feed.ensures in
     let then = ens.goes_on.tells t in
     served_halt c.status_of-in-Err-feed.ensures.status (c.loop-n.invariant.keeping (took.goes_on.tells then)) (took.told then)
-    took.within (omega (arith, took.room)) (λ part is. ens.stopped part is t)
+    took.within (omega (arith, took.room)) (λ part held is waits. ens.stopped part held is waits t)

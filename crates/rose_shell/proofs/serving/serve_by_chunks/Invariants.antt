@@ -7,7 +7,7 @@ invariant-loop-n g l = record {
   goes_on : GoesOn g.W.Outside l.fn.world l.world;
   ready : g.D.Desk.ready l.desk;
   keeping : g.W.Outside.tells l.world → Keeping g.D.Desk.terms (g.W.Outside.view l.fn.world) (g.W.Outside.view l.world)
-      l.fn.desk l.desk l.kept.items l.room l.budget;
+      l.fn.desk l.desk l.waiting l.kept.items l.room l.budget;
 }
 
 abbrev pub decreases-loop-n : goal.decreases-loop-n

@@ -1,0 +1,57 @@
+#!/usr/bin/env python3
+"""How long one batch of 64 heavy queries takes, against the same queries one by one.
+
+    bench/batches.py crates/rose/out/rose [segments]
+
+A map of so many segments (5,000 where none are told) is drawn once, in a folder that is thrown away. Then the same 64 queries are
+asked of it, first as 64 lines and then behind the line `batch 64`. Both must give the same bytes. What is told is the time of
+each run less that of a run without a query, since every run reads the map from its file first.
+"""
+import os
+import subprocess
+import sys
+import tempfile
+import time
+
+QUERIES = 64
+
+
+def draws(start):
+    state = start
+    while True:
+        state = (state * 6364136223846793005 + 1442695040888963407) % 2**64
+        yield state // 2**33
+
+
+def segments(count):
+    numbers = draws(7)
+    for _ in range(count):
+        x, y = next(numbers) % 4096, next(numbers) % 4096
+        u, v = x + 1 + next(numbers) % 256, y + next(numbers) % 256
+        yield f"segment {x} {y} {u} {v}\n"
+
+
+def run(program, folder, lines):
+    began = time.monotonic()
+    done = subprocess.run([program, "run"], cwd=folder, input=lines.encode(), stdout=subprocess.PIPE, check=True)
+    return done.stdout, time.monotonic() - began
+
+
+def main():
+    program = os.path.abspath(sys.argv[1])
+    count = int(sys.argv[2]) if len(sys.argv) > 2 else 5000
+    with tempfile.TemporaryDirectory() as folder:
+        run(program, folder, "".join(segments(count)))
+        _, started = run(program, folder, "")
+        alone, one_by_one = run(program, folder, "realm\n" * QUERIES)
+        together, batch = run(program, folder, f"batch {QUERIES}\n" + "realm\n" * QUERIES)
+    if alone != together:
+        sys.exit("the batch gives other bytes than its lines one by one")
+    print(f"segments {count}, queries {QUERIES}, bytes {len(alone)}")
+    print(f"start      {started:8.2f} s")
+    print(f"one by one {one_by_one - started:8.2f} s")
+    print(f"batch      {batch - started:8.2f} s")
+
+
+if __name__ == "__main__":
+    main()

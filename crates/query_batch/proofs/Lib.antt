@@ -1,0 +1,2 @@
+-- replies that are put together
+mod Joinings
