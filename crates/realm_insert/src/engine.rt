@@ -5,6 +5,7 @@ ghost use Rattle.std.specs.Prelude.{Contains, Err, IfOk, OnOk, MatchResult, Matc
 ghost use Rattle.grid_base.specs.Drawing.{IsDrawnRealm};
 ghost use Rattle.grid_base.specs.declared.kinds.Step.{Step as Seen};
 ghost use Rattle.record_codec.specs.Traces.{IsTrace};
+ghost use Rattle.record_codec.specs.Payload.{IsSnapshot};
 ghost use Rattle.unswept_regions.specs.Unswept.{IsUnsweptValue};
 ghost use Rattle.value_table.specs.Table.{value_named};
 ghost use Rattle.realm_insert.specs.State.{fresh_state, kept_trace, latest, HasIdsBelow, AreLatest};
@@ -16,6 +17,7 @@ ghost use Rattle.realm_insert.specs.Changes.{ChangesTo};
 ghost use Rattle.realm_insert.specs.Values.{AreValuesOf, IsGeometryNamed};
 ghost use Rattle.realm_insert.specs.Next.{Next, MakesNoViolation, KeepsAll};
 ghost use Rattle.realm_insert.specs.Misfits.{MisfitsAt};
+ghost use Rattle.realm_insert.specs.Snapshots.{state_of, IsValidState};
 ghost use Rattle.realm_insert.specs.declared.refusal.Refusal.{Refusal as Word};
 ghost use Rattle.realm_insert.specs.declared.settling.SettleError.TheVariants.{Mismatch};
 
@@ -26,11 +28,12 @@ use crate::figure::Figure;
 use crate::making::redraw;
 use crate::refusal::{ChangeError, Refusal, ReplayError};
 use crate::settling::SettleError;
+use crate::snapshot_error::SnapshotError;
 use grid_base::{NoMemory, Step};
 use line_grammar::Change;
 use realm_drawing::Drawing;
 use realm_index::Index;
-use record_codec::Trace;
+use record_codec::{Snapshot, Trace};
 use rose_values::Geometry;
 use std::alloc::Global;
 use std::marker::Model;
@@ -108,6 +111,24 @@ impl Engine {
             traces: Vec::new(alloc),
             spent: false,
         }
+    }
+
+    /// The engine of the state that the snapshot keeps, exactly where that is a valid state.
+    pub fn from_snapshot(alloc: Global, s: Snapshot) -> Result<Engine, SnapshotError>
+        ensures made { IfOk result (λ e. (e.spent ≡ false) × (e.state ≡ state_of s)) }
+        ensures valid { IfOk result (λ _. IsValidState (state_of s)) }
+        ensures invalid { result ≡ Err SnapshotError.Invalid → IsValidState (state_of s) → ⊥ }
+    {
+        Err(SnapshotError::NoMemory)
+    }
+
+    /// The whole state, which is valid.
+    pub fn snapshot(&self, alloc: Global) -> Result<Snapshot, NoMemory>
+        requires ready { self.now.spent ≡ false }
+        ensures kept { IfOk result (λ s. IsSnapshot s × (state_of s ≡ self.now.state)) }
+        ensures valid { IfOk result (λ s. IsValidState (state_of s)) }
+    {
+        Err(NoMemory)
     }
 
     /// Whether want of memory ended a change, so that the engine can't be used any more.
