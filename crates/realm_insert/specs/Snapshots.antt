@@ -1,31 +1,34 @@
 -- Snapshots of states, and which states are valid.
-use Rattle.std.specs.Prelude.{ℕ, ◌≤◌, ◌<◌, ◌^◌, List, map, All, AllPairs}
+use Rattle.std.specs.Prelude.{◌≡◌, ℕ, ◌≤◌, ◌^◌, List, map, All, AllPairs}
 use Rattle.grid_base.specs.Point.{IsBefore}
 use Rattle.grid_base.specs.Drawing.{IsDrawnRealm}
 use Rattle.realm_drawing.specs.Chains.{AllValid}
 use Rattle.realm_drawing.specs.Ids.{IsAscending}
+use Rattle.realm_drawing.specs.Keyed.{KeyedDrawing}
+use Rattle.realm_index.specs.Index.{Entries}
 use Rattle.record_codec.specs.Traces.{IsTrace}
+use Rattle.record_codec.specs.declared.snapshot.Kept.{Kept}
 use Rattle.record_codec.specs.declared.snapshot.Snapshot.{Snapshot}
-use Rattle.value_table.specs.Table.{HasDistinctNames}
-use Rattle.value_table.specs.declared.value.Parts.{Parts}
-use Rattle.value_table.specs.declared.value.Parts.TheVariants.{Points, Ids}
-use Rattle.realm_insert.specs.State.{State, kept_trace, HasIdsBelow, AreLatest}
+use Rattle.state_check.specs.Drawable.{drawing_with, IsDrawable}
+use Rattle.state_check.specs.Tabled.{entries_of, AreAscending, AreTabled}
+use Rattle.value_table.specs.Table.{NamedValues, HasDistinctNames}
+use Rattle.realm_insert.specs.Kept.{IsAtRest}
+use Rattle.realm_insert.specs.State.{State, KeptTrace, kept_trace, HasIdsBelow, AreLatest}
 use Rattle.realm_insert.specs.Values.{AreValuesOf}
+
+-- the traces that a snapshot keeps
+abbrev pub traces_in : List Kept → List KeptTrace
+traces_in traces = map (λ k. kept_trace k.number k.steps) traces
 
 -- the state that the snapshot keeps
 abbrev pub state_of : Snapshot → State
 state_of s = record {
-  drawing = record { points = s.points; originals = s.originals };
+  drawing = drawing_with s.points s.originals;
   next_id = s.next_id;
-  values = map (λ n. (n.name, n.value)) s.values;
+  values = entries_of s.values;
   changes = s.changes;
-  traces = map (λ k. kept_trace k.number k.steps) s.traces;
+  traces = traces_in s.traces;
 }
-
--- the points or ids ascend, none of them twice
-abbrev pub AreAscending : Parts → Type 0
-AreAscending (Points points) = AllPairs IsBefore points
-AreAscending (Ids ids) = AllPairs (λ m n. m < n) ids
 
 -- all that a valid state is
 pub record IsValidState (s : State) : Type 0 where
@@ -49,3 +52,17 @@ pub record IsValidState (s : State) : Type 0 where
   -- the traces are those of the last 16 changes, or of all, in order, and each of their steps has a text
   pub latest : AreLatest s.changes s.traces
   pub traces_fit : All (λ kept. IsTrace kept.steps) s.traces
+
+-- ---- an engine made of a snapshot, for this crate's own proofs
+-- the drawing and the values that the snapshot keeps are those of a valid state
+pub record HasValidParts (s : Snapshot) : Type 0 where
+  pub drawable : IsDrawable (drawing_with s.points s.originals)
+  pub realm : IsDrawnRealm (drawing_with s.points s.originals)
+  pub tabled : AreTabled (drawing_with s.points s.originals) (entries_of s.values)
+
+-- so they are, and have been made
+pub record IsRestored (s : Snapshot) (d : KeyedDrawing) (index : Entries) (values : NamedValues) : Type 0 where
+  pub drawing : d.drawing ≡ drawing_with s.points s.originals
+  pub named : values ≡ entries_of s.values
+  pub rest : IsAtRest d index
+  pub parts : HasValidParts s

@@ -1,7 +1,7 @@
 //! The engine: the drawing, an index of its pieces by their keys, and the numbers of the state. It is spent from the
 //! beginning of a change to its end, so want of memory leaves it spent.
 ghost use Rattle.std.specs.Prelude.{◌≡◌, ◌⊎◌, ◌↔◌, ◌+◌, ◌≤◌, ◌<◌, ◌^◌, ℕ, true, false, List, [], ◌∷◌, ◌++◌};
-ghost use Rattle.std.specs.Prelude.{Contains, Err, IfOk, OnOk, MatchResult, MatchOption, IfSome, IsSomeAnd, IsNone};
+ghost use Rattle.std.specs.Prelude.{All, Contains, IsTrue, min, Err, IfOk, OnOk, MatchResult, MatchOption, IfSome, IsSomeAnd, IsNone};
 ghost use Rattle.grid_base.specs.Drawing.{IsDrawnRealm};
 ghost use Rattle.grid_base.specs.declared.kinds.Step.{Step as Seen};
 ghost use Rattle.record_codec.specs.Traces.{IsTrace};
@@ -17,7 +17,7 @@ ghost use Rattle.realm_insert.specs.Changes.{ChangesTo};
 ghost use Rattle.realm_insert.specs.Values.{AreValuesOf, IsGeometryNamed};
 ghost use Rattle.realm_insert.specs.Next.{Next, MakesNoViolation, KeepsAll};
 ghost use Rattle.realm_insert.specs.Misfits.{MisfitsAt};
-ghost use Rattle.realm_insert.specs.Snapshots.{state_of, IsValidState};
+ghost use Rattle.realm_insert.specs.Snapshots.{state_of, traces_in, IsValidState};
 ghost use Rattle.realm_insert.specs.declared.refusal.Refusal.{Refusal as Word};
 ghost use Rattle.realm_insert.specs.declared.settling.SettleError.TheVariants.{Mismatch};
 
@@ -27,13 +27,14 @@ use crate::defining::revalue;
 use crate::figure::Figure;
 use crate::making::redraw;
 use crate::refusal::{ChangeError, Refusal, ReplayError};
+use crate::restoring::{numbers_in, restored};
 use crate::settling::SettleError;
 use crate::snapshot_error::SnapshotError;
 use grid_base::{NoMemory, Step};
 use line_grammar::Change;
 use realm_drawing::Drawing;
 use realm_index::Index;
-use record_codec::{Snapshot, Trace};
+use record_codec::{Kept as KeptSteps, Snapshot, Trace};
 use rose_values::Geometry;
 use std::alloc::Global;
 use std::marker::Model;
@@ -119,7 +120,11 @@ impl Engine {
         ensures valid { IfOk result (λ _. IsValidState (state_of s)) }
         ensures invalid { result ≡ Err SnapshotError.Invalid → IsValidState (state_of s) → ⊥ }
     {
-        Err(SnapshotError::NoMemory)
+        let made = engine_of(alloc, &s)?;
+        match made {
+            Some(engine) => Ok(engine),
+            None => Err(SnapshotError::Invalid),
+        }
     }
 
     /// The whole state, which is valid.
@@ -363,5 +368,92 @@ fn count(
     }
     traces.push(Kept { number, trace })?;
     *changes = number;
+    Ok(())
+}
+
+// The engine of the state that the snapshot keeps; none where that isn't valid.
+fn engine_of(alloc: Global, s: &Snapshot) -> Result<Option<Engine>, NoMemory>
+    ensures { IfOk result (λ found. MatchOption found (IsValidState (state_of s.now) → ⊥)
+        (λ e. (e.spent ≡ false) × (e.state ≡ state_of s.now) × IsValidState (state_of s.now))) }
+{
+    if !numbers_in(s) {
+        return Ok(None);
+    }
+    let listed = traces_for(alloc, s)?;
+    let Some(traces) = listed else {
+        return Ok(None);
+    };
+    let made = restored(alloc, s)?;
+    let Some(parts) = made else {
+        return Ok(None);
+    };
+    let engine = Engine {
+        alloc,
+        drawing: parts.drawing,
+        index: parts.index,
+        table: parts.table,
+        next_id: s.next_id,
+        changes: s.changes,
+        traces,
+        spent: false,
+    };
+    Ok(Some(engine))
+}
+
+fn traces_for(alloc: Global, s: &Snapshot) -> Result<Option<Vec<Kept>>, NoMemory>
+    ensures { IfOk result (λ found. MatchOption found (AreLatest s.now.changes (traces_in s.now.traces) → ⊥)
+        (λ traces. (traces.items ≡ traces_in s.now.traces) × AreLatest s.now.changes traces.items
+        × All (λ kept. IsTrace kept.steps) traces.items)) }
+{
+    traces_of(alloc, s.changes, s.traces.items())
+}
+
+// The traces that a snapshot keeps; none where they aren't those of the last of so many changes, in order.
+fn traces_of(alloc: Global, changes: u64, list: &[KeptSteps]) -> Result<Option<Vec<Kept>>, NoMemory>
+    ensures { IfOk result (λ found. MatchOption found (AreLatest changes (traces_in list.now) → ⊥)
+        (λ traces. (traces.items ≡ traces_in list.now) × AreLatest changes traces.items
+        × All (λ kept. IsTrace kept.steps) traces.items)) }
+{
+    let count = list.len() as u64;
+    if !is_count(changes, count) {
+        return Ok(None);
+    }
+    let passed = changes - count;
+    let mut traces = Vec::new(alloc);
+    for i in 0..list.len() {
+        let kept = &list[i];
+        if !is_numbered(kept, passed + i as u64 + 1) {
+            return Ok(None);
+        }
+        push_trace(alloc, &mut traces, kept)?;
+    }
+    Ok(Some(traces))
+}
+
+fn is_numbered(kept: &KeptSteps, number: u64) -> bool
+    ensures { IsTrue result ↔ (kept.now.number ≡ number) }
+{
+    kept.number == number
+}
+
+// Whether the traces of so many changes are kept: of the last 16, or of all.
+fn is_count(changes: u64, count: u64) -> bool
+    ensures { IsTrue result ↔ (count ≡ min changes 16) }
+{
+    (count == changes && changes <= 16) || (count == 16 && changes > 16)
+}
+
+// Adds the trace at the end.
+fn push_trace(alloc: Global, traces: &mut Vec<Kept>, kept: &KeptSteps) -> Result<(), NoMemory>
+    ensures added { OnOk result (traces.new.items ≡ traces.old.items ++ kept_trace kept.now.number kept.now.steps ∷ []) }
+    ensures fits { OnOk result (IsTrace kept.now.steps) }
+{
+    // That each step has a text is known where they are read.
+    let _steps = kept.steps.steps();
+    let trace = kept.steps.copied(alloc)?;
+    traces.push(Kept {
+        number: kept.number,
+        trace,
+    })?;
     Ok(())
 }

@@ -15,6 +15,7 @@ mod operands;
 mod placing;
 mod refusal;
 mod removing;
+mod restoring;
 mod searching;
 mod settling;
 mod sharing;

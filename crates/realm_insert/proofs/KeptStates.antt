@@ -1,0 +1,62 @@
+-- This file shows that what an engine keeps is a valid state, and has a text.
+use Rattle.std.proofs.Common.{◌≡◌, ℕ, ◌+◌, ◌<◌, ◌≤◌, ◌^◌, List, [], ◌∷◌, ◌++◌, length, take, map, All, AllPairs, refl, sym, ap, subst, ◌∙◌, arith}
+use Rattle.std.proofs.lemmas.List.{take_more, map-append}
+use Rattle.std.proofs.lemmas.List.Elements.{All-nil, All-push, All-weaker}
+use Rattle.grid_base.specs.Point.{IsBefore}
+use Rattle.grid_base.specs.Drawing.{Drawing}
+use Rattle.grid_base.specs.declared.kinds.Kind.{Kind}
+use Rattle.grid_base.specs.declared.kinds.Kind.TheVariants as kinds
+use Rattle.grid_base.proofs.RealmLaw.{drawn_realm_by}
+use Rattle.line_grammar.specs.Spellable.{IsName}
+use Rattle.realm_drawing.specs.Ids.{IsAscending}
+use Rattle.realm_drawing.specs.Keyed.{KeyedDrawing}
+use Rattle.realm_index.specs.Index.{Entries}
+use Rattle.record_codec.specs.Payload.{AreOfKind}
+use Rattle.record_codec.specs.Traces.{IsTrace}
+use Rattle.state_check.specs.Tabled.{AreAscending}
+use Rattle.value_geometry.specs.Parts.{HasParts}
+use Rattle.value_table.specs.Table.{NamedValues, HasDistinctNames}
+use Rattle.value_table.specs.declared.value.Parts.{Parts}
+use Rattle.value_table.specs.declared.value.Parts.TheVariants as parts
+use Rattle.realm_insert.specs.Kept.{IsSettled}
+use Rattle.realm_insert.specs.Snapshots.{IsValidState}
+use Rattle.realm_insert.specs.State.{KeptTrace}
+use Rattle.realm_insert.specs.Values.{AreValuesOf}
+use Rattle.realm_insert.proofs.PreparedChanges.{state_of as state_with}
+
+-- ---- valid states
+pub is_valid_state : (d : KeyedDrawing) (index : Entries) (values : NamedValues) (next_id changes : ℕ) (traces : List KeptTrace)
+    → IsSettled d index values next_id changes traces → AllPairs IsBefore d.drawing.points → IsAscending d.drawing.originals
+    → HasDistinctNames values → All (λ entry. AreAscending entry.1.parts) values → All (λ kept. IsTrace kept.steps) traces
+    → IsValidState (state_with d.drawing next_id values changes traces)
+is_valid_state d index values next_id changes traces kept ascend rise apart parts_ascend fit = record {
+  most_changes = kept.most_changes;
+  first_id = kept.first_id;
+  most_ids = kept.most_ids;
+  points_ascend = ascend;
+  ids_rise = rise;
+  ids = kept.ids;
+  chains = kept.rest.valid;
+  realm = drawn_realm_by d.drawing kept.rest.settled;
+  distinct = apart;
+  values_fit = kept.values_fit;
+  parts_ascend = parts_ascend;
+  latest = kept.latest;
+  traces_fit = fit;
+}
+
+-- ---- values
+-- what a drawing has the parts of is made of what its kind asks for
+of_kind : (d : Drawing) (kind : Kind) (made : Parts) → HasParts d kind made → AreOfKind kind made
+of_kind d kinds.Points (parts.Points list) has = tt
+of_kind d kinds.Points (parts.Ids ids) has = absurd has
+of_kind d kinds.Lines (parts.Points list) has = absurd has
+of_kind d kinds.Lines (parts.Ids ids) has = tt
+of_kind d kinds.Regions (parts.Points list) has = absurd has
+of_kind d kinds.Regions (parts.Ids ids) has = tt
+
+pub values_of_kinds : (d : Drawing) (values : NamedValues) → AreValuesOf d values
+    → All (λ entry. IsName entry.0 × AreOfKind entry.1.kind entry.1.parts) values
+values_of_kinds d values fit = λ k entry within.
+    let has = fit k entry within in
+    (has.0, of_kind d _ _ has.1)
