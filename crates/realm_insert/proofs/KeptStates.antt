@@ -1,7 +1,8 @@
 -- This file shows that what an engine keeps is a valid state, and has a text.
-use Rattle.std.proofs.Common.{◌≡◌, ℕ, ◌+◌, ◌<◌, ◌≤◌, ◌^◌, List, [], ◌∷◌, ◌++◌, length, take, map, All, AllPairs, refl, sym, ap, subst, ◌∙◌, arith}
+use Rattle.std.proofs.Common.{◌≡◌, ℕ, ◌+◌, ◌<◌, ◌≤◌, ◌^◌, List, [], ◌∷◌, ◌++◌, length, get_or, take, map, All, AllPairs, refl, sym, ap, subst}
+use Rattle.std.proofs.Common.{◌∙◌, arith}
 use Rattle.std.proofs.lemmas.List.{take_more, map-append}
-use Rattle.std.proofs.lemmas.List.Elements.{All-nil, All-push, All-weaker}
+use Rattle.std.proofs.lemmas.List.Elements.{All-nil, All-push, All-more}
 use Rattle.grid_base.specs.Point.{IsBefore}
 use Rattle.grid_base.specs.Drawing.{Drawing}
 use Rattle.grid_base.specs.declared.kinds.Kind.{Kind}
@@ -11,16 +12,17 @@ use Rattle.line_grammar.specs.Spellable.{IsName}
 use Rattle.realm_drawing.specs.Ids.{IsAscending}
 use Rattle.realm_drawing.specs.Keyed.{KeyedDrawing}
 use Rattle.realm_index.specs.Index.{Entries}
-use Rattle.record_codec.specs.Payload.{AreOfKind}
+use Rattle.record_codec.specs.Payload.{AreOfKind, IsKept}
 use Rattle.record_codec.specs.Traces.{IsTrace}
+use Rattle.record_codec.specs.declared.snapshot.Kept.{Kept}
 use Rattle.state_check.specs.Tabled.{AreAscending}
 use Rattle.value_geometry.specs.Parts.{HasParts}
 use Rattle.value_table.specs.Table.{NamedValues, HasDistinctNames}
 use Rattle.value_table.specs.declared.value.Parts.{Parts}
 use Rattle.value_table.specs.declared.value.Parts.TheVariants as parts
 use Rattle.realm_insert.specs.Kept.{IsSettled}
-use Rattle.realm_insert.specs.Snapshots.{IsValidState}
-use Rattle.realm_insert.specs.State.{KeptTrace}
+use Rattle.realm_insert.specs.Snapshots.{IsValidState, traces_in, kept_steps}
+use Rattle.realm_insert.specs.State.{KeptTrace, kept_trace}
 use Rattle.realm_insert.specs.Values.{AreValuesOf}
 use Rattle.realm_insert.proofs.PreparedChanges.{state_of as state_with}
 
@@ -60,3 +62,32 @@ pub values_of_kinds : (d : Drawing) (values : NamedValues) → AreValuesOf d val
 values_of_kinds d values fit = λ k entry within.
     let has = fit k entry within in
     (has.0, of_kind d _ _ has.1)
+
+-- ---- traces
+-- the copies are the first i of the traces, each with a text
+pub record AreCopied (list : List KeptTrace) (i : ℕ) (copies : List Kept) : Type 0 where
+  pub are : traces_in copies ≡ take i list
+  pub fit : All IsKept copies
+  pub texts : All (λ kept. IsTrace kept.steps) (take i list)
+
+pub none_copied : (list : List KeptTrace) (copies : List Kept) → copies ≡ [] → AreCopied list 0 copies
+none_copied list copies is = record {
+  are = ap traces_in is;
+  fit = subst (All IsKept) (sym is) (All-nil IsKept);
+  texts = All-nil (λ kept. IsTrace kept.steps);
+}
+
+-- one more
+pub one_more_copied : (list : List KeptTrace) (i : ℕ) (kept : KeptTrace) (copies new : List Kept) → i < length list
+    → kept ≡ get_or list i kept → kept.number < 2 ^ 64 → IsTrace kept.steps → new ≡ copies ++ kept_steps kept ∷ []
+    → AreCopied list i copies → AreCopied list (i + 1) new
+one_more_copied list i kept copies new within is small text pushed was = record {
+  are = ap traces_in pushed ∙ map-append (λ (k : Kept). kept_trace k.number k.steps) copies (kept_steps kept ∷ [])
+      ∙ ap (λ (t : List KeptTrace). t ++ kept ∷ []) was.are ∙ ap (λ (k : KeptTrace). take i list ++ k ∷ []) is
+      ∙ sym (take_more list i kept within);
+  fit = subst (All IsKept) (sym pushed) (All-push IsKept copies (kept_steps kept) was.fit (record {
+    number = small;
+    steps = (omega (arith, text.few), text.each);
+  }));
+  texts = All-more (λ kept. IsTrace kept.steps) list i kept within was.texts (subst (λ (k : KeptTrace). IsTrace k.steps) is text);
+}

@@ -20,6 +20,10 @@ use Rattle.realm_insert.specs.Values.{AreValuesOf}
 abbrev pub traces_in : List Kept → List KeptTrace
 traces_in traces = map (λ k. kept_trace k.number k.steps) traces
 
+-- a trace as a snapshot keeps it
+abbrev pub kept_steps : KeptTrace → Kept
+kept_steps t = record { number = t.number; steps = t.steps }
+
 -- the state that the snapshot keeps
 abbrev pub state_of : Snapshot → State
 state_of s = record {

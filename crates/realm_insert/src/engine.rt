@@ -5,7 +5,8 @@ ghost use Rattle.std.specs.Prelude.{All, Contains, IsTrue, min, Err, IfOk, OnOk,
 ghost use Rattle.grid_base.specs.Drawing.{IsDrawnRealm};
 ghost use Rattle.grid_base.specs.declared.kinds.Step.{Step as Seen};
 ghost use Rattle.record_codec.specs.Traces.{IsTrace};
-ghost use Rattle.record_codec.specs.Payload.{IsSnapshot};
+ghost use Rattle.record_codec.specs.Fitting.{IsList};
+ghost use Rattle.record_codec.specs.Payload.{IsSnapshot, IsKept as HasKeptText};
 ghost use Rattle.unswept_regions.specs.Unswept.{IsUnsweptValue};
 ghost use Rattle.value_table.specs.Table.{value_named};
 ghost use Rattle.realm_insert.specs.State.{fresh_state, kept_trace, latest, HasIdsBelow, AreLatest};
@@ -17,7 +18,7 @@ ghost use Rattle.realm_insert.specs.Changes.{ChangesTo};
 ghost use Rattle.realm_insert.specs.Values.{AreValuesOf, IsGeometryNamed};
 ghost use Rattle.realm_insert.specs.Next.{Next, MakesNoViolation, KeepsAll};
 ghost use Rattle.realm_insert.specs.Misfits.{MisfitsAt};
-ghost use Rattle.realm_insert.specs.Snapshots.{state_of, traces_in, IsValidState};
+ghost use Rattle.realm_insert.specs.Snapshots.{state_of, traces_in, kept_steps, IsValidState};
 ghost use Rattle.realm_insert.specs.declared.refusal.Refusal.{Refusal as Word};
 ghost use Rattle.realm_insert.specs.declared.settling.SettleError.TheVariants.{Mismatch};
 
@@ -34,7 +35,7 @@ use grid_base::{NoMemory, Step};
 use line_grammar::Change;
 use realm_drawing::Drawing;
 use realm_index::Index;
-use record_codec::{Kept as KeptSteps, Snapshot, Trace};
+use record_codec::{Kept as KeptSteps, ListOf, Snapshot, Trace};
 use rose_values::Geometry;
 use std::alloc::Global;
 use std::marker::Model;
@@ -133,7 +134,19 @@ impl Engine {
         ensures kept { IfOk result (λ s. IsSnapshot s × (state_of s ≡ self.now.state)) }
         ensures valid { IfOk result (λ s. IsValidState (state_of s)) }
     {
-        Err(NoMemory)
+        let drawing = self.drawing();
+        let points = explicit_points(alloc, drawing)?;
+        let originals = copied_originals(alloc, drawing, self.next_id())?;
+        let values = copied_values(alloc, self.table())?;
+        let traces = copied_traces(alloc, self.traces.as_slice())?;
+        Ok(Snapshot {
+            changes: self.changes(),
+            next_id: self.next_id(),
+            points: ListOf::new(points),
+            originals: ListOf::new(originals),
+            values: ListOf::new(values),
+            traces: ListOf::new(traces),
+        })
     }
 
     /// Whether want of memory ended a change, so that the engine can't be used any more.
@@ -454,6 +467,35 @@ fn push_trace(alloc: Global, traces: &mut Vec<Kept>, kept: &KeptSteps) -> Result
     traces.push(Kept {
         number: kept.number,
         trace,
+    })?;
+    Ok(())
+}
+
+// The traces, as a snapshot keeps them.
+fn copied_traces(alloc: Global, list: &[Kept]) -> Result<Vec<KeptSteps>, NoMemory>
+    ensures same { IfOk result (λ v. traces_in v.items ≡ list.now) }
+    ensures fits { IfOk result (λ v. IsList HasKeptText v.items) }
+    ensures texts { IfOk result (λ v. All (λ kept. IsTrace kept.steps) list.now) }
+{
+    let mut copies = Vec::new(alloc);
+    for kept in list {
+        copy_trace(alloc, kept, &mut copies)?;
+    }
+    Ok(copies)
+}
+
+// Adds the trace at the end.
+fn copy_trace(alloc: Global, kept: &Kept, copies: &mut Vec<KeptSteps>) -> Result<(), NoMemory>
+    ensures added { OnOk result (copies.new.items ≡ copies.old.items ++ kept_steps kept.now ∷ []) }
+    ensures number { kept.now.number < 2 ^ 64 }
+    ensures fits { IsTrace kept.now.steps }
+{
+    // That each step has a text is known where they are read.
+    let _steps = kept.trace.steps();
+    let steps = kept.trace.copied(alloc)?;
+    copies.push(KeptSteps {
+        number: kept.number,
+        steps,
     })?;
     Ok(())
 }

@@ -1,5 +1,6 @@
 -- This file shows that a sorted list of points stands in pairs exactly where each point stands in it an even number of times.
-use Rattle.std.proofs.Common.{◌≡◌, ℕ, ◌+◌, ◌<◌, ◌≤◌, ◌%◌, Bool, true, false, cond, ◌||◌, List, [], ◌∷◌, ◌++◌, length, get_or, map, All, AllPairs}
+use Rattle.std.proofs.Common.{◌≡◌, ℕ, ◌+◌, ◌<◌, ◌≤◌, ◌%◌, Bool, true, false, cond, ◌||◌, List, [], ◌∷◌, ◌++◌, length, get_or, map, All}
+use Rattle.std.proofs.Common.{AllPairs}
 use Rattle.std.proofs.Common.{count_by, IsPermutation, refl, sym, ap, ap₂, subst, ◌∙◌, inl, inr, arith}
 use Rattle.std.specs.List.{flat_map}
 use Rattle.std.specs.List.Sorted.{IsSorted}
@@ -135,7 +136,8 @@ pub times_among_ends : (parts : List Original) → All (λ (o : Original). IsBef
     → times p (flat_map ends_of parts) ≡ count_by (is_end p) (map along parts)
 times_among_ends [] ordered p = refl
 times_among_ends (o ∷ parts) ordered p =
-    by (is_point o.a p) (is_point o.b p) refl refl (times_among_ends parts (All-tail (λ (q : Original). IsBefore q.a q.b) o parts ordered) p)
+    by (is_point o.a p) (is_point o.b p) refl refl
+    (times_among_ends parts (All-tail (λ (q : Original). IsBefore q.a q.b) o parts ordered) p)
   where
     rest : List GridPoint
     rest = flat_map ends_of parts

@@ -1,5 +1,6 @@
 -- This file shows what a table of the first values of a list becomes with one value more.
-use Rattle.std.proofs.Common.{◌≡◌, ◌≢◌, ℕ, ◌+◌, ◌<◌, ◌≤◌, true, List, [], ◌∷◌, ◌++◌, length, get_or, take, take_all, map, All, AllPairs, Contains}
+use Rattle.std.proofs.Common.{◌≡◌, ◌≢◌, ℕ, ◌+◌, ◌<◌, ◌≤◌, true, List, [], ◌∷◌, ◌++◌, length, get_or, take, take_all, map, All, AllPairs}
+use Rattle.std.proofs.Common.{Contains}
 use Rattle.std.proofs.Common.{Option, Some, None, IsSome, refl, sym, ap, subst, ◌∙◌, arith}
 use Rattle.std.specs.Map.{keys_of, lookup}
 use Rattle.std.specs.Option.{is_some}

@@ -1,5 +1,6 @@
 -- Lists of points in pairs. No public clause cites this file.
-use Rattle.std.specs.Prelude.{◌≡◌, ℕ, ◌%◌, ◌<◌, ◌-◌, length, get_or, Bool, true, false, if◌then◌else◌, List, [], ◌∷◌, All, Contains, count_by}
+use Rattle.std.specs.Prelude.{◌≡◌, ℕ, ◌%◌, ◌<◌, ◌-◌, length, get_or, Bool, true, false, if◌then◌else◌, List, [], ◌∷◌, All, Contains}
+use Rattle.std.specs.Prelude.{count_by}
 use Rattle.std.specs.List.{flat_map}
 use Rattle.grid_base.specs.Point.{GridPoint, IsBefore, is_point}
 use Rattle.grid_base.specs.Drawing.{Drawing}

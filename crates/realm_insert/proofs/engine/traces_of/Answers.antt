@@ -25,8 +25,8 @@ loop-i-init c =
 -- another number than the next
 pub returns-then-not-is_numbered : goal.returns-then-not-is_numbered
 returns-then-not-is_numbered c = λ latest.
-    not_latest c.args.changes (c.args.changes - length c.args.list.now) c.args.list.now c.loop-i.i c.index-list-i.result c.loop-i-test.true c.index-list-i.is
-    c.loop-i.invariant.whole
+    not_latest c.args.changes (c.args.changes - length c.args.list.now) c.args.list.now c.loop-i.i c.index-list-i.result
+    c.loop-i-test.true c.index-list-i.is c.loop-i.invariant.whole
     (λ same. true≢false (sym (c.is_numbered.ensures.1 same) ∙ c.if-not-is_numbered.true)) latest
 
 -- one more
@@ -56,7 +56,8 @@ returns c =
     let was = c.loop-i.invariant in
     let same = rw take_all at was.are in (
       same,
-      subst (AreLatest c.args.changes) (sym same) (are_latest c.args.changes (c.args.changes - length c.args.list.now) c.args.list.now was.count was.whole
+      subst (AreLatest c.args.changes) (sym same)
+          (are_latest c.args.changes (c.args.changes - length c.args.list.now) c.args.list.now was.count was.whole
           (λ j other less. was.numbered j other (omega (arith, past, less)))),
       was.texts,
     )

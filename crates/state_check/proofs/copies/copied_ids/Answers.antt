@@ -13,4 +13,5 @@ returns-clause-same c =
 
 pub returns-clause-fits : goal.returns-clause-fits
 returns-clause-fits c =
-    fits_as_list (λ (id : ℕ). id < 2 ^ 32) c.loop-id.list.items (omega (arith, c.loop-id.list.small, c.loop-id.list.ok)) c.loop-id.invariant.all
+    fits_as_list (λ (id : ℕ). id < 2 ^ 32) c.loop-id.list.items (omega (arith, c.loop-id.list.small, c.loop-id.list.ok))
+    c.loop-id.invariant.all

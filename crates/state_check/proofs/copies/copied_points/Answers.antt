@@ -18,4 +18,5 @@ returns-clause-same c =
     whole_front OnGrid c.args.points.now c.loop-p.p-index c.loop-p.list.items c.loop-p-test.false c.loop-p.invariant
 
 pub returns-clause-fits : goal.returns-clause-fits
-returns-clause-fits c = fits_as_list OnGrid c.loop-p.list.items (omega (arith, c.loop-p.list.small, c.loop-p.list.ok)) c.loop-p.invariant.all
+returns-clause-fits c =
+    fits_as_list OnGrid c.loop-p.list.items (omega (arith, c.loop-p.list.small, c.loop-p.list.ok)) c.loop-p.invariant.all
