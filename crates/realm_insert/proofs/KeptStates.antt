@@ -47,6 +47,14 @@ is_valid_state d index values next_id changes traces kept ascend rise apart part
   traces_fit = fit;
 }
 
+-- states with the same parts are one
+pub same_state : (d e : Drawing) (n m : ℕ) (v w : NamedValues) (k j : ℕ) (t u : List KeptTrace) → d ≡ e → n ≡ m → v ≡ w → k ≡ j
+    → t ≡ u → state_with d n v k t ≡ state_with e m w j u
+same_state d e n m v w k j t u drawing next named changes traces =
+    ap (λ (x : Drawing). state_with x n v k t) drawing ∙ ap (λ (x : ℕ). state_with e x v k t) next
+    ∙ ap (λ (x : NamedValues). state_with e m x k t) named ∙ ap (λ (x : ℕ). state_with e m w x t) changes
+    ∙ ap (λ (x : List KeptTrace). state_with e m w j x) traces
+
 -- ---- values
 -- what a drawing has the parts of is made of what its kind asks for
 of_kind : (d : Drawing) (kind : Kind) (made : Parts) → HasParts d kind made → AreOfKind kind made

@@ -37,6 +37,7 @@ use realm_drawing::Drawing;
 use realm_index::Index;
 use record_codec::{Kept as KeptSteps, ListOf, Snapshot, Trace};
 use rose_values::Geometry;
+use state_copies::{copied_originals, copied_values, explicit_points};
 use std::alloc::Global;
 use std::marker::Model;
 use std::thread::Threads;
@@ -487,15 +488,19 @@ fn copied_traces(alloc: Global, list: &[Kept]) -> Result<Vec<KeptSteps>, NoMemor
 // Adds the trace at the end.
 fn copy_trace(alloc: Global, kept: &Kept, copies: &mut Vec<KeptSteps>) -> Result<(), NoMemory>
     ensures added { OnOk result (copies.new.items ≡ copies.old.items ++ kept_steps kept.now ∷ []) }
-    ensures number { kept.now.number < 2 ^ 64 }
+    ensures number { OnOk result (kept.now.number < 2 ^ 64) }
     ensures fits { IsTrace kept.now.steps }
 {
     // That each step has a text is known where they are read.
     let _steps = kept.trace.steps();
     let steps = kept.trace.copied(alloc)?;
-    copies.push(KeptSteps {
-        number: kept.number,
-        steps,
-    })?;
+    let number = number_of(kept);
+    copies.push(KeptSteps { number, steps })?;
     Ok(())
+}
+
+fn number_of(kept: &Kept) -> u64
+    ensures { result ≡ kept.now.number }
+{
+    kept.number
 }

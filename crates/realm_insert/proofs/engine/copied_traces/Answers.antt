@@ -11,7 +11,7 @@ loop-kept-init c = none_copied c.args.list.now c.new-copies.result.items c.new-c
 pub loop-kept-preserved : goal.loop-kept-preserved
 loop-kept-preserved c =
     one_more_copied c.args.list.now c.loop-kept.kept-index c.kept-item.result c.loop-kept.copies.items
-    c.copy_trace.new.copies.items c.loop-kept-test.true c.kept-item.is c.copy_trace.ensures.number c.copy_trace.ensures.fits
+    c.copy_trace.new.copies.items c.loop-kept-test.true c.kept-item.is c.in_ok-copy_trace.ensures.number c.copy_trace.ensures.fits
     c.in_ok-copy_trace.ensures.added c.loop-kept.invariant
 
 -- at the end all are
