@@ -62,3 +62,9 @@ pub mod ChangedValues
 pub mod NewValues
 -- that a change by an operator draws what is drawn already
 pub mod DrawnAlready
+-- an index in which all pieces are put
+pub mod RestoredIndex
+-- engines made of snapshots
+pub mod RestoredStates
+-- that what an engine keeps is a valid state
+pub mod KeptStates

@@ -18,6 +18,8 @@ pub mod Next
 pub mod Misfits
 -- what every engine that isn't spent is like
 pub mod Kept
+-- snapshots of states, and which states are valid
+pub mod Snapshots
 -- what is still to be looked at, for this crate's own proofs
 pub mod Work
 -- how the index follows a change, for this crate's own proofs

@@ -1,10 +1,12 @@
 //! The engine: the drawing, an index of its pieces by their keys, and the numbers of the state. It is spent from the
 //! beginning of a change to its end, so want of memory leaves it spent.
 ghost use Rattle.std.specs.Prelude.{◌≡◌, ◌⊎◌, ◌↔◌, ◌+◌, ◌≤◌, ◌<◌, ◌^◌, ℕ, true, false, List, [], ◌∷◌, ◌++◌};
-ghost use Rattle.std.specs.Prelude.{Contains, Err, IfOk, OnOk, MatchResult, MatchOption, IfSome, IsSomeAnd, IsNone};
+ghost use Rattle.std.specs.Prelude.{All, Contains, IsTrue, min, Err, IfOk, OnOk, MatchResult, MatchOption, IfSome, IsSomeAnd, IsNone};
 ghost use Rattle.grid_base.specs.Drawing.{IsDrawnRealm};
 ghost use Rattle.grid_base.specs.declared.kinds.Step.{Step as Seen};
 ghost use Rattle.record_codec.specs.Traces.{IsTrace};
+ghost use Rattle.record_codec.specs.Fitting.{IsList};
+ghost use Rattle.record_codec.specs.Payload.{IsSnapshot, IsKept as HasKeptText};
 ghost use Rattle.unswept_regions.specs.Unswept.{IsUnsweptValue};
 ghost use Rattle.value_table.specs.Table.{value_named};
 ghost use Rattle.realm_insert.specs.State.{fresh_state, kept_trace, latest, HasIdsBelow, AreLatest};
@@ -16,6 +18,7 @@ ghost use Rattle.realm_insert.specs.Changes.{ChangesTo};
 ghost use Rattle.realm_insert.specs.Values.{AreValuesOf, IsGeometryNamed};
 ghost use Rattle.realm_insert.specs.Next.{Next, MakesNoViolation, KeepsAll};
 ghost use Rattle.realm_insert.specs.Misfits.{MisfitsAt};
+ghost use Rattle.realm_insert.specs.Snapshots.{state_of, traces_in, kept_steps, IsValidState};
 ghost use Rattle.realm_insert.specs.declared.refusal.Refusal.{Refusal as Word};
 ghost use Rattle.realm_insert.specs.declared.settling.SettleError.TheVariants.{Mismatch};
 
@@ -25,13 +28,16 @@ use crate::defining::revalue;
 use crate::figure::Figure;
 use crate::making::redraw;
 use crate::refusal::{ChangeError, Refusal, ReplayError};
+use crate::restoring::{numbers_in, restored};
 use crate::settling::SettleError;
+use crate::snapshot_error::SnapshotError;
 use grid_base::{NoMemory, Step};
 use line_grammar::Change;
 use realm_drawing::Drawing;
 use realm_index::Index;
-use record_codec::Trace;
+use record_codec::{Kept as KeptSteps, ListOf, Snapshot, Trace};
 use rose_values::Geometry;
+use state_copies::{copied_originals, copied_values, explicit_points};
 use std::alloc::Global;
 use std::marker::Model;
 use std::thread::Threads;
@@ -108,6 +114,40 @@ impl Engine {
             traces: Vec::new(alloc),
             spent: false,
         }
+    }
+
+    /// The engine of the state that the snapshot keeps, exactly where that is a valid state.
+    pub fn from_snapshot(alloc: Global, s: Snapshot) -> Result<Engine, SnapshotError>
+        ensures made { IfOk result (λ e. (e.spent ≡ false) × (e.state ≡ state_of s)) }
+        ensures valid { IfOk result (λ _. IsValidState (state_of s)) }
+        ensures invalid { result ≡ Err SnapshotError.Invalid → IsValidState (state_of s) → ⊥ }
+    {
+        let made = engine_of(alloc, &s)?;
+        match made {
+            Some(engine) => Ok(engine),
+            None => Err(SnapshotError::Invalid),
+        }
+    }
+
+    /// The whole state, which is valid.
+    pub fn snapshot(&self, alloc: Global) -> Result<Snapshot, NoMemory>
+        requires ready { self.now.spent ≡ false }
+        ensures kept { IfOk result (λ s. IsSnapshot s × (state_of s ≡ self.now.state)) }
+        ensures valid { IfOk result (λ s. IsValidState (state_of s)) }
+    {
+        let drawing = self.drawing();
+        let points = explicit_points(alloc, drawing)?;
+        let originals = copied_originals(alloc, drawing, self.next_id())?;
+        let values = copied_values(alloc, self.table())?;
+        let traces = copied_traces(alloc, self.traces.as_slice())?;
+        Ok(Snapshot {
+            changes: self.changes(),
+            next_id: self.next_id(),
+            points: ListOf::new(points),
+            originals: ListOf::new(originals),
+            values: ListOf::new(values),
+            traces: ListOf::new(traces),
+        })
     }
 
     /// Whether want of memory ended a change, so that the engine can't be used any more.
@@ -343,4 +383,124 @@ fn count(
     traces.push(Kept { number, trace })?;
     *changes = number;
     Ok(())
+}
+
+// The engine of the state that the snapshot keeps; none where that isn't valid.
+fn engine_of(alloc: Global, s: &Snapshot) -> Result<Option<Engine>, NoMemory>
+    ensures { IfOk result (λ found. MatchOption found (IsValidState (state_of s.now) → ⊥)
+        (λ e. (e.spent ≡ false) × (e.state ≡ state_of s.now) × IsValidState (state_of s.now))) }
+{
+    if !numbers_in(s) {
+        return Ok(None);
+    }
+    let listed = traces_for(alloc, s)?;
+    let Some(traces) = listed else {
+        return Ok(None);
+    };
+    let made = restored(alloc, s)?;
+    let Some(parts) = made else {
+        return Ok(None);
+    };
+    let engine = Engine {
+        alloc,
+        drawing: parts.drawing,
+        index: parts.index,
+        table: parts.table,
+        next_id: s.next_id,
+        changes: s.changes,
+        traces,
+        spent: false,
+    };
+    Ok(Some(engine))
+}
+
+fn traces_for(alloc: Global, s: &Snapshot) -> Result<Option<Vec<Kept>>, NoMemory>
+    ensures { IfOk result (λ found. MatchOption found (AreLatest s.now.changes (traces_in s.now.traces) → ⊥)
+        (λ traces. (traces.items ≡ traces_in s.now.traces) × AreLatest s.now.changes traces.items
+        × All (λ kept. IsTrace kept.steps) traces.items)) }
+{
+    traces_of(alloc, s.changes, s.traces.items())
+}
+
+// The traces that a snapshot keeps; none where they aren't those of the last of so many changes, in order.
+fn traces_of(alloc: Global, changes: u64, list: &[KeptSteps]) -> Result<Option<Vec<Kept>>, NoMemory>
+    ensures { IfOk result (λ found. MatchOption found (AreLatest changes (traces_in list.now) → ⊥)
+        (λ traces. (traces.items ≡ traces_in list.now) × AreLatest changes traces.items
+        × All (λ kept. IsTrace kept.steps) traces.items)) }
+{
+    let count = list.len() as u64;
+    if !is_count(changes, count) {
+        return Ok(None);
+    }
+    let passed = changes - count;
+    let mut traces = Vec::new(alloc);
+    for i in 0..list.len() {
+        let kept = &list[i];
+        if !is_numbered(kept, passed + i as u64 + 1) {
+            return Ok(None);
+        }
+        push_trace(alloc, &mut traces, kept)?;
+    }
+    Ok(Some(traces))
+}
+
+fn is_numbered(kept: &KeptSteps, number: u64) -> bool
+    ensures { IsTrue result ↔ (kept.now.number ≡ number) }
+{
+    kept.number == number
+}
+
+// Whether the traces of so many changes are kept: of the last 16, or of all.
+fn is_count(changes: u64, count: u64) -> bool
+    ensures { IsTrue result ↔ (count ≡ min changes 16) }
+{
+    (count == changes && changes <= 16) || (count == 16 && changes > 16)
+}
+
+// Adds the trace at the end.
+fn push_trace(alloc: Global, traces: &mut Vec<Kept>, kept: &KeptSteps) -> Result<(), NoMemory>
+    ensures added { OnOk result (traces.new.items ≡ traces.old.items ++ kept_trace kept.now.number kept.now.steps ∷ []) }
+    ensures fits { OnOk result (IsTrace kept.now.steps) }
+{
+    // That each step has a text is known where they are read.
+    let _steps = kept.steps.steps();
+    let trace = kept.steps.copied(alloc)?;
+    traces.push(Kept {
+        number: kept.number,
+        trace,
+    })?;
+    Ok(())
+}
+
+// The traces, as a snapshot keeps them.
+fn copied_traces(alloc: Global, list: &[Kept]) -> Result<Vec<KeptSteps>, NoMemory>
+    ensures same { IfOk result (λ v. traces_in v.items ≡ list.now) }
+    ensures fits { IfOk result (λ v. IsList HasKeptText v.items) }
+    ensures texts { IfOk result (λ v. All (λ kept. IsTrace kept.steps) list.now) }
+{
+    let mut copies = Vec::new(alloc);
+    for kept in list {
+        copy_trace(alloc, kept, &mut copies)?;
+    }
+    Ok(copies)
+}
+
+// Adds the trace at the end.
+fn copy_trace(alloc: Global, kept: &Kept, copies: &mut Vec<KeptSteps>) -> Result<(), NoMemory>
+    ensures added { OnOk result (copies.new.items ≡ copies.old.items ++ kept_steps kept.now ∷ []) }
+    ensures number { OnOk result (kept.now.number < 2 ^ 64) }
+    ensures fits { IsTrace kept.now.steps }
+{
+    // That each step has a text is known where they are read.
+    let _steps = kept.trace.steps();
+    let steps = kept.trace.copied(alloc)?;
+    let number = number_of(kept);
+    copies.push(KeptSteps { number, steps })?;
+    Ok(())
+}
+
+fn number_of(kept: &Kept) -> u64
+    ensures { result ≡ kept.now.number }
+{
+    kept.number
 }

@@ -15,9 +15,11 @@ mod operands;
 mod placing;
 mod refusal;
 mod removing;
+mod restoring;
 mod searching;
 mod settling;
 mod sharing;
+mod snapshot_error;
 
 pub use applied::Applied;
 pub use engine::{Engine, MOST_CHANGES};
@@ -26,3 +28,4 @@ pub use operands::{Operands, operands_named};
 pub use record_codec::Trace;
 pub use refusal::{ChangeError, Refusal, ReplayError};
 pub use sharing::may_be_shared;
+pub use snapshot_error::SnapshotError;

@@ -131,7 +131,7 @@ fn settle(
 
 // A step that may be taken, and the list without the pieces that were found clean; none where no violation is
 // left.
-fn next_step(
+pub(crate) fn next_step(
     alloc: Global,
     drawing: &Drawing,
     index: &Index,

@@ -1,0 +1,18 @@
+//! What a snapshot keeps, made and looked at: a drawing of given originals, and a table of given values. Begin at `drawing_of` and
+//! `table_of`. Whether pieces cross isn't asked here.
+#![tactic(auto)]
+
+mod copies;
+mod drawing;
+mod ends;
+mod names;
+mod numbers;
+mod order;
+mod pairs;
+mod parts;
+mod table;
+
+pub use copies::{add_point, copied_points};
+pub use drawing::drawing_of;
+pub use numbers::numbers_fit;
+pub use table::{copied, table_of};

@@ -1,0 +1,36 @@
+//! Whether lists are in order: each item is compared with the next.
+ghost use Rattle.std.specs.Prelude.{◌≡◌, ◌↔◌, ◌<◌, IsTrue, AllPairs};
+ghost use Rattle.grid_base.specs.Point.{IsBefore};
+ghost use Rattle.realm_drawing.specs.Ids.{IsAscending};
+
+use grid_base::{Original, Point};
+
+// Whether the points ascend, none of them twice.
+pub(crate) fn points_ascend(points: &[Point]) -> bool
+    ensures { IsTrue result ↔ AllPairs IsBefore points.now }
+{
+    for i in 1..points.len() {
+        if !points[i - 1].comes_before(&points[i]) {
+            return false;
+        }
+    }
+    true
+}
+
+// Whether the ids rise, none of them twice.
+pub(crate) fn ids_rise(originals: &[Original]) -> bool
+    ensures { IsTrue result ↔ IsAscending originals.now }
+{
+    for i in 1..originals.len() {
+        if !is_below(&originals[i - 1], &originals[i]) {
+            return false;
+        }
+    }
+    true
+}
+
+fn is_below(o: &Original, p: &Original) -> bool
+    ensures { IsTrue result ↔ (o.now.id < p.now.id) }
+{
+    o.id < p.id
+}

@@ -1,0 +1,4 @@
+-- explicit points and originals that are listed
+pub mod Listing
+-- values that are listed with their names
+pub mod NamedValues

@@ -1,0 +1,2 @@
+-- copies of originals, for this crate's own proofs
+pub mod Copies
