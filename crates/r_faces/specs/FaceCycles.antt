@@ -1,4 +1,4 @@
--- The cycles of the faces of a region: what a list of faces has to be. No contract cites this file yet.
+-- The cycles of the faces of a region: what a list of faces has to be.
 use Rattle.std.specs.Prelude.{◌≡◌, ◌≢◌, ◌⊎◌, List, Contains, All, AllPairs, Any}
 use Rattle.grid_base.specs.Point.{GridPoint}
 use Rattle.grid_base.specs.Segment.{GridSegment}

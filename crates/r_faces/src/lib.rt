@@ -3,6 +3,7 @@
 #![tactic(auto)]
 
 mod face;
+mod listing;
 mod number;
 mod ordering;
 #[cfg(test)]
@@ -10,6 +11,7 @@ mod tests;
 mod turning;
 
 pub use face::Face;
+pub use listing::faces;
 pub use number::number_of_faces;
 pub use ordering::{faces_in_order, in_order};
 pub use turning::turned;
