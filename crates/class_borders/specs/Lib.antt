@@ -1,0 +1,2 @@
+-- links along the border of a class
+pub mod ClassLinks
