@@ -29,7 +29,7 @@ use Rattle.class_borders.proofs.LinkCounts.{links_counted}
 
 -- ---- numbers of labels
 -- the number of a label: 0 is that of the outer class, and i + 1 that over segment i
-abbrev number_of : List SideClasses → ℕ → ℕ
+abbrev pub number_of : List SideClasses → ℕ → ℕ
 number_of numbers zero = 0
 number_of numbers (suc i) = number_at numbers i Left
 
@@ -74,7 +74,7 @@ one_number B N h c y z (inr (i, hi, e)) (inr (j, hj, f)) l =
     ∙ sym (ap (number_of N) f)
 
 -- the label under segment i has the number of its right side
-under_number : (B : List GridSegment) (N : List SideClasses) (h : HasSweep B) → AreClassNumbers B N → (i : ℕ) → i < length B
+pub under_number : (B : List GridSegment) (N : List SideClasses) (h : HasSweep B) → AreClassNumbers B N → (i : ℕ) → i < length B
     → number_of N (h.right i) ≡ number_at N i Right
 under_number B N h c i hi = by (h.right_labels i)
   where

@@ -18,3 +18,11 @@ pub mod EachSwept
 pub mod LinkCounts
 -- as many links in as out at each point, along the border of a class
 pub mod ClassTurns
+-- the segments with a class on one side alone
+pub mod EvenRims
+-- cycles that go with links, or against them
+pub mod Aligned
+-- a segment beside the outer class
+pub mod SomeOuter
+-- the border between two classes is one cycle
+pub mod OneCycles

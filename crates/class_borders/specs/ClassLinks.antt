@@ -22,6 +22,15 @@ class_links n (s ∷ border) (m ∷ numbers) =
     else if is_right_alone n m then link s.b s.a ∷ class_links n border numbers
     else class_links n border numbers
 
+-- the segments that have the class n on one side alone, in order
+abbrev pub class_rim : ℕ → List GridSegment → List SideClasses → List GridSegment
+class_rim n [] numbers = []
+class_rim n (s ∷ border) [] = []
+class_rim n (s ∷ border) (m ∷ numbers) =
+    if is_left_alone n m then s ∷ class_rim n border numbers
+    else if is_right_alone n m then s ∷ class_rim n border numbers
+    else class_rim n border numbers
+
 -- how many of the links begin at v
 abbrev pub departures : GridPoint → List Link → ℕ
 departures v list = count_by (λ l. is_point v l.from) list
