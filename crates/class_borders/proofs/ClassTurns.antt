@@ -93,10 +93,10 @@ under_number B N h c i hi = by (h.right_labels i)
         (subst (λ (x : ℕ). AreLinked (links h.steps) x (h.right i)) e (linked_here (links h.steps) (h.right i))))
 
 -- the test of one class
-abbrev is_class : List SideClasses → ℕ → ℕ → Bool
+abbrev pub is_class : List SideClasses → ℕ → ℕ → Bool
 is_class N n y = number_of N y == n
 
-respects : (B : List GridSegment) (N : List SideClasses) (n : ℕ) (h : HasSweep B) → AreClassNumbers B N
+pub respects : (B : List GridSegment) (N : List SideClasses) (n : ℕ) (h : HasSweep B) → AreClassNumbers B N
     → Respects (links h.steps) (is_class N n)
 respects B N n h c y z l = ap (λ (m : ℕ). m == n) (one_number B N h c y z (labels l).0 (labels l).1 (linked_by (links h.steps) y z l))
   where

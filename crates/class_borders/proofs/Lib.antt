@@ -26,3 +26,5 @@ pub mod Aligned
 pub mod SomeOuter
 -- the border between two classes is one cycle
 pub mod OneCycles
+-- the odd places of a rim
+pub mod RimPlaces
