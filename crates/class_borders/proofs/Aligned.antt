@@ -7,10 +7,7 @@ use Rattle.r_cycles.specs.Cycles.{Link, link, links, round}
 use Rattle.r_cycles.proofs.Counts.{count_by-some, count_by-found}
 use Rattle.r_cycles.proofs.Trails.{AreApart, apart-head, apart-tail, apart-push}
 use Rattle.class_borders.specs.ClassLinks.{departures, arrivals}
-
--- the link the other way
-abbrev pub back : Link → Link
-back l = link l.to l.from
+use Rattle.class_borders.specs.ClassBorders.{back}
 
 -- ---- one link from each vertex, and one to it
 from_in : (c : List GridPoint) (e : GridPoint) (l : Link) → Contains (links (c ++ e ∷ [])) l → Contains c l.from
@@ -149,11 +146,11 @@ all_against L c v w (x ∷ way) h part there l m = elim (Contains-cases (link v 
 ]
 
 -- the cycle goes with all links, and has them all, or against all
-pub data GoesAlong (L : List Link) (c : List GridPoint) : Type 0 where
+pub data GoesWith (L : List Link) (c : List GridPoint) : Type 0 where
   With : ((l : Link) → Contains (links (round c)) l → Contains L l) → ((l : Link) → Contains L l → Contains (links (round c)) l)
-      → GoesAlong L c
+      → GoesWith L c
   Against : ((l : Link) → Contains (links (round c)) l → Contains L (back l))
-      → ((l : Link) → Contains L l → Contains (links (round c)) (back l)) → GoesAlong L c
+      → ((l : Link) → Contains L l → Contains (links (round c)) (back l)) → GoesWith L c
 
 has_with : (L : List Link) (c : List GridPoint) → AreAlong L c → ((l : Link) → Contains (links (round c)) l → Contains L l)
     → (l : Link) → Contains L l → Contains (links (round c)) l
@@ -171,7 +168,7 @@ has_against L c h all l there = elim (h.on_cycle l there) [
 
 -- by the first link
 pub goes_along : (L : List Link) (v w : GridPoint) (c : List GridPoint) → AreAlong L (v ∷ w ∷ c)
-    → Contains L (link v w) ⊎ Contains L (link w v) → GoesAlong L (v ∷ w ∷ c)
+    → Contains L (link v w) ⊎ Contains L (link w v) → GoesWith L (v ∷ w ∷ c)
 goes_along L v w c h (inl there) =
     let all = all_with L (v ∷ w ∷ c) v w (c ++ v ∷ []) h (λ l m. m) there in With all (has_with L (v ∷ w ∷ c) h all)
 goes_along L v w c h (inr there) =

@@ -28,3 +28,5 @@ pub mod SomeOuter
 pub mod OneCycles
 -- the odd places of a rim
 pub mod RimPlaces
+-- which way a cycle along the border of a class goes
+pub mod OneWays

@@ -15,10 +15,10 @@ LiesBetween list p q s =
 abbrev pub back : Link → Link
 back l = link l.to l.from
 
--- the cycle goes along each of the links, one way or the other
-abbrev pub GoesAlongEach : List Link → List GridPoint → Type 0
-GoesAlongEach list cycle = (l : Link) → Contains list l
-    → Contains (links (round cycle)) l ⊎ Contains (links (round cycle)) (back l)
+-- the cycle goes along these links, each one way or the other, and along no other
+pub record GoesAlong (list : List Link) (cycle : List GridPoint) : Type 0 where
+  pub each : (l : Link) → Contains list l → Contains (links (round cycle)) l ⊎ Contains (links (round cycle)) (back l)
+  pub only : (l : Link) → Contains (links (round cycle)) l → Contains list l ⊎ Contains list (back l)
 
 -- all links of the cycle are of the list, or all are the other way
 abbrev pub GoesOneWay : List Link → List GridPoint → Type 0

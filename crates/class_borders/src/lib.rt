@@ -4,4 +4,7 @@
 
 mod laws;
 
-pub use laws::classes_turn_whole;
+pub use laws::{
+    classes_turn_whole, cycles_go_one_way, one_cycle_between_classes, rims_are_even,
+    some_side_is_outer,
+};
