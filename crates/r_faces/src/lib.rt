@@ -2,10 +2,13 @@
 //! Begin at `number_of_faces`, `turned` and `in_order`.
 #![tactic(auto)]
 
+mod bounds;
 mod face;
 mod listing;
 mod number;
 mod ordering;
+mod parts;
+mod rims;
 #[cfg(test)]
 mod tests;
 mod turning;
