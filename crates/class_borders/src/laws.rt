@@ -77,8 +77,8 @@ pub fn cycles_go_one_way(border: &[Segment], numbers: &[SideClasses], cycle: &[P
     each_is_on_grid(border);
 }
 
-// Each segment has its lesser end first and is on the grid, as the types say.
-fn each_is_on_grid(list: &[Segment])
+/// Each segment has its lesser end first and is on the grid, as the types say.
+pub fn each_is_on_grid(list: &[Segment])
     ensures { All IsOnGrid list.now }
 {
     for s in list {
