@@ -1,9 +1,9 @@
 -- This file shows that as many segments come in at each point as go out, each with a class on its left alone.
-use Rattle.std.proofs.Common.{◌≡◌, ◌⊎◌, ℕ, zero, suc, ◌+◌, ◌^◌, ◌<◌, ◌==◌, Bool, true, false, not, ◌&&◌, List, [], map, length, Contains}
+use Rattle.std.proofs.Common.{◌≡◌, ◌⊎◌, ℕ, zero, suc, ◌^◌, ◌<◌, ◌==◌, Bool, true, false, not, ◌&&◌, List, [], map, length}
 use Rattle.std.proofs.Common.{refl, sym, ap, subst, ◌∙◌, arith, inl, inr}
 use Rattle.grid_base.specs.Point.{GridPoint, is_point}
 use Rattle.grid_base.specs.Segment.{GridSegment, IsEnd}
-use Rattle.grid_base.specs.Sides.{Side, Left, On, Right}
+use Rattle.grid_base.specs.Sides.{Left, On, Right}
 use Rattle.grid_base.proofs.Orders.{is_point-same, is_point-itself}
 use Rattle.grid_base.proofs.Ends.{same_or_not}
 use Rattle.linked_parts.specs.Parts.{IsLink, AreLinked}
@@ -113,7 +113,8 @@ is_true : (v p : GridPoint) → p ≡ v → is_point v p ≡ true
 is_true v p e = subst (λ (x : GridPoint). is_point v x ≡ true) (sym e) (is_point-itself v)
 
 tests_of : (B : List GridSegment) (v : GridPoint) (h : HasSweep B) → v.y < 2 ^ 28
-    → AreTests (length B) (sheared_number B) (sheared_point (2 ^ 28) v) (λ i. is_point v (numbered B i).a) (λ i. is_point v (numbered B i).b)
+    → AreTests (length B) (sheared_number B) (sheared_point (2 ^ 28) v) (λ i. is_point v (numbered B i).a)
+    (λ i. is_point v (numbered B i).b)
 tests_of B v h low = record {
   at_a = λ i hi e. is_true v (numbered B i).a
       (one_point (2 ^ 28) (numbered B i).a v (end_below (2 ^ 28) B (numbered B i) (numbered B i).a h.sweep.realm (numbered_in B i hi)
@@ -168,8 +169,14 @@ balanced B N n v h c = elim (some_end B v (length B)) [
       (λ i hi. is_false _ (λ t. none i hi (inl (is_point-same v (numbered B i).a t)))) in
       let b = λ (d : ℕ → Bool). tally_off (length B) d (λ i. is_point v (numbered B i).b)
       (λ i hi. is_false _ (λ t. none i hi (inr (is_point-same v (numbered B i).b t)))) in
-      omega (arith, a (rises (is_class N n) h.right), a (falls (is_class N n) h.right), b (rises (is_class N n) h.right), b
-      (falls (is_class N n) h.right))
+      omega (
+        arith,
+        a (rises (is_class N n) h.right),
+        a (falls (is_class N n) h.right),
+        b (rises (is_class N n) h.right),
+        b
+            (falls (is_class N n) h.right),
+      )
 ]
   where
     sheared_end : (v : GridPoint) (s : GridSegment) → IsEnd v s → IsEnd (sheared_point (2 ^ 28) v) (sheared (2 ^ 28) s)

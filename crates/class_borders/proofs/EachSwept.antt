@@ -1,18 +1,15 @@
 -- This file shows that the segments of each realm are swept.
-use Rattle.std.proofs.Common.{◌≡◌, ◌⊎◌, ℕ, ◌+◌, ◌*◌, ◌^◌, ◌<◌, List, [], map, length, Contains, refl, ap, subst, arith, inl, inr}
+use Rattle.std.proofs.Common.{◌≡◌, ◌⊎◌, ℕ, ◌+◌, ◌*◌, ◌^◌, ◌<◌, List, [], map, length, Contains, refl, ap, arith, inl, inr}
 use Rattle.grid_base.specs.Point.{GridPoint}
 use Rattle.grid_base.specs.Segment.{GridSegment, IsEnd}
 use Rattle.plane_classes.specs.Shear.{sheared}
-use Rattle.plane_cells.specs.Numbered.{numbered}
 use Rattle.plane_cells.specs.Sheared.{sheared_number, AreOfRealm}
 use Rattle.plane_cells.specs.Steps.{Step, links}
-use Rattle.plane_cells.specs.Walks.{Position, None}
+use Rattle.plane_cells.specs.Walks.{None}
 use Rattle.plane_cells.proofs.Chains.{first_here}
 use Rattle.plane_cells.proofs.Inserts.{once_sheared}
 use Rattle.plane_cells.proofs.ShearedRealm.{IsRealmBelow, position, realm_below, within}
 use Rattle.plane_cells.proofs.ShearedSides.{IsRealmSweep}
-use Rattle.class_borders.proofs.Fans.{IsOnce}
-use Rattle.class_borders.proofs.FirstEnds.{IsEndBelow}
 use Rattle.class_borders.proofs.RealmSweeps.{IsWalked, walked}
 use Rattle.class_borders.proofs.RightLabels.{IsLabel, right_in, have_rights, right_is_label, link_is_label}
 

@@ -1,6 +1,6 @@
 -- This file shows that the segments with a class on one side alone are an even border, and which segments these are.
 use Rattle.std.proofs.Common.{◌≡◌, ◌⊎◌, ℕ, zero, suc, ◌+◌, ◌%◌, ◌<◌, ◌==◌, Bool, true, false, not, ◌&&◌, ◌||◌, if◌then◌else◌, List, [], ◌∷◌}
-use Rattle.std.proofs.Common.{length, Contains, AllPairs, count_by, refl, sym, ap, subst, ◌∙◌, arith, inl, inr}
+use Rattle.std.proofs.Common.{length, Contains, AllPairs, count_by, refl, sym, subst, ◌∙◌, arith, inl, inr}
 use Rattle.std.proofs.lemmas.List.Kept.{AllPairs-cons}
 use Rattle.std.proofs.lemmas.List.Elements.{Contains-get_or}
 use Rattle.grid_base.specs.Point.{GridPoint, IsBefore, is_point}
@@ -28,11 +28,13 @@ point_swap p v = by (is_point p v) (is_point v p) refl refl
     by : (b c : Bool) → is_point p v ≡ b → is_point v p ≡ c → is_point p v ≡ is_point v p
     by true true e f = e ∙ sym f
     by false false e f = e ∙ sym f
-    by true false e f = absurd (apart (sym f ∙ subst (λ (x : GridPoint). is_point v x ≡ true) (sym (is_point-same p v e)) (is_point-itself v)))
+    by true false e f =
+        absurd (apart (sym f ∙ subst (λ (x : GridPoint). is_point v x ≡ true) (sym (is_point-same p v e)) (is_point-itself v)))
       where
         apart : false ≡ true → ⊥
         apart h = cc
-    by false true e f = absurd (apart (sym e ∙ subst (λ (x : GridPoint). is_point p x ≡ true) (sym (is_point-same v p f)) (is_point-itself p)))
+    by false true e f =
+        absurd (apart (sym e ∙ subst (λ (x : GridPoint). is_point p x ≡ true) (sym (is_point-same v p f)) (is_point-itself p)))
       where
         apart : false ≡ true → ⊥
         apart h = cc
@@ -66,7 +68,8 @@ rim_counts n v (s ∷ B) (m ∷ N) o =
     parts (m.left == n) (m.right == n) (is_end v) (λ l. is_point v l.from) (λ l. is_point v l.to) s (link s.a s.b) (link s.b s.a)
     (class_rim n B N) (class_links n B N) here (omega (arith, here)) (rim_counts n v B N (λ t there. o t (Contains-later s B t there)))
 
-pub rim_is_even : (B : List GridSegment) (N : List SideClasses) (n : ℕ) → AreOfRealm B → AreClassNumbers B N → IsEvenBorder (class_rim n B N)
+pub rim_is_even : (B : List GridSegment) (N : List SideClasses) (n : ℕ) → AreOfRealm B → AreClassNumbers B N
+    → IsEvenBorder (class_rim n B N)
 rim_is_even B N n realm c v =
     let all = rim_counts n v B N (λ s there. (realm.on_grid s there).order) in
     even _ _ _ all (turns_whole B N n v realm c)

@@ -1,5 +1,5 @@
 -- This file shows that the segments which begin at one point can be listed by their angles.
-use Rattle.std.proofs.Common.{◌≡◌, ◌⊎◌, ℕ, zero, suc, ◌<◌, List, [], ◌∷◌, pos, ◌<ℤ◌, refl, sym, ap, subst, ◌∙◌, arith, inl, inr}
+use Rattle.std.proofs.Common.{◌≡◌, ◌⊎◌, ℕ, zero, suc, ◌<◌, List, [], ◌∷◌, pos, ◌<ℤ◌, sym, subst, arith, inl, inr}
 use Rattle.grid_base.specs.Point.{GridPoint}
 use Rattle.grid_base.specs.Segment.{GridSegment}
 use Rattle.grid_base.specs.Plane.{side_number_at}
@@ -8,7 +8,7 @@ use Rattle.grid_base.proofs.Ends.{same_or_not}
 use Rattle.plane_cells.specs.Order.{at_point}
 use Rattle.plane_cells.specs.Steps.{In, Each, Pairs}
 use Rattle.plane_cells.specs.Walks.{Position}
-use Rattle.plane_cells.proofs.Lists.{each_map, each_in, same_or}
+use Rattle.plane_cells.proofs.Lists.{each_map, each_in}
 use Rattle.plane_cells.proofs.Angles.{angle_turned, angle_joined, not_on_one_line}
 
 -- no two numbers stand for one segment
@@ -112,7 +112,8 @@ fan_of B n seg v (suc k) P once h =
           let own : BeginsAt n seg v k = (shorter k n h, here) in
           let p = put B n seg v k rest.0 P once own
           (each_from (λ j. k ≡ j → ⊥) rest.0 (λ j m e. not_less j k (rest.1.only j m).0 e))
-          (each_from (BeginsAt n seg v) rest.0 (λ j m. (below j k n (rest.1.only j m).0 (shorter k n h), (rest.1.only j m).1))) rest.1.fan in (
+          (each_from (BeginsAt n seg v) rest.0 (λ j m. (below j k n (rest.1.only j m).0 (shorter k n h), (rest.1.only j m).1)))
+          rest.1.fan in (
             p.0,
             record {
               only = λ i m. only_here rest.0 i (rest.1.only i) here (p.1.from i m);

@@ -1,8 +1,8 @@
 -- This file shows that there is a first end behind a wall, or none.
-use Rattle.std.proofs.Common.{◌≡◌, ◌⊎◌, ℕ, zero, suc, ◌<◌, ◌≤◌, List, refl, sym, ap, subst, arith, inl, inr}
+use Rattle.std.proofs.Common.{◌≡◌, ◌⊎◌, ℕ, zero, suc, ◌<◌, ◌≤◌, refl, sym, subst, arith, inl, inr}
 use Rattle.grid_base.specs.Point.{GridPoint}
 use Rattle.grid_base.specs.Segment.{GridSegment, IsEnd}
-use Rattle.plane_cells.specs.Walks.{Bound, None, Wall, IfWall, HasWall, IsNextVertex}
+use Rattle.plane_cells.specs.Walks.{Bound, None, Wall, IfWall, HasWall}
 
 -- the points of Q have a first one behind the wall, or none is behind it
 pub data IsSought (Q : GridPoint → Type 0) (lo : Bound) : Type 0 where

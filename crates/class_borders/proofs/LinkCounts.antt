@@ -1,5 +1,5 @@
 -- This file shows that the links along the border of a class are counted segment by segment.
-use Rattle.std.proofs.Common.{◌≡◌, ℕ, zero, suc, ◌+◌, ◌<◌, ◌==◌, Bool, true, false, not, ◌&&◌, if◌then◌else◌, List, [], ◌∷◌, length, count_by}
+use Rattle.std.proofs.Common.{◌≡◌, ℕ, zero, suc, ◌+◌, ◌==◌, Bool, true, false, not, ◌&&◌, if◌then◌else◌, List, [], ◌∷◌, length, count_by}
 use Rattle.std.proofs.Common.{slice_index_or, refl, arith}
 use Rattle.grid_base.specs.Segment.{GridSegment}
 use Rattle.r_cycles.specs.Cycles.{Link, link}

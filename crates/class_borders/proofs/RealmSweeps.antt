@@ -1,15 +1,15 @@
 -- This file shows that a sweep goes over all segments in a position without vertical ones, from the first vertex to the last.
-use Rattle.std.proofs.Common.{◌≡◌, ◌⊎◌, ℕ, zero, suc, ◌+◌, ◌<◌, ◌≤◌, List, [], ◌∷◌, ◌++◌, refl, sym, ap, subst, arith, inl, inr}
+use Rattle.std.proofs.Common.{◌≡◌, ◌⊎◌, ℕ, zero, suc, ◌+◌, ◌<◌, ◌≤◌, List, [], ◌∷◌, refl, sym, subst, arith, inr}
 use Rattle.grid_base.specs.Point.{GridPoint}
-use Rattle.grid_base.specs.Segment.{GridSegment, IsEnd}
-use Rattle.plane_cells.specs.Steps.{Step, before, after, Each}
+use Rattle.grid_base.specs.Segment.{GridSegment}
+use Rattle.plane_cells.specs.Steps.{Step, before, after}
 use Rattle.plane_cells.specs.Walks.{Position, Bound, None, Wall, IfWall, HasWall, IsStatus, IsStep, Walk, IsHere, IsNextVertex, IsTurn}
 use Rattle.plane_cells.proofs.Statuses.{slab_status}
 use Rattle.plane_cells.proofs.Chains.{last_status}
 use Rattle.plane_cells.proofs.Next.{here_behind}
-use Rattle.class_borders.proofs.Fans.{IsOnce, each_from, IsFanOf, fan_of}
-use Rattle.class_borders.proofs.Splits.{IsSplit, split}
-use Rattle.class_borders.proofs.FirstEnds.{IsSought, NoneBehind, FirstBehind, IsEndBelow, first_end}
+use Rattle.class_borders.proofs.Fans.{IsOnce, each_from, fan_of}
+use Rattle.class_borders.proofs.Splits.{split}
+use Rattle.class_borders.proofs.FirstEnds.{NoneBehind, FirstBehind, IsEndBelow, first_end}
 
 -- the steps of a sweep from the wall on
 pub record IsWalked (n : ℕ) (seg : ℕ → GridSegment) (lo : Bound) (status : List ℕ) : Type 0 where

@@ -1,20 +1,17 @@
 -- This file shows that the steps of a sweep say which label each segment has on its right.
-use Rattle.std.proofs.Common.{◌≡◌, ◌⊎◌, ℕ, zero, suc, ◌<◌, ◌≤◌, ◌==◌, Bool, true, false, if◌then◌else◌, List, [], ◌∷◌, ◌++◌, refl, sym, ap, ◌∙◌}
+use Rattle.std.proofs.Common.{◌≡◌, ◌⊎◌, ℕ, suc, ◌<◌, ◌==◌, Bool, true, false, if◌then◌else◌, List, [], ◌∷◌, ◌++◌, refl, sym, ap, ◌∙◌}
 use Rattle.std.proofs.Common.{subst, arith, inl, inr}
 use Rattle.grid_base.specs.Point.{GridPoint}
 use Rattle.grid_base.specs.Segment.{GridSegment}
 use Rattle.plane_cells.specs.Order.{IsFurtherDown}
-use Rattle.plane_cells.specs.Steps.{Step, before, after, In, Each, Pairs, link, links, label_over, HasRights, HaveRights}
+use Rattle.plane_cells.specs.Steps.{Step, after, In, Each, Pairs, link, links, label_over, HasRights, HaveRights}
 use Rattle.plane_cells.specs.Walks.{Bound, None, Wall, IfWall, Walk}
-use Rattle.linked_parts.specs.Parts.{Links, IsLink}
 use Rattle.std.proofs.Common.{Contains}
 use Rattle.grid_base.proofs.Elements.{Contains-cases, Contains-nil}
-use Rattle.plane_cells.proofs.Lists.{each_at, each_left, each_joined}
+use Rattle.plane_cells.proofs.Lists.{each_at, each_joined}
 use Rattle.plane_cells.proofs.Statuses.{pairs_left, pairs_right}
-use Rattle.plane_cells.proofs.AtVertices.{AreNumbers}
 use Rattle.plane_cells.proofs.Complete.{walk_status, step_numbers}
 use Rattle.plane_cells.proofs.ColumnParity.{distinct}
-use Rattle.class_borders.proofs.Fans.{each_from}
 
 -- ---- the label under i in a list, d being that under the first
 abbrev pub looked_up : ℕ → List ℕ → ℕ → ℕ → ℕ

@@ -1,6 +1,6 @@
 -- This file shows that the places of a class are the odd ones of its rim, where it isn't the outer class.
-use Rattle.std.proofs.Common.{◌≡◌, ◌⊎◌, ◌↔◌, ℕ, zero, suc, ◌*◌, ◌^◌, ◌<◌, ◌==◌, Bool, true, false, not, ◌&&◌, ◌||◌, if◌then◌else◌, List, []}
-use Rattle.std.proofs.Common.{◌∷◌, map, length, Contains, refl, sym, ap, ap₂, subst, ◌∙◌, arith, inl, inr}
+use Rattle.std.proofs.Common.{◌≡◌, ◌↔◌, ℕ, zero, suc, ◌*◌, ◌^◌, ◌<◌, ◌==◌, Bool, true, false, not, ◌&&◌, ◌||◌, if◌then◌else◌, List, []}
+use Rattle.std.proofs.Common.{◌∷◌, map, length, Contains, refl, sym, ap, ◌∙◌, arith}
 use Rattle.grid_base.specs.Point.{IsBefore}
 use Rattle.grid_base.specs.Segment.{GridSegment}
 use Rattle.grid_base.specs.Sides.{Side, Left, On, Right}
@@ -31,7 +31,7 @@ use Rattle.plane_cells.proofs.ColumnParity.{HasParity, parity_of_place}
 use Rattle.class_borders.specs.ClassLinks.{is_left_alone, is_right_alone, class_rim}
 use Rattle.class_borders.proofs.EachSwept.{HasSweep, has_sweep}
 use Rattle.class_borders.proofs.LinkCounts.{numbers_at}
-use Rattle.class_borders.proofs.ClassTurns.{number_of, is_class, under_number, respects}
+use Rattle.class_borders.proofs.ClassTurns.{is_class, under_number, respects}
 use Rattle.class_borders.proofs.EvenRims.{is_alone, rim_part, rim_is_even}
 
 -- ---- the segments of a rim, counted

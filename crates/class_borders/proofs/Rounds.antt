@@ -1,11 +1,11 @@
 -- This file shows that round a vertex as many segments come in as go out, where each has what passes a test on its left alone.
-use Rattle.std.proofs.Common.{◌≡◌, ◌⊎◌, ℕ, zero, suc, ◌+◌, ◌<◌, ◌≤◌, Bool, true, false, not, ◌&&◌, List, [], ◌∷◌, ◌++◌, refl, sym, ap, subst, ◌∙◌}
+use Rattle.std.proofs.Common.{◌≡◌, ◌⊎◌, ℕ, suc, ◌+◌, ◌<◌, ◌≤◌, Bool, true, false, not, ◌&&◌, List, [], ◌∷◌, ◌++◌, refl, sym, ap, subst, ◌∙◌}
 use Rattle.std.proofs.Common.{arith, inl, inr}
 use Rattle.grid_base.specs.Point.{GridPoint}
 use Rattle.grid_base.specs.Segment.{GridSegment, IsEnd}
-use Rattle.linked_parts.specs.Parts.{Links, AreLinked}
+use Rattle.linked_parts.specs.Parts.{Links}
 use Rattle.plane_cells.specs.Order.{IsFurtherDown}
-use Rattle.plane_cells.specs.Steps.{Step, before, after, In, Each, Pairs, link, label_over, HaveRights}
+use Rattle.plane_cells.specs.Steps.{Step, before, after, Each, Pairs, link, label_over, HaveRights}
 use Rattle.plane_cells.specs.Walks.{Position, Bound, None, Wall, IfWall, IsAcross, Lies, Across, Ahead, Past, Walk}
 use Rattle.plane_cells.proofs.Labels.{over_joined}
 use Rattle.plane_cells.proofs.Lists.{each_at}
@@ -72,7 +72,7 @@ balanced_at : (B : List GridSegment) (n : ℕ) (seg : ℕ → GridSegment) (L : 
     → IsBalanced n (rises f right) (falls f right) ga gb
 balanced_at B n seg L right f ga gb lo status k steps P h t w a r u =
     let all = round_vertex L right f k.below k.ends k.begins k.above h there (right_behind L right k a.0 r.0 there)
-        (respected L f h (link k).0 (link k).1 a.0.0 a.0.1) in
+    (respected L f h (link k).0 (link k).1 a.0.0 a.0.1) in
     omega (arith, all, begun (rises f right), begun (falls f right), ended (rises f right), ended (falls f right))
   where
     numbers : AreNumbers n k

@@ -1,16 +1,15 @@
 -- This file shows that some segment has the outer class on its right.
-use Rattle.std.proofs.Common.{◌≡◌, ◌⊎◌, ℕ, suc, ◌^◌, ◌<◌, List, [], ◌∷◌, ◌++◌, length, refl, sym, ap, subst, ◌∙◌, arith, inl, inr}
+use Rattle.std.proofs.Common.{◌≡◌, ℕ, ◌^◌, ◌<◌, List, [], ◌∷◌, ◌++◌, length, refl, sym, ap, ◌∙◌, inl, inr}
 use Rattle.grid_base.specs.Segment.{GridSegment}
 use Rattle.grid_base.specs.Sides.{Right}
 use Rattle.plane_classes.specs.Shear.{sheared}
 use Rattle.std.proofs.Common.{map}
-use Rattle.plane_cells.specs.Steps.{Step, before, after, In, label_over, HaveRights, HasRights}
+use Rattle.plane_cells.specs.Steps.{Step, In, label_over, HaveRights, HasRights}
 use Rattle.plane_cells.specs.Walks.{Position, None, Lies, Across, Ahead, Past, Walk}
 use Rattle.plane_cells.specs.Sheared.{sheared_number, AreOfRealm}
 use Rattle.plane_cells.specs.ClassNumbers.{number_at, AreClassNumbers}
 use Rattle.plane_cells.specs.declared.classes.SideClasses.{SideClasses}
 use Rattle.plane_cells.proofs.Lists.{each_at}
-use Rattle.plane_cells.proofs.AtVertices.{AreNumbers}
 use Rattle.plane_cells.proofs.Complete.{step_numbers}
 use Rattle.plane_cells.proofs.EveryEnd.{all_begin, all_end}
 use Rattle.plane_cells.proofs.ShearedRealm.{position}

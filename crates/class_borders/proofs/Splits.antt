@@ -1,9 +1,9 @@
 -- This file shows that a status is parted at the next vertex: what passes below it, what ends there, and what passes above it.
-use Rattle.std.proofs.Common.{◌≡◌, ◌⊎◌, ℕ, ◌<◌, List, [], ◌∷◌, ◌++◌, pos, ◌<ℤ◌, refl, sym, ap, arith, inl, inr}
+use Rattle.std.proofs.Common.{◌≡◌, ℕ, ◌<◌, List, [], ◌∷◌, ◌++◌, pos, ◌<ℤ◌, refl, ap, arith, inl, inr}
 use Rattle.std.proofs.lemmas.Int.{ints}
 use Rattle.grid_base.specs.Point.{GridPoint}
 use Rattle.grid_base.specs.Segment.{GridSegment, IsEnd}
-use Rattle.grid_base.specs.Plane.{side_number_at, side_at, Spans}
+use Rattle.grid_base.specs.Plane.{side_number_at, side_at}
 use Rattle.grid_base.proofs.Signs.{sign}
 use Rattle.grid_base.proofs.Ends.{same_or_not}
 use Rattle.plane_cells.specs.Order.{at_point, IsFurtherDown}

@@ -17,7 +17,8 @@ back l = link l.to l.from
 
 -- the cycle goes along these links, each one way or the other, and along no other
 pub record GoesAlong (list : List Link) (cycle : List GridPoint) : Type 0 where
-  pub each : (l : Link) → Contains list l → Contains (links (round cycle)) l ⊎ Contains (links (round cycle)) (back l)
+  pub each : (l : Link) → Contains list l
+      → Contains (links (round cycle)) l ⊎ Contains (links (round cycle)) (back l)
   pub only : (l : Link) → Contains (links (round cycle)) l → Contains list l ⊎ Contains list (back l)
 
 -- all links of the cycle are of the list, or all are the other way
