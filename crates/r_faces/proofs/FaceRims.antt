@@ -1,6 +1,6 @@
 -- This file shows that the segments whose odd side has one number are the rim of a face.
 use Rattle.std.proofs.Common.{◌≡◌, ◌≢◌, ◌⊎◌, ◌↔◌, ℕ, zero, suc, ◌+◌, ◌<◌, ◌==◌, Bool, true, false, not, ◌&&◌, ◌||◌, cond, if◌then◌else◌, List, [], ◌∷◌, ◌++◌}
-use Rattle.std.proofs.Common.{length, slice_index, slice_index_or, get_or, Contains, AllPairs, IsTrue, refl, sym, ap, subst, ◌∙◌, arith, inl, inr}
+use Rattle.std.proofs.Common.{length, slice_index, slice_index_or, get_or, Contains, All, AllPairs, IsTrue, refl, sym, ap, subst, ◌∙◌, arith, inl, inr}
 use Rattle.std.specs.List.{AllZip}
 use Rattle.grid_base.specs.Segment.{GridSegment, IsSegmentBefore}
 use Rattle.grid_base.specs.Sides.{Side, Left, On, Right}
@@ -19,9 +19,10 @@ use Rattle.plane_classes.proofs.RealmPlaces.{alone_in_realm}
 use Rattle.plane_classes.proofs.SideLaws.{one_is_odd, once_in}
 use Rattle.plane_classes.proofs.Ways.{AreInOrder}
 use Rattle.plane_cells.specs.Numbered.{nowhere, numbered}
-use Rattle.plane_cells.specs.Sheared.{AreOfRealm}
+use Rattle.plane_cells.specs.Sheared.{IsOnGrid, AreOfRealm}
 use Rattle.plane_cells.specs.ClassNumbers.{number_at, LiesBeside, AreClassNumbers}
 use Rattle.plane_cells.specs.declared.classes.SideClasses.{SideClasses}
+use Rattle.plane_cells.proofs.OfRealm.{of_realm}
 use Rattle.plane_cells.proofs.ShearedRealm.{numbered_in, number_of}
 use Rattle.plane_cells.proofs.ShearedSides.{free_beside}
 use Rattle.r_blocks.specs.Places.{those}
@@ -40,6 +41,16 @@ pub record IsKnown (B : List GridSegment) (N : List SideClasses) : Type 0 where
   pub ascending : AllPairs IsSegmentBefore B
   pub even : IsEvenBorder B
   pub numbers : AreClassNumbers B N
+
+pub known : (B : List GridSegment) (N : List SideClasses) → AreNoded B → AllPairs IsSegmentBefore B → IsEvenBorder B → All IsOnGrid B
+    → AreClassNumbers B N → IsKnown B N
+known B N noded ascending even grid numbers = record {
+  realm = of_realm B B noded (λ s there. there) ascending grid;
+  noded = noded;
+  ascending = ascending;
+  even = even;
+  numbers = numbers;
+}
 
 in_order : (B : List GridSegment) → AreOfRealm B → AreInOrder B
 in_order B realm s there = (realm.on_grid s there).order
