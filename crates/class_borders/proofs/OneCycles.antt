@@ -101,14 +101,14 @@ joins_by : (p q : GridPoint) (l : Link) → ((l.from ≡ p) × (l.to ≡ q)) ⊎
 joins_by p q l (inl h) = either _ _ (inl (both_are _ _ (points_same l.from p h.0) (points_same l.to q h.1)))
 joins_by p q l (inr h) = either _ _ (inr (both_are _ _ (points_same l.from q h.0) (points_same l.to p h.1)))
 
-by_joins : (p q : GridPoint) (l : Link) → joins p q l ≡ true → ((l.from ≡ p) × (l.to ≡ q)) ⊎ ((l.from ≡ q) × (l.to ≡ p))
+pub by_joins : (p q : GridPoint) (l : Link) → joins p q l ≡ true → ((l.from ≡ p) × (l.to ≡ q)) ⊎ ((l.from ≡ q) × (l.to ≡ p))
 by_joins p q l h = elim (one_of (is_point l.from p && is_point l.to q) (is_point l.from q && is_point l.to p) h) [
   | inl a ↦ let r = both_true (is_point l.from p) (is_point l.to q) a in inl (is_point-same l.from p r.0, is_point-same l.to q r.1)
   | inr a ↦ let r = both_true (is_point l.from q) (is_point l.to p) a in inr (is_point-same l.from q r.0, is_point-same l.to p r.1)
 ]
 
 -- the ends of the segment along a link
-along_ends : (l : Link) → ((l.from ≡ (along l).a) × (l.to ≡ (along l).b)) ⊎ ((l.from ≡ (along l).b) × (l.to ≡ (along l).a))
+pub along_ends : (l : Link) → ((l.from ≡ (along l).a) × (l.to ≡ (along l).b)) ⊎ ((l.from ≡ (along l).b) × (l.to ≡ (along l).a))
 along_ends l = by (is_before l.from l.to) refl
   where
     by : (b : Bool) → is_before l.from l.to ≡ b
@@ -161,12 +161,12 @@ pub joined_by : (c : List GridPoint) (l : Link) (p q : GridPoint) → Contains (
     → 0 < times_joined p q (round c)
 joined_by c l p q there h = count_by-some (joins p q) (links (round c)) l there h
 
-first_used : (p q : GridPoint) (c : List GridPoint) (cycles : List (List GridPoint))
+pub first_used : (p q : GridPoint) (c : List GridPoint) (cycles : List (List GridPoint))
     → times_used p q (c ∷ cycles) ≡ times_joined p q (round c) + times_used p q cycles
 first_used p q c cycles = sum_by-cons (λ d. times_joined p q (round d)) c cycles
 
 -- the segment along a link of the first cycle is one of the border
-along_border : (G : List GridSegment) (c : List GridPoint) (cycles : List (List GridPoint)) (l : Link) → CutsIntoCycles G (c ∷ cycles)
+pub along_border : (G : List GridSegment) (c : List GridPoint) (cycles : List (List GridPoint)) (l : Link) → CutsIntoCycles G (c ∷ cycles)
     → Contains (links (round c)) l → Contains G (along l)
 along_border G c cycles l cut there =
     let one = joined_by c l l.from l.to there (joins_by l.from l.to l (inl (refl, refl))) in

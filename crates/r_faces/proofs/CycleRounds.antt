@@ -1,8 +1,8 @@
 -- This file shows that the one cycle between the face and a class, turned the right way, has the class on its right.
 use Rattle.std.proofs.Common.{◌≡◌, ◌≢◌, ◌⊎◌, ℕ, zero, suc, ◌+◌, ◌<◌, ◌≤◌, ◌==◌, Bool, true, false, cond, not, ◌&&◌, ◌||◌, List, [], ◌∷◌, ◌++◌}
 use Rattle.std.proofs.Common.{reverse, length, get_or, Contains, All, AllPairs, IsTrue, count_by, if◌then◌else◌, refl, sym, ap, ap₂, subst, ◌∙◌}
-use Rattle.std.proofs.Common.{arith, inl, inr}
-use Rattle.std.proofs.lemmas.List.Elements.{All-contains, Contains-append_left, Contains-append_right}
+use Rattle.std.proofs.Common.{◌↔◌, nat_lt, Result, Ok, Err, IfOk, arith, inl, inr}
+use Rattle.std.proofs.lemmas.Bool.Decides.{nat_tests}
 use Rattle.grid_base.specs.Point.{GridPoint, IsBefore, is_before, is_point}
 use Rattle.grid_base.specs.Segment.{GridSegment, IsSegmentBefore, segment_of}
 use Rattle.grid_base.specs.Sides.{Side, Left, On, Right}
@@ -16,6 +16,7 @@ use Rattle.plane_cells.specs.Numbered.{numbered}
 use Rattle.plane_cells.specs.Sheared.{AreOfRealm}
 use Rattle.plane_cells.specs.ClassNumbers.{number_at, LiesBeside, AreClassNumbers}
 use Rattle.plane_cells.specs.declared.classes.SideClasses.{SideClasses}
+use Rattle.plane_cells.proofs.OfRealm.{once_in}
 use Rattle.plane_cells.proofs.ShearedRealm.{numbered_in}
 use Rattle.r_cycles.specs.Cycles.{Link, link, links, round, joins, times_joined, IsCycle, CutsIntoCycles}
 use Rattle.r_cycles.proofs.Counts.{count_by-some, count_by-found}
@@ -26,8 +27,9 @@ use Rattle.class_borders.proofs.EvenRims.{is_alone, IsAlong, rim_number, rim_par
 use Rattle.class_borders.proofs.OneCycles.{along, along_border, first_used, by_joins, along_ends}
 use Rattle.class_borders.proofs.Aligned.{GoesWith, With, Against}
 use Rattle.class_borders.proofs.OneWays.{one_way, with_class}
-use Rattle.r_faces.specs.Rounds.{IsFaceNumber}
-use Rattle.r_faces.specs.Turned.{back_of}
+use Rattle.r_faces.specs.Rounds.{IsFaceNumber, IsRound}
+use Rattle.r_faces.specs.Turned.{IsTurned, BeginsLeast, back_of}
+use Rattle.r_faces.proofs.TurnedLinks.{cycle_turned, cycle_reversed, HaveLinks, link_was, link_is}
 
 -- ---- each segment of a class's rim lies between the class and the face
 tells : (m n : ℕ) → (m == n) ≡ true → m ≡ n
@@ -217,3 +219,155 @@ goes_along_class R N n c even cut = record { each = λ l there. each l (link_alo
 
     only : (l : Link) → Contains (links (round c)) l → Contains (class_links n R N) l ⊎ Contains (class_links n R N) (back l)
     only l there = class_link_of R N n l even (along_border (class_rim n R N) c [] l cut there)
+
+-- ---- the way of the first link
+is_true : (b : Bool) → IsTrue b → b ≡ true
+is_true true h = refl
+is_true false h = cc
+
+is_false : (b : Bool) → (IsTrue b → ⊥) → b ≡ false
+is_false true h = absurd (h refl)
+is_false false h = refl
+
+right_alone : (l r : Bool) → ((l && not r) || (r && not l)) ≡ true → r ≡ true → (r && not l) ≡ true
+right_alone true true h e = cc
+right_alone true false h e = cc
+right_alone false r h e = ap (λ (b : Bool). b && true) e
+
+left_alone : (l r : Bool) → ((l && not r) || (r && not l)) ≡ true → r ≡ false → (l && not r) ≡ true
+left_alone true true h e = cc
+left_alone true false h e = refl
+left_alone false true h e = cc
+left_alone false false h e = cc
+
+left_alone' : (l r : Bool) → ((l && not r) || (r && not l)) ≡ true → l ≡ true → (l && not r) ≡ true
+left_alone' true true h e = cc
+left_alone' true false h e = refl
+left_alone' false r h e = cc
+
+right_alone' : (l r : Bool) → ((l && not r) || (r && not l)) ≡ true → l ≡ false → (r && not l) ≡ true
+right_alone' true r h e = cc
+right_alone' false true h e = refl
+right_alone' false false h e = cc
+
+pub alone_at : (R : List GridSegment) (N : List SideClasses) (n at : ℕ) (s : GridSegment) → AllPairs IsSegmentBefore R → at < length R
+    → numbered R at ≡ s → Contains (class_rim n R N) s → is_alone n (numbers_at N at) ≡ true
+alone_at R N n at s ascending within is there =
+    let r = rim_number n R N s there in
+    let same = once_in R ascending r.0 at r.1 within (r.2 ∙ sym is) in
+    subst (λ (i : ℕ). is_alone n (numbers_at N i) ≡ true) same r.3
+
+-- what the test of the side tells
+pub record IsHere (R : List GridSegment) (N : List SideClasses) (n at : ℕ) (v w : GridPoint) : Type 0 where
+  pub even : length N ≡ length R
+  pub within : at < length R
+  pub is : numbered R at ≡ segment_of v w
+  pub alone : is_alone n (numbers_at N at) ≡ true
+
+pub on_right : (R : List GridSegment) (N : List SideClasses) (n at : ℕ) (v w : GridPoint) (b r : Bool) → IsHere R N n at v w
+    → is_before v w ≡ b → r ≡ (if b then (number_at N at Right == n) else (number_at N at Left == n)) → IsTrue r
+    → Contains (class_links n R N) (link w v)
+on_right R N n at v w true r h e f holds =
+    let s = h.is ∙ ap (λ (c : Bool). if c then (record { a = v; b = w }) else (record { a = w; b = v })) e in
+    subst (λ (t : GridSegment). Contains (class_links n R N) (link t.b t.a)) s
+    (right_link n R N at h.even h.within
+    (right_alone (number_at N at Left == n) (number_at N at Right == n) h.alone (sym f ∙ is_true r holds)))
+on_right R N n at v w false r h e f holds =
+    let s = h.is ∙ ap (λ (c : Bool). if c then (record { a = v; b = w }) else (record { a = w; b = v })) e in
+    subst (λ (t : GridSegment). Contains (class_links n R N) (link t.a t.b)) s
+    (left_link n R N at h.even h.within
+    (left_alone' (number_at N at Left == n) (number_at N at Right == n) h.alone (sym f ∙ is_true r holds)))
+
+pub on_left : (R : List GridSegment) (N : List SideClasses) (n at : ℕ) (v w : GridPoint) (b r : Bool) → IsHere R N n at v w
+    → is_before v w ≡ b → r ≡ (if b then (number_at N at Right == n) else (number_at N at Left == n)) → (IsTrue r → ⊥)
+    → Contains (class_links n R N) (link v w)
+on_left R N n at v w true r h e f none =
+    let s = h.is ∙ ap (λ (c : Bool). if c then (record { a = v; b = w }) else (record { a = w; b = v })) e in
+    subst (λ (t : GridSegment). Contains (class_links n R N) (link t.a t.b)) s
+    (left_link n R N at h.even h.within
+    (left_alone (number_at N at Left == n) (number_at N at Right == n) h.alone (sym f ∙ is_false r none)))
+on_left R N n at v w false r h e f none =
+    let s = h.is ∙ ap (λ (c : Bool). if c then (record { a = v; b = w }) else (record { a = w; b = v })) e in
+    subst (λ (t : GridSegment). Contains (class_links n R N) (link t.b t.a)) s
+    (right_link n R N at h.even h.within
+    (right_alone' (number_at N at Left == n) (number_at N at Right == n) h.alone (sym f ∙ is_false r none)))
+
+-- ---- the cycle, turned
+pub round_of : (R : List GridSegment) (N : List SideClasses) (n : ℕ) (c t : List GridPoint) (forward : Bool) (v w : GridPoint)
+    → AreOfRealm R → AreClassNumbers R N → IsCycle c → GoesAlong (class_links n R N) c → Contains (links (round c)) (link v w)
+    → (IsTrue forward → Contains (class_links n R N) (link w v)) → ((IsTrue forward → ⊥) → Contains (class_links n R N) (link v w))
+    → IsTurned (if forward then c else reverse c) t → BeginsLeast t → HaveLinks forward c t → IsRound R N n t
+round_of R N n c t true v w realm numbers is_cycle goes first right left turn least have =
+    by (with_class R N n c realm numbers is_cycle goes)
+  where
+    by : GoesWith (class_links n R N) c → IsRound R N n t
+    by (With all has) = absurd (one_way R N n (link v w) realm (all (link v w) first) (right refl))
+    by (Against all has) = record {
+      is_cycle = cycle_turned c t is_cycle turn;
+      begins_least = least;
+      only = λ l m. all l (link_was true c t l have m);
+      all = λ l m. link_is true c t l have (has (back l) m);
+    }
+round_of R N n c t false v w realm numbers is_cycle goes first right left turn least have =
+    by (with_class R N n c realm numbers is_cycle goes)
+  where
+    not_true : IsTrue false → ⊥
+    not_true e = cc
+
+    by : GoesWith (class_links n R N) c → IsRound R N n t
+    by (Against all has) = absurd (one_way R N n (link v w) realm (left not_true) (all (link v w) first))
+    by (With all has) = record {
+      is_cycle = cycle_turned (reverse c) t (cycle_reversed c is_cycle) turn;
+      begins_least = least;
+      only = λ l m. all (back l) (link_was false c t l have m);
+      all = λ l m. link_is false c t l have (has (back l) m);
+    }
+
+pub if_three : (X E : Type 0) (P Q S T : X → Type 0) (r : Result X E) → ((x : X) → P x → Q x → S x → T x) → IfOk r P → IfOk r Q → IfOk r S
+    → IfOk r T
+if_three X E P Q S T (Ok x) f p q s = f x p q s
+if_three X E P Q S T (Err e) f p q s = p
+
+pub one_is : {X : Type 0} (xs : List X) (d : X) → length xs ≡ 1 → d ≡ get_or xs 0 d → xs ≡ d ∷ []
+one_is [] d e f = absurd (omega (arith, e))
+one_is (x ∷ []) d e f = ap (λ y. y ∷ []) (sym f)
+one_is (x ∷ y ∷ xs) d e f = absurd (omega (arith, e))
+
+-- the first link of a cycle
+pub first_link : (c : List GridPoint) (v w : GridPoint) → IsCycle c → v ≡ get_or c 0 v → w ≡ get_or c 1 w
+    → Contains (links (round c)) (link v w)
+first_link [] v w h e f = absurd (omega (arith, h.three))
+first_link (a ∷ []) v w h e f = absurd (omega (arith, h.three))
+first_link (a ∷ b ∷ c) v w h e f = subst (Contains (links (round (a ∷ b ∷ c)))) (ap₂ link (sym e) (sym f))
+    (Contains-here (link a b) (links (b ∷ (c ++ a ∷ []))))
+
+-- the test of the order of points
+split_or : (b c : Bool) → (b || c) ≡ true → (b ≡ true) ⊎ (c ≡ true)
+split_or true c h = inl refl
+split_or false c h = inr h
+
+split_and : (b c : Bool) → (b && c) ≡ true → (b ≡ true) × (c ≡ true)
+split_and true c h = (refl, h)
+split_and false c h = cc
+
+less : (m n : ℕ) → nat_lt m n ≡ true → m < n
+less m n h = grind (arith, nat_tests)
+
+point_before : (v w : GridPoint) → is_before v w ≡ true → IsBefore v w
+point_before v w h = elim (split_or (nat_lt v.x w.x) ((v.x == w.x) && nat_lt v.y w.y) h) [
+  | inl e ↦ inl (less v.x w.x e)
+  | inr e ↦ let p = split_and (v.x == w.x) (nat_lt v.y w.y) e in inr (tells v.x w.x p.0, less v.y w.y p.1)
+]
+
+pub before_is : (v w : GridPoint) (b : Bool) → IsTrue b ↔ IsBefore v w → is_before v w ≡ b
+before_is v w true h = let before = h.0 refl in grind (arith, nat_tests, before)
+before_is v w false h = by (is_before v w) refl
+  where
+    by : (c : Bool) → is_before v w ≡ c → is_before v w ≡ false
+    by false e = e
+    by true e =
+        let before : IsBefore v w = point_before v w e in
+        absurd (never (h.1 before))
+      where
+        never : IsTrue false → ⊥
+        never x = cc

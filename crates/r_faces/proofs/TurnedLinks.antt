@@ -53,14 +53,14 @@ cycle_turned c t h turn = record {
 }
   where
     longer : (A B : List GridPoint) → length (A ++ B) ≡ length A + length B
-    longer [] B = refl
+    longer [] B = omega arith
     longer (v ∷ A) B = let r = longer A B in omega (arith, r)
 
 pub cycle_reversed : (c : List GridPoint) → IsCycle c → IsCycle (reverse c)
 cycle_reversed c h = record { three = omega (arith, h.three, as_long c); once = apart_reversed c h.once }
   where
     longer : (A B : List GridPoint) → length (A ++ B) ≡ length A + length B
-    longer [] B = refl
+    longer [] B = omega arith
     longer (v ∷ A) B = let r = longer A B in omega (arith, r)
 
     as_long : (c : List GridPoint) → length (reverse c) ≡ length c

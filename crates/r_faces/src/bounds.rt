@@ -1,6 +1,6 @@
 //! A face by its rim: the border to the outside, and one to each part that it encloses.
 ghost use Rattle.std.specs.Prelude.{◌≡◌, ◌≢◌, ◌⊎◌, ℕ, ◌<◌, ◌≤◌, All, AllPairs, Contains, IfOk, IsTrue, length, slice_index};
-ghost use Rattle.std.specs.Prelude.{if◌then◌else◌};
+ghost use Rattle.std.specs.Prelude.{◌==◌, if◌then◌else◌};
 ghost use Rattle.grid_base.specs.Segment.{GridSegment, IsSegmentBefore, segment_of};
 ghost use Rattle.grid_base.specs.Sides.{Left, Right};
 ghost use Rattle.grid_base.specs.Plane.{Place};
@@ -62,10 +62,20 @@ fn is_on_right(
     match Segment::new(v, w) {
         Some(s) => {
             let class = classes[place_of(rim, &s)];
-            let other = if v < w { class.right } else { class.left };
-            other == number
+            is_right(class, number, v.comes_before(&w))
         }
         None => false,
+    }
+}
+
+// Whether the number is that of the right side where `forward`, and else whether it is that of the left one.
+fn is_right(class: SideClasses, number: u64, forward: bool) -> bool
+    ensures { result ≡ (if forward then (class.right == number) else (class.left == number)) }
+{
+    if forward {
+        class.right == number
+    } else {
+        class.left == number
     }
 }
 
