@@ -52,7 +52,7 @@ known B N noded ascending even grid numbers = record {
   numbers = numbers;
 }
 
-in_order : (B : List GridSegment) → AreOfRealm B → AreInOrder B
+pub in_order : (B : List GridSegment) → AreOfRealm B → AreInOrder B
 in_order B realm s there = (realm.on_grid s there).order
 
 left_off : Left ≡ On → ⊥
@@ -65,7 +65,7 @@ false_is_not : IsTrue false → ⊥
 false_is_not e = cc
 
 -- of the two sides one is odd
-differ : (B : List GridSegment) (N : List SideClasses) (i : ℕ) (p q : Place) → IsKnown B N → i < length B
+pub differ : (B : List GridSegment) (N : List SideClasses) (i : ℕ) (p q : Place) → IsKnown B N → i < length B
     → IsBeside B (numbered B i) Left p → IsBeside B (numbered B i) Right q → Odd B p ↔ (Odd B q → ⊥)
 differ B N i p q k hi left right =
     let there = numbered_in B i hi in

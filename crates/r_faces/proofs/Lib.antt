@@ -18,3 +18,5 @@ pub mod FaceRims
 pub mod CycleRounds
 -- the links of turned cycles
 pub mod TurnedLinks
+-- the borders of a face
+pub mod FaceBounds
