@@ -1,6 +1,6 @@
 -- This file shows that the cycles round the classes beyond a face are its borders.
 use Rattle.std.proofs.Common.{◌≡◌, ◌≢◌, ◌⊎◌, ◌↔◌, ℕ, zero, suc, ◌+◌, ◌<◌, ◌≤◌, ◌==◌, Bool, true, false, not, ◌&&◌, ◌||◌, if◌then◌else◌}
-use Rattle.std.proofs.Common.{List, [], ◌∷◌, length, slice_index, get_or, Contains, All, Any, refl, sym, ap, subst, ◌∙◌, arith, inl, inr}
+use Rattle.std.proofs.Common.{List, [], ◌∷◌, ◌++◌, length, slice_index, get_or, Contains, All, Any, refl, sym, ap, subst, ◌∙◌, arith, inl, inr}
 use Rattle.std.specs.List.Sorted.{IsStrictlyIncreasing}
 use Rattle.std.proofs.lemmas.List.Elements.{Contains-get_or}
 use Rattle.std.proofs.lemmas.List.Kept.{AllPairs-from_increasing}
@@ -11,21 +11,23 @@ use Rattle.grid_base.specs.Plane.{Place, IsFree, IsBeside}
 use Rattle.grid_base.specs.Odd.{Odd}
 use Rattle.grid_base.proofs.Elements.{same_place}
 use Rattle.plane_classes.specs.Classes.{AreInOneClass, IsOuter}
-use Rattle.plane_classes.proofs.ClassLemmas.{one_class_back, one_class_joined}
+use Rattle.plane_classes.proofs.ClassLemmas.{one_class_back, one_class_joined, itself_in_class}
 use Rattle.plane_classes.proofs.Counts.{one_parity}
-use Rattle.plane_classes.proofs.Outer.{outer_is_even}
+use Rattle.plane_classes.proofs.Outer.{outer_is_even, outer_goes_on}
 use Rattle.plane_cells.specs.Numbered.{nowhere, numbered}
-use Rattle.plane_cells.specs.ClassNumbers.{number_at, LiesBeside, AreClassNumbers}
+use Rattle.plane_cells.specs.ClassNumbers.{number_at, LiesBeside, IsBySome, AreClassNumbers}
 use Rattle.plane_cells.specs.declared.classes.SideClasses.{SideClasses}
 use Rattle.plane_cells.proofs.ShearedRealm.{numbered_in, number_of}
 use Rattle.plane_cells.proofs.ShearedSides.{free_beside}
 use Rattle.r_cycles.specs.Cycles.{Link, link, links, round}
 use Rattle.r_blocks.specs.Places.{those}
+use Rattle.r_blocks.proofs.AtPlaces.{those_have}
 use Rattle.class_borders.specs.ClassLinks.{is_left_alone, is_right_alone, class_links, class_rim}
 use Rattle.class_borders.specs.ClassBorders.{back}
 use Rattle.class_borders.proofs.LinkCounts.{numbers_at}
 use Rattle.class_borders.proofs.EvenRims.{is_alone, IsAlong, link_along, left_link, right_link}
 use Rattle.r_faces.specs.FaceCycles.{HasBeside, RunsBetween, IsBorderCycle, IsEnclosed}
+use Rattle.r_faces.specs.Parted.{AreKeys}
 use Rattle.r_faces.specs.Rims.{IsInside}
 use Rattle.r_faces.specs.Rounds.{AreBeyond, IsFaceNumber, IsRound}
 use Rattle.r_faces.proofs.FaceRims.{IsKnown, in_order, differ, those_alone}
@@ -319,3 +321,200 @@ class_says R N m j e y p c at one is i d q lies =
       λ f. one_class_joined R y p q one (one_class_back R q p (t.0 (f ∙ sym is))),
       λ same. t.1 (one_class_joined R q y p (one_class_back R y q same) one) ∙ is,
     )
+
+-- ---- the classes beyond the face, by their keys
+pub record IsCut (R : List GridSegment) (N : List SideClasses) (face : ℕ) (U keys : List ℕ) : Type 0 where
+  pub known : IsKnown R N
+  pub key : IsFaceKey R N face
+  pub beyond : AreBeyond N face (length R) U
+  pub keys_are : AreKeys U keys
+
+abbrev pub HasOuterRight : List SideClasses → ℕ → Type 0
+HasOuterRight N face = (i : ℕ) × (i < length N) × (number_at N i Right ≡ 0) × (face ≡ number_at N i Left)
+
+pub cut_of : (R : List GridSegment) (N N2 N3 : List SideClasses) (face : ℕ) (U U4 keys : List ℕ) → IsKnown R N → N2 ≡ N → N3 ≡ N → U4 ≡ U
+    → HasOuterRight N2 face → AreBeyond N3 face (length N3) U → AreKeys U4 keys → IsCut R N face U keys
+cut_of R N N2 N3 face U U4 keys k e f g outer beyond of_keys =
+    let o = subst (λ (M : List SideClasses). HasOuterRight M face) e outer in
+    let b = subst (λ (M : List SideClasses). AreBeyond M face (length M) U) f beyond in
+    record {
+      known = k;
+      key = record { at = o.0; within = omega (arith, o.1, k.numbers.one_each); outer = o.2; is = o.3 };
+      beyond = subst (λ (n : ℕ). AreBeyond N face n U) k.numbers.one_each b;
+      keys_are = subst (λ (V : List ℕ). AreKeys V keys) g of_keys;
+    }
+
+-- a key is the number beyond the face at some segment
+pub key_comes : (R : List GridSegment) (N : List SideClasses) (face : ℕ) (U keys : List ℕ) (k : ℕ) → IsCut R N face U keys → k < length keys
+    → (i : ℕ) × (i < length R) × (slice_index U i ≡ slice_index keys k)
+key_comes R N face U keys k h within =
+    let there = (h.keys_are.same (slice_index keys k)).0 (Contains-get_or keys k 0 within) in
+    (there.0, omega (arith, there.1, h.beyond.one_each), same_place U there.0 0 (slice_index keys k) there.1 ∙ there.2)
+
+pub key_other : (R : List GridSegment) (N : List SideClasses) (z : Place) (face : ℕ) (U keys : List ℕ) (k : ℕ) → IsCut R N face U keys
+    → IsInside R z → k < length keys → slice_index keys k ≢ face
+key_other R N z face U keys k h inside within e =
+    let i = key_comes R N face U keys k h within in
+    beyond_other R N U face i.0 (face_number_is R N z face h.key h.known inside) h.beyond i.1 (i.2 ∙ e)
+
+pub zero_key : (R : List GridSegment) (N : List SideClasses) (face : ℕ) (U keys : List ℕ) → IsCut R N face U keys → Contains keys 0
+zero_key R N face U keys h =
+    let hi : h.key.at < length U = omega (arith, h.key.within, h.beyond.one_each) in
+    (h.keys_are.same 0).1 (h.key.at, hi, same_place U h.key.at 0 0 hi ∙ zero_beyond R N U face h.key h.beyond)
+
+pub some_of_key : (R : List GridSegment) (N : List SideClasses) (face : ℕ) (U keys : List ℕ) (k : ℕ) → IsCut R N face U keys
+    → k < length keys → 0 < length (those (slice_index keys k) U R)
+some_of_key R N face U keys k h within =
+    let i = key_comes R N face U keys k h within in
+    let has = those_have (slice_index keys k) U R i.0 nowhere h.beyond.one_each i.1 i.2 in omega (arith, has.1)
+
+pub rim_of_key : (R : List GridSegment) (N : List SideClasses) (z : Place) (face : ℕ) (U keys : List ℕ) (k : ℕ) → IsCut R N face U keys
+    → IsInside R z → k < length keys → those (slice_index keys k) U R ≡ class_rim (slice_index keys k) R N
+rim_of_key R N z face U keys k h inside within =
+    beyond_rim R N U face (slice_index keys k) h.known.numbers (face_number_is R N z face h.key h.known inside) h.beyond
+    (key_other R N z face U keys k h inside within)
+
+-- ---- the cycles of the keys
+abbrev pub AreRounds : List GridSegment → List SideClasses → List ℕ → List (List GridPoint) → Type 0
+AreRounds R N keys cycles = (k : ℕ) (d : List GridPoint) → k < length cycles → IsRound R N (slice_index keys k) (get_or cycles k d)
+
+pub outer_of : (R : List GridSegment) (N : List SideClasses) (z : Place) (face : ℕ) (U keys : List ℕ) (cycles : List (List GridPoint))
+    (outer : List GridPoint) → IsCut R N face U keys → IsInside R z → length cycles ≡ length keys → AreRounds R N keys cycles
+    → outer ≡ get_or cycles 0 outer → IsBorderCycle R z (IsOuter R) outer
+outer_of R N z face U keys cycles outer h inside e rounds is =
+    let zero_in = zero_key R N face U keys h in
+    let first = first_is_zero keys h.keys_are.ascending zero_in in
+    let within : 0 < length keys = omega (arith, zero_in.1) in
+    let round = subst (λ (m : ℕ). IsRound R N m (get_or cycles 0 outer)) first (rounds 0 outer (omega (arith, within, e))) in
+    border_cycle R N z face 0 (IsOuter R) outer h.key h.known inside
+    (λ f. key_other R N z face U keys 0 h inside within (first ∙ f)) (outer_says R N h.known.numbers)
+    (subst (IsRound R N 0) (sym is) round)
+
+-- the number of an enclosed place
+enclosed_number : (R : List GridSegment) (N : List SideClasses) (z y : Place) (face : ℕ) (U keys : List ℕ) → IsCut R N face U keys
+    → IsInside R z → IsEnclosed R z y
+    → (m : ℕ) × (m ≢ 0) × Contains keys m × Says R N m (AreInOneClass R y)
+enclosed_number R N z y face U keys h inside enc = by (h.known.numbers.each_class y enc.free)
+  where
+    by : IsOuter R y ⊎ IsBySome R y
+        → (m : ℕ) × (m ≢ 0) × Contains keys m × Says R N m (AreInOneClass R y)
+    by (inl outer) = absurd (enc.not_outer outer)
+    by (inr (i, d, p, lies, one)) = (
+      number_at N i d,
+      (λ e. enc.not_outer (outer_goes_on R p y ((h.known.numbers.outer i d p lies).0 e) (one_class_back R y p one))),
+      (h.keys_are.same (number_at N i d)).1 there,
+      class_says R N (number_at N i d) i d y p h.known.numbers lies one refl,
+    )
+      where
+        off_face : number_at N i d ≡ face → ⊥
+        off_face e = enc.not_of_face (one_class_joined R z p y ((face_tells R N z face h.key h.known inside i d p lies).0 e)
+            (one_class_back R y p one))
+
+        is : slice_index U i ≡ number_at N i d
+        is = go d lies.sided off_face (beyond_is R N U face i (face_number_is R N z face h.key h.known inside) h.beyond lies.within)
+          where
+            go : (d : Side) → (d ≡ On → ⊥) → (number_at N i d ≡ face → ⊥)
+                → ((number_at N i Left ≡ face) × (slice_index U i ≡ number_at N i Right) × (number_at N i Right ≢ face))
+                ⊎ ((number_at N i Right ≡ face) × (slice_index U i ≡ number_at N i Left) × (number_at N i Left ≢ face))
+                → slice_index U i ≡ number_at N i d
+            go Left off none (inl a) = absurd (none a.0)
+            go Left off none (inr a) = a.1
+            go On off none a = absurd (off refl)
+            go Right off none (inl a) = a.1
+            go Right off none (inr a) = absurd (none a.0)
+
+        there : Contains U (number_at N i d)
+        there =
+            let hi : i < length U = omega (arith, lies.within, h.beyond.one_each) in
+            (i, hi, same_place U i (number_at N i d) 0 hi ∙ is)
+
+-- each enclosed class has a cycle behind the first
+pub hole_of : (R : List GridSegment) (N : List SideClasses) (z y : Place) (face : ℕ) (U keys : List ℕ) (cycles : List (List GridPoint))
+    → IsCut R N face U keys → IsInside R z → length cycles ≡ length keys → AreRounds R N keys cycles → IsEnclosed R z y
+    → (k : ℕ) × (suc k < length cycles) × ((d : List GridPoint) → IsBorderCycle R z (AreInOneClass R y) (get_or cycles (suc k) d))
+hole_of R N z y face U keys cycles h inside e rounds enc = by (enclosed_number R N z y face U keys h inside enc)
+  where
+    by : (m : ℕ) × (m ≢ 0) × Contains keys m × Says R N m (AreInOneClass R y)
+        → (k : ℕ) × (suc k < length cycles) × ((d : List GridPoint) → IsBorderCycle R z (AreInOneClass R y) (get_or cycles (suc k) d))
+    by (m, not_zero, (zero, within, is), says) =
+        absurd (not_zero (sym is ∙ same_place keys 0 m 0 within ∙ first_is_zero keys h.keys_are.ascending (zero_key R N face U keys h)))
+    by (m, not_zero, (suc k, within, is), says) =
+        let at = same_place keys (suc k) 0 m within ∙ is in (
+          k,
+          omega (arith, within, e),
+          λ d. border_cycle R N z face m (AreInOneClass R y) (get_or cycles (suc k) d) h.key h.known inside
+              (λ f. key_other R N z face U keys (suc k) h inside within (at ∙ f)) says
+              (subst (λ (n : ℕ). IsRound R N n (get_or cycles (suc k) d)) at (rounds (suc k) d (omega (arith, within, e)))),
+        )
+
+-- and each cycle behind the first is that of an enclosed class
+pub of_hole : (R : List GridSegment) (N : List SideClasses) (z : Place) (face : ℕ) (U keys : List ℕ) (cycles : List (List GridPoint)) (k : ℕ)
+    (hole : List GridPoint) → IsCut R N face U keys → IsInside R z → length cycles ≡ length keys → AreRounds R N keys cycles
+    → suc k < length cycles → get_or cycles (suc k) hole ≡ hole
+    → (y : Place) × IsEnclosed R z y × IsBorderCycle R z (AreInOneClass R y) hole
+of_hole R N z face U keys cycles k hole h inside e rounds within is = by (beyond_is R N U face i.0 two h.beyond i.1)
+  where
+    in_keys : suc k < length keys
+    in_keys = omega (arith, within, e)
+
+    m : ℕ
+    m = slice_index keys (suc k)
+
+    two : IsFaceNumber R N face
+    two = face_number_is R N z face h.key h.known inside
+
+    i : (i : ℕ) × (i < length R) × (slice_index U i ≡ m)
+    i = key_comes R N face U keys (suc k) h in_keys
+
+    not_zero : m ≡ 0 → ⊥
+    not_zero f =
+        let l = AllPairs-from_increasing keys h.keys_are.ascending 0 (suc k) 0 (omega arith) in_keys in omega (arith, l, f)
+
+    at : (d : Side) → (d ≡ On → ⊥) → number_at N i.0 d ≡ m
+        → (y : Place) × IsEnclosed R z y × IsBorderCycle R z (AreInOneClass R y) hole
+    at d off f = (p.0, enclosed, border_cycle R N z face m (AreInOneClass R p.0) hole h.key h.known inside
+        (key_other R N z face U keys (suc k) h inside in_keys)
+        (class_says R N m i.0 d p.0 p.0 h.known.numbers p.1 (itself_in_class R p.0 free) f)
+        (subst (IsRound R N m) is (rounds (suc k) hole within)))
+      where
+        p : (u : Place) × LiesBeside R i.0 d u
+        p = h.known.numbers.some i.0 d i.1 off
+
+        free : IsFree R p.0
+        free = free_beside R (numbered R i.0) d p.0 p.1.beside
+
+        enclosed : IsEnclosed R z p.0
+        enclosed = record {
+          free = free;
+          not_outer = λ o. not_zero (sym f ∙ (h.known.numbers.outer i.0 d p.0 p.1).1 o);
+          not_of_face = λ one. key_other R N z face U keys (suc k) h inside in_keys
+              (sym f ∙ (face_tells R N z face h.key h.known inside i.0 d p.0 p.1).1 one);
+        }
+
+    by : ((number_at N i.0 Left ≡ face) × (slice_index U i.0 ≡ number_at N i.0 Right) × (number_at N i.0 Right ≢ face))
+        ⊎ ((number_at N i.0 Right ≡ face) × (slice_index U i.0 ≡ number_at N i.0 Left) × (number_at N i.0 Left ≢ face))
+        → (y : Place) × IsEnclosed R z y × IsBorderCycle R z (AreInOneClass R y) hole
+    by (inl a) = at Right right_off (sym a.1 ∙ i.2)
+    by (inr a) = at Left left_off (sym a.1 ∙ i.2)
+
+-- ---- one cycle more
+pub one_more_round : {X : Type 0} (P : ℕ → X → Type 0) (l more : List X) (x : X) (k : ℕ) → more ≡ l ++ x ∷ [] → length l ≡ k → P k x
+    → ((j : ℕ) (d : X) → j < length l → P j (get_or l j d))
+    → (length more ≡ k + 1) × ((j : ℕ) (d : X) → j < length more → P j (get_or more j d))
+one_more_round {X} P l more x k e n here so_far = (
+  ap (λ (m : List X). length m) e ∙ longer l ∙ ap (λ (m : ℕ). m + 1) n,
+  subst (λ (m : List X). (j : ℕ) (d : X) → j < length m → P j (get_or m j d)) (sym e) (λ j d within. at l j d P so_far (subst (λ (m : ℕ). P m x)
+      (sym n) here) within),
+)
+  where
+    longer : (l : List X) → length (l ++ x ∷ []) ≡ length l + 1
+    longer [] = refl
+    longer (y ∷ l) = let r = longer l in omega (arith, r)
+
+    at : (l : List X) (j : ℕ) (d : X) (Q : ℕ → X → Type 0) → ((j : ℕ) (d : X) → j < length l → Q j (get_or l j d)) → Q (length l) x
+        → j < length (l ++ x ∷ []) → Q j (get_or (l ++ x ∷ []) j d)
+    at [] zero d Q all last within = last
+    at [] (suc j) d Q all last within = absurd (omega (arith, within))
+    at (y ∷ l) zero d Q all last within = all 0 d (omega arith)
+    at (y ∷ l) (suc j) d Q all last within =
+        at l j d (λ m. Q (suc m)) (λ m e h. all (suc m) e (omega (arith, h))) last (omega (arith, within))
