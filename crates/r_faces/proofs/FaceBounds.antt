@@ -1,15 +1,15 @@
 -- This file shows that the cycles round the classes beyond a face are its borders.
 use Rattle.std.proofs.Common.{◌≡◌, ◌≢◌, ◌⊎◌, ◌↔◌, ℕ, zero, suc, ◌+◌, ◌<◌, ◌≤◌, ◌==◌, Bool, true, false, not, ◌&&◌, ◌||◌, if◌then◌else◌}
-use Rattle.std.proofs.Common.{List, [], ◌∷◌, ◌++◌, length, slice_index, get_or, Contains, All, Any, refl, sym, ap, subst, ◌∙◌, arith, inl, inr}
+use Rattle.std.proofs.Common.{List, [], ◌∷◌, ◌++◌, length, slice_index, get_or, remove, Contains, AllPairs, refl, sym, ap, subst, ◌∙◌, arith, inl, inr}
 use Rattle.std.specs.List.Sorted.{IsStrictlyIncreasing}
 use Rattle.std.proofs.lemmas.List.Elements.{Contains-get_or}
 use Rattle.std.proofs.lemmas.List.Kept.{AllPairs-from_increasing}
-use Rattle.grid_base.specs.Point.{GridPoint}
+use Rattle.grid_base.specs.Point.{GridPoint, IsBefore}
 use Rattle.grid_base.specs.Segment.{GridSegment}
 use Rattle.grid_base.specs.Sides.{Side, Left, On, Right}
 use Rattle.grid_base.specs.Plane.{Place, IsFree, IsBeside}
 use Rattle.grid_base.specs.Odd.{Odd}
-use Rattle.grid_base.proofs.Elements.{same_place}
+use Rattle.grid_base.proofs.Elements.{Contains-here, same_place}
 use Rattle.plane_classes.specs.Classes.{AreInOneClass, IsOuter}
 use Rattle.plane_classes.proofs.ClassLemmas.{one_class_back, one_class_joined, itself_in_class}
 use Rattle.plane_classes.proofs.Counts.{one_parity}
@@ -19,7 +19,7 @@ use Rattle.plane_cells.specs.ClassNumbers.{number_at, LiesBeside, IsBySome, AreC
 use Rattle.plane_cells.specs.declared.classes.SideClasses.{SideClasses}
 use Rattle.plane_cells.proofs.ShearedRealm.{numbered_in, number_of}
 use Rattle.plane_cells.proofs.ShearedSides.{free_beside}
-use Rattle.r_cycles.specs.Cycles.{Link, link, links, round}
+use Rattle.r_cycles.specs.Cycles.{Link, link, links, round, IsCycle}
 use Rattle.r_blocks.specs.Places.{those}
 use Rattle.r_blocks.proofs.AtPlaces.{those_have}
 use Rattle.class_borders.specs.ClassLinks.{is_left_alone, is_right_alone, class_links, class_rim}
@@ -518,3 +518,90 @@ one_more_round {X} P l more x k e n here so_far = (
     at (y ∷ l) zero d Q all last within = all 0 d (omega arith)
     at (y ∷ l) (suc j) d Q all last within =
         at l j d (λ m. Q (suc m)) (λ m e h. all (suc m) e (omega (arith, h))) last (omega (arith, within))
+
+-- ---- different classes have different cycles
+not_both_ways : (p q : GridPoint) → IsBefore p q → IsBefore q p → ⊥
+not_both_ways p q (inl h) (inl k) = omega (arith, h, k)
+not_both_ways p q (inl h) (inr k) = omega (arith, h, k.0)
+not_both_ways p q (inr h) (inl k) = omega (arith, h.0, k)
+not_both_ways p q (inr h) (inr k) = omega (arith, h.1, k.1)
+
+one_segment : (s t : GridSegment) → s.a ≡ t.a → s.b ≡ t.b → s ≡ t
+one_segment s t e f = ap (λ (p : GridPoint). record { a = p; b = s.b }) e ∙ ap (λ (p : GridPoint). record { a = t.a; b = p }) f
+
+link_class : (R : List GridSegment) (N : List SideClasses) (m n : ℕ) (l : Link) → IsKnown R N → Contains (class_links m R N) l
+    → Contains (class_links n R N) l → m ≡ n
+link_class R N m n l k there again = by (link_along m R N l there) (link_along n R N l again)
+  where
+    by : IsAlong m R N l → IsAlong n R N l → m ≡ n
+    by a b = ways a.leads b.leads
+      where
+        s : GridSegment
+        s = numbered R a.place
+
+        t : GridSegment
+        t = numbered R b.place
+
+        order_s : IsBefore s.a s.b
+        order_s = in_order R k.realm s (numbered_in R a.place a.within)
+
+        order_t : IsBefore t.a t.b
+        order_t = in_order R k.realm t (numbered_in R b.place b.within)
+
+        place : s ≡ t → a.place ≡ b.place
+        place e = k.realm.once a.place b.place a.within b.within e
+
+        ways : ((is_left_alone m (numbers_at N a.place) ≡ true) × (l ≡ link s.a s.b))
+            ⊎ ((is_right_alone m (numbers_at N a.place) ≡ true) × (l ≡ link s.b s.a))
+            → ((is_left_alone n (numbers_at N b.place) ≡ true) × (l ≡ link t.a t.b))
+            ⊎ ((is_right_alone n (numbers_at N b.place) ≡ true) × (l ≡ link t.b t.a)) → m ≡ n
+        ways (inl x) (inl y) =
+            let e = sym x.1 ∙ y.1 in
+            let same = place (one_segment s t (ap (λ (j : Link). j.from) e) (ap (λ (j : Link). j.to) e)) in
+            sym (tells (number_at N a.place Left) m (both_true _ _ x.0)) ∙ ap (λ (i : ℕ). number_at N i Left) same
+            ∙ tells (number_at N b.place Left) n (both_true _ _ y.0)
+        ways (inl x) (inr y) =
+            let e = sym x.1 ∙ y.1 in
+            absurd (not_both_ways s.a s.b order_s (subst (λ (p : GridPoint). IsBefore p s.a) (sym (ap (λ (j : Link). j.to) e))
+            (subst (λ (p : GridPoint). IsBefore t.a p) (sym (ap (λ (j : Link). j.from) e)) order_t)))
+        ways (inr x) (inl y) =
+            let e = sym x.1 ∙ y.1 in
+            absurd (not_both_ways s.a s.b order_s (subst (λ (p : GridPoint). IsBefore p s.a) (sym (ap (λ (j : Link). j.from) e))
+            (subst (λ (p : GridPoint). IsBefore t.a p) (sym (ap (λ (j : Link). j.to) e)) order_t)))
+        ways (inr x) (inr y) =
+            let e = sym x.1 ∙ y.1 in
+            let same = place (one_segment s t (ap (λ (j : Link). j.to) e) (ap (λ (j : Link). j.from) e)) in
+            sym (tells (number_at N a.place Right) m (both_true _ _ x.0)) ∙ ap (λ (i : ℕ). number_at N i Right) same
+            ∙ tells (number_at N b.place Right) n (both_true _ _ y.0)
+
+pub some_link : (c : List GridPoint) → IsCycle c → (l : Link) × Contains (links (round c)) l
+some_link [] h = absurd (omega (arith, h.three))
+some_link (v ∷ []) h = absurd (omega (arith, h.three))
+some_link (v ∷ w ∷ c) h = (link v w, Contains-here (link v w) (links (w ∷ (c ++ v ∷ []))))
+
+round_number : (R : List GridSegment) (N : List SideClasses) (m n : ℕ) (c : List GridPoint) → IsKnown R N → IsRound R N m c
+    → IsRound R N n c → m ≡ n
+round_number R N m n c k h g =
+    let l = some_link c h.is_cycle in link_class R N m n (back l.0) k (h.only l.0 l.1) (g.only l.0 l.1)
+
+pub cycles_apart : (R : List GridSegment) (N : List SideClasses) (face : ℕ) (U keys : List ℕ) (cycles : List (List GridPoint))
+    → IsCut R N face U keys → length cycles ≡ length keys → AreRounds R N keys cycles → AllPairs (λ c d. c ≢ d) cycles
+cycles_apart R N face U keys cycles h e rounds i j d before within same =
+    let first = rounds i d (omega (arith, before, within)) in
+    let second = subst (IsRound R N (slice_index keys j)) (sym same) (rounds j d within) in
+    let one = round_number R N (slice_index keys i) (slice_index keys j) (get_or cycles i d) h.known first second in
+    let less = AllPairs-from_increasing keys h.keys_are.ascending i j 0 before (omega (arith, within, e)) in
+    omega (arith, one, less)
+
+-- ---- those behind the first
+pub rest_at : {X : Type 0} (xs : List X) (k : ℕ) (d : X) → get_or (remove xs 0) k d ≡ get_or xs (suc k) d
+rest_at [] k d = refl
+rest_at (x ∷ xs) k d = refl
+
+pub rest_long : {X : Type 0} (xs : List X) → 0 < length xs → length (remove xs 0) + 1 ≡ length xs
+rest_long [] h = absurd (omega (arith, h))
+rest_long (x ∷ xs) h = omega arith
+
+pub rest_apart : {X : Type 0} (P : X → X → Type 0) (xs : List X) → AllPairs P xs → AllPairs P (remove xs 0)
+rest_apart P [] h i j d before within = h i j d before within
+rest_apart P (x ∷ xs) h i j d before within = h (suc i) (suc j) d (omega (arith, before)) (omega (arith, within))

@@ -362,7 +362,7 @@ rims_apart B K m n s realm there again =
     sym a.place ∙ ap (slice_index K) same ∙ b.place
 
 -- ---- one number more
-at_zip : {X Y : Type 0} (R : X → Y → Type 0) (xs : List X) (ys : List Y) (i : ℕ) (d : X) (e : Y) → AllZip R xs ys → i < length xs
+pub at_zip : {X Y : Type 0} (R : X → Y → Type 0) (xs : List X) (ys : List Y) (i : ℕ) (d : X) (e : Y) → AllZip R xs ys → i < length xs
     → R (get_or xs i d) (get_or ys i e)
 at_zip R [] [] i d e h l = absurd (omega (arith, l))
 at_zip R [] (y ∷ ys) i d e h l = absurd h

@@ -20,3 +20,7 @@ pub mod CycleRounds
 pub mod TurnedLinks
 -- the borders of a face
 pub mod FaceBounds
+-- sorted lists of different lists
+pub mod ListsApart
+-- the faces of a region
+pub mod FaceLists

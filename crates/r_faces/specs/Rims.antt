@@ -9,7 +9,8 @@ use Rattle.rose_values.specs.Areas.{IsInteriorPoint}
 use Rattle.plane_classes.specs.Classes.{AreInOneClass}
 use Rattle.plane_cells.specs.ClassNumbers.{number_at, LiesBeside}
 use Rattle.plane_cells.specs.declared.classes.SideClasses.{SideClasses}
-use Rattle.r_faces.specs.FaceCycles.{HasBeside, IsRim}
+use Rattle.r_faces.specs.FaceCycles.{HasBeside, IsRim, IsBounded}
+use Rattle.r_faces.specs.declared.face.Face.{Face}
 
 -- z is in the face inside the rim: an odd place whose class each segment of the rim has on one side
 pub record IsInside (rim : List GridSegment) (z : Place) : Type 0 where
@@ -50,3 +51,7 @@ pub record HasOddNumber (border : List GridSegment) (numbers : List SideClasses)
 pub record AreOddSides (border : List GridSegment) (numbers : List SideClasses) (k : ℕ) (list : List ℕ) : Type 0 where
   pub one_each : length list ≡ k
   pub each : (i : ℕ) → i < k → HasOddNumber border numbers i (slice_index list i)
+
+-- the face is that of each place inside the rim
+abbrev pub IsWithin : List GridSegment → Face → Type 0
+IsWithin rim face = (z : Place) → IsInside rim z → IsBounded rim z face
