@@ -1,4 +1,4 @@
--- The cycles of the faces of a region: what a list of faces has to be. No contract cites this file yet.
+-- The cycles of the faces of a region: what a list of faces has to be.
 use Rattle.std.specs.Prelude.{◌≡◌, ◌≢◌, ◌⊎◌, List, Contains, All, AllPairs, Any}
 use Rattle.grid_base.specs.Point.{GridPoint}
 use Rattle.grid_base.specs.Segment.{GridSegment}
@@ -43,17 +43,21 @@ pub record IsEnclosed (rim : List GridSegment) (z y : Place) : Type 0 where
   pub not_outer : IsOuter rim y → ⊥
   pub not_of_face : AreInOneClass rim z y → ⊥
 
--- the face of z, by its border to the outer class and one to each enclosed class
-pub record IsFaceOf (border : List GridSegment) (z : Place) (face : Face) : Type 0 where
-  pub interior : IsInteriorPoint border z
-  pub rim : List GridSegment
-  pub is_rim : IsRim border z rim
+-- the face of z within its rim, by its border to the outer class and one to each enclosed class
+pub record IsBounded (rim : List GridSegment) (z : Place) (face : Face) : Type 0 where
   pub outer_cycle : IsBorderCycle rim z (IsOuter rim) face.outer
   pub only : (hole : List GridPoint) → Contains face.holes.items hole
       → (y : Place) × IsEnclosed rim z y × IsBorderCycle rim z (AreInOneClass rim y) hole
   pub each : (y : Place) → IsEnclosed rim z y
       → Any (IsBorderCycle rim z (AreInOneClass rim y)) face.holes.items
   pub ascending : AllPairs IsListBefore face.holes.items
+
+-- the face of z, which is an interior place of the region, by its rim
+pub record IsFaceOf (border : List GridSegment) (z : Place) (face : Face) : Type 0 where
+  pub interior : IsInteriorPoint border z
+  pub rim : List GridSegment
+  pub is_rim : IsRim border z rim
+  pub bounded : IsBounded rim z face
 
 -- the list has the faces of the region with this border, each once, in the order of their outer cycles
 pub record AreFaces (border : List GridSegment) (faces : List Face) : Type 0 where

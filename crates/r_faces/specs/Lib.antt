@@ -4,5 +4,11 @@ pub mod Turned
 pub mod Faces
 -- the numbers of the classes of faces, for this crate's own proofs
 pub mod OddNumbers
--- the cycles of faces: what a list of faces has to be, which no contract cites yet
+-- the cycles of faces: what a list of faces has to be
 pub mod FaceCycles
+-- segments in parts by numbers, for this crate's own proofs
+pub mod Parted
+-- the rims of faces, for this crate's own proofs
+pub mod Rims
+-- cycles round classes, for this crate's own proofs
+pub mod Rounds

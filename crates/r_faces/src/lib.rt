@@ -2,14 +2,19 @@
 //! Begin at `number_of_faces`, `turned` and `in_order`.
 #![tactic(auto)]
 
+mod bounds;
 mod face;
+mod listing;
 mod number;
 mod ordering;
+mod parts;
+mod rims;
 #[cfg(test)]
 mod tests;
 mod turning;
 
 pub use face::Face;
+pub use listing::faces;
 pub use number::number_of_faces;
 pub use ordering::{faces_in_order, in_order};
 pub use turning::turned;

@@ -77,7 +77,7 @@ fn add_if(numbers: &mut Vec<u64>, wanted: bool, number: u64) -> Result<(), NoMem
 }
 
 // The numbers in ascending order, each once.
-fn distinct(mut numbers: Vec<u64>) -> Vec<u64>
+pub(crate) fn distinct(mut numbers: Vec<u64>) -> Vec<u64>
     ensures ascending { IsStrictlyIncreasing result.items }
     ensures same { (n : ℕ) → Contains result.items n ↔ Contains numbers.items n }
 {

@@ -1,0 +1,17 @@
+use Rattle.std.proofs.Common.{◌∙◌}
+use Rattle.grid_base.proofs.Elements.{same_place}
+use Rattle.plane_cells.specs.Numbered.{nowhere}
+use Rattle.plane_cells.proofs.Searches.{segment_at}
+use Rattle.r_faces.proofs.bounds.place_of.Goals as goal
+
+-- the search finds the segment
+pub returns-in-Ok-2-clause-within : goal.returns-in-Ok-2-clause-within
+returns-in-Ok-2-clause-within c =
+    (segment_at c.args.rim.now c.args.s.now c.binary_search.result c.in-Ok.i c.requires.ascending c.binary_search.ensures.bound
+    c.binary_search.ensures.position c.requires.there c.in-Ok.is).0
+
+pub returns-in-Ok-2-clause-place : goal.returns-in-Ok-2-clause-place
+returns-in-Ok-2-clause-place c =
+    let at = segment_at c.args.rim.now c.args.s.now c.binary_search.result c.in-Ok.i c.requires.ascending c.binary_search.ensures.bound
+    c.binary_search.ensures.position c.requires.there c.in-Ok.is in
+    same_place c.args.rim.now c.in-Ok.i nowhere c.args.s.now at.0 ∙ at.1
