@@ -292,7 +292,7 @@ static REFUSED: [(&str, &str); 4] = [
     // Whatever else is wrong with these lines.
     (
         "faces a\nbatch 0\ncheckpoint\n",
-        "no not-built\nno not-built\nno not-built\n",
+        "no no-name\nno not-built\nno not-built\n",
     ),
 ];
 
