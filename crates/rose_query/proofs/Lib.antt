@@ -4,6 +4,8 @@ mod ValueAnswers
 mod Results
 -- what is said of the kinds of values by their names
 mod NamedKinds
+-- what is told of the faces of a value
+mod FaceAnswers
 -- no point of a value is inside a segment of one
 mod DrawnOperands
 -- what is told of a predicate or a number

@@ -16,7 +16,7 @@ use Rattle.realm_insert.proofs.NamedOperands.{same_kind}
 use Rattle.rose_query.specs.Asking.{HasUntakenKinds, HasUnmeasuredKinds}
 
 -- a value has the kind of what it is made of
-kind_of_one : (s : State) (name : List ℕ) (g : Geometry) (Q : Kind → Type 0) → IsGeometryNamed s name (Some g)
+pub kind_of_one : (s : State) (name : List ℕ) (g : Geometry) (Q : Kind → Type 0) → IsGeometryNamed s name (Some g)
     → IsSomeAnd (value_named name s.values) (λ (v : Value). Q v.kind) ↔ Q (kind_of g)
 kind_of_one s name g Q (v, named, is) =
     let same = same_kind s.drawing v g is in (

@@ -17,7 +17,8 @@ use Rattle.realm_insert.specs.Values.{IsGeometryNamed}
 use Rattle.realm_insert.specs.declared.refusal.Refusal.TheVariants.{NoName, Types, NoId, NoTrace}
 use Rattle.rose_query.specs.Causes.{Answer, Unless}
 use Rattle.rose_query.specs.Asking.{AnswersAsk, AnswersNum}
-use Rattle.rose_query.specs.Replies.{not_built_reply, realm_reply, chain_reply, value_reply, trace_reply}
+use Rattle.rose_query.specs.Outlines.{AnswersFaces}
+use Rattle.rose_query.specs.Replies.{realm_reply, chain_reply, value_reply, trace_reply}
 
 -- ---- what is drawn
 
@@ -76,7 +77,7 @@ AnswersEval op first second =
 
 -- ---- queries
 
--- what a query is answered; `faces` isn't built
+-- what a query is answered
 abbrev pub AnswersQuery : Query → Answer
 AnswersQuery Realm state reply = ShowsRealm state reply
 AnswersQuery (Show name) state reply = Unless (λ s. LacksName name s.values) NoName (ShowsValue name) state reply
@@ -86,4 +87,4 @@ AnswersQuery (Eval op first second) state reply = AnswersEval op first second st
 AnswersQuery (Trace number) state reply = Unless (LacksTrace number) NoTrace (ShowsTrace number) state reply
 AnswersQuery (Ask pred first second) state reply = AnswersAsk pred first second state reply
 AnswersQuery (Measure num first second) state reply = AnswersNum num first second state reply
-AnswersQuery (Faces name) state reply = reply ≡ not_built_reply
+AnswersQuery (Faces name) state reply = AnswersFaces name state reply

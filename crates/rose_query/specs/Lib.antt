@@ -4,6 +4,8 @@ pub mod Replies
 pub mod Causes
 -- what predicates and numbers of values are answered
 pub mod Asking
+-- what `faces` is answered
+pub mod Outlines
 -- what each query is answered
 pub mod Answers
 -- what is told of an operator's result, for this crate's own proofs

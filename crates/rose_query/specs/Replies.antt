@@ -9,6 +9,7 @@ use Rattle.grid_base.specs.declared.kinds.Step.TheVariants.{Split, Meet, Corner}
 use Rattle.rose_values.specs.declared.geometry.Geometry.{Geometry}
 use Rattle.rose_values.specs.declared.geometry.Geometry.TheVariants.{P, L, R}
 use Rattle.line_grammar.specs.Spelling.{space}
+use Rattle.r_faces.specs.declared.face.Face.{Face}
 use Rattle.realm_insert.specs.declared.refusal.Refusal.{Refusal}
 use Rattle.realm_insert.specs.declared.refusal.Refusal.TheVariants.{Range, Shape, Degenerate, NameTaken}
 use Rattle.realm_insert.specs.declared.refusal.Refusal.TheVariants.{NoName, Types, NoId, NoPoint, NoTrace}
@@ -48,6 +49,10 @@ not_built_reply = codes "no not-built" ++ line_feed
 -- the two numbers of a point
 abbrev pub point_text : GridPoint → List ℕ
 point_text p = decimal p.x ++ (space ++ decimal p.y)
+
+-- the two numbers of a vertex, each behind a space
+abbrev pub vertex_text : GridPoint → List ℕ
+vertex_text p = space ++ point_text p
 
 -- the four numbers of the ends of a segment, the lesser first
 abbrev pub ends_text : GridSegment → List ℕ
@@ -99,6 +104,18 @@ value_reply (R border) = segments_reply (codes "regions") border
 -- how many steps a trace has, and a line for each in order
 abbrev pub trace_reply : List Step → List ℕ
 trace_reply steps = codes "trace " ++ (decimal (length steps) ++ (line_feed ++ flat_map step_line steps))
+
+-- a cycle on one line: its word and its vertices, with one space before each number
+abbrev pub cycle_line : List ℕ → List GridPoint → List ℕ
+cycle_line word cycle = word ++ (flat_map vertex_text cycle ++ line_feed)
+
+-- the lines of a face: its outer cycle, and each of its holes
+abbrev pub face_lines : Face → List ℕ
+face_lines face = cycle_line (codes "outer") face.outer ++ flat_map (cycle_line (codes "hole")) face.holes.items
+
+-- how many faces there are, and the lines of each in order
+abbrev pub faces_reply : List Face → List ℕ
+faces_reply faces = codes "faces " ++ (decimal (length faces) ++ (line_feed ++ flat_map face_lines faces))
 
 -- whether a predicate is true
 abbrev pub truth_reply : Bool → List ℕ

@@ -1,7 +1,9 @@
--- What is told of a predicate and of a number. No public clause cites this file.
+-- What is told of a predicate, of a number and of faces. No public clause cites this file.
 use Rattle.std.specs.Prelude.{◌≡◌, ◌⊎◌, ℕ, Bool, true, false, List, Option, Result, Ok, Err}
 use Rattle.std.specs.Prelude.{option_map}
+use Rattle.grid_base.specs.Segment.{GridSegment}
 use Rattle.rose_values.specs.declared.geometry.Geometry.{Geometry}
+use Rattle.rose_values.specs.declared.geometry.Geometry.TheVariants.{P, L, R}
 use Rattle.rose_values.specs.declared.operators.Num.{Num}
 use Rattle.rose_values.specs.Geometry.{kind_of}
 use Rattle.rose_values.specs.Kinds.{measures}
@@ -9,7 +11,9 @@ use Rattle.rose_predicates.specs.declared.answering.HoldsError.{HoldsError}
 use Rattle.rose_predicates.specs.declared.answering.HoldsError.TheVariants.{WrongTypes, NoMemory}
 use Rattle.realm_insert.specs.declared.refusal.Refusal.TheVariants.{Types}
 use Rattle.rose_query.specs.Asking.{IsNumberOf}
-use Rattle.rose_query.specs.Replies.{no_reply, truth_reply, number_reply}
+use Rattle.r_faces.specs.FaceCycles.{AreFaces}
+use Rattle.r_faces.specs.declared.face.Face.{Face}
+use Rattle.rose_query.specs.Replies.{no_reply, truth_reply, number_reply, faces_reply}
 
 -- the reply tells the answer, or says that the predicate doesn't take the values
 abbrev pub TellsAnswer : Result Bool HoldsError → List ℕ → Type 0
@@ -23,3 +27,13 @@ TellsMeasure num a b reply =
     ((measures num (kind_of a) (option_map kind_of b) ≡ false) × (reply ≡ no_reply Types))
     ⊎ ((measures num (kind_of a) (option_map kind_of b) ≡ true)
     × (found : Option ℕ) × IsNumberOf num a b found × (reply ≡ number_reply found))
+
+-- the reply lists the faces of the region with this border
+abbrev pub ListsFaces : List GridSegment → List ℕ → Type 0
+ListsFaces border reply = (faces : List Face) × AreFaces border faces × (reply ≡ faces_reply faces)
+
+-- the reply lists the faces of the value, or says that it is no region
+abbrev pub TellsFaces : Geometry → List ℕ → Type 0
+TellsFaces (P points) reply = reply ≡ no_reply Types
+TellsFaces (L lines) reply = reply ≡ no_reply Types
+TellsFaces (R border) reply = ListsFaces border reply

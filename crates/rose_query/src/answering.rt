@@ -7,8 +7,9 @@ ghost use Rattle.rose_query.specs.Answers.{AnswersQuery};
 use crate::asking::show_truth;
 use crate::evaluating::{show_made, show_made_alone};
 use crate::measuring::show_number;
+use crate::outlining::show_faces;
 use crate::printing::{list_chain, list_realm, list_trace, list_value};
-use crate::refusals::{refuse, refuse_name, refuse_unbuilt};
+use crate::refusals::{refuse, refuse_name};
 use grid_base::{NoMemory, Point, Reply};
 use line_grammar::{Name, Query};
 use realm_insert::{Engine, Refusal};
@@ -48,7 +49,7 @@ pub fn answer_alone(alloc: Global, state: &Engine, q: &Query) -> Result<Reply, N
         Query::Trace(number) => show_trace(alloc, state, *number),
         Query::Ask(pred, first, second) => show_truth(alloc, state, *pred, first, second),
         Query::Num(num, first, second) => show_number(alloc, state, *num, first, second.as_ref()),
-        Query::Faces(_) => refuse_unbuilt(alloc),
+        Query::Faces(name) => show_faces(alloc, state, name),
     }
 }
 

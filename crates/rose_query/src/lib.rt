@@ -6,6 +6,7 @@ mod answering;
 mod asking;
 mod evaluating;
 mod measuring;
+mod outlining;
 mod printing;
 mod refusals;
 

@@ -5,9 +5,11 @@ ghost use Rattle.rose_operators.specs.Results.{IsAscending};
 ghost use Rattle.rose_query.specs.Replies.{realm_reply, chain_reply, value_reply, trace_reply};
 ghost use Rattle.rose_query.specs.Replies.{points_reply, segments_reply, point_line, segment_line, step_line};
 ghost use Rattle.rose_query.specs.Replies.{point_text, ends_text, truth_reply, number_reply};
+ghost use Rattle.rose_query.specs.Replies.{vertex_text, cycle_line, face_lines, faces_reply};
 ghost use Rattle.grid_base.specs.declared.kinds.Step.TheVariants.{Split, Meet, Corner};
 
-use grid_base::{NoMemory, Point, Reply, Segment, Step};
+use grid_base::{Chain, NoMemory, Point, Reply, Segment, Step};
+use r_faces::Face;
 use rose_values::Geometry;
 use std::alloc::{AllocError, Global};
 
@@ -78,6 +80,16 @@ pub(crate) fn list_number(alloc: Global, number: Option<u128>) -> Result<Reply, 
     Ok(Reply::new(text.into_bytes()))
 }
 
+/// The reply to `faces`.
+pub(crate) fn list_faces(alloc: Global, faces: &[Face]) -> Result<Reply, NoMemory>
+    ensures { IfOk result (λ reply. reply ≡ faces_reply faces.now) }
+{
+    let count = faces.len();
+    let mut text = format!(in alloc; "faces {count}\n")?;
+    push_faces(&mut text, faces)?;
+    Ok(Reply::new(text.into_bytes()))
+}
+
 fn list_points(alloc: Global, word: &str, points: &[Point]) -> Result<Reply, NoMemory>
     ensures { IfOk result (λ reply. reply ≡ points_reply word.now points.now) }
 {
@@ -122,6 +134,56 @@ fn push_step_lines(text: &mut String, steps: &[Step]) -> Result<(), AllocError>
         push_step_line(text, step)?;
     }
     Ok(())
+}
+
+fn push_faces(text: &mut String, faces: &[Face]) -> Result<(), AllocError>
+    ensures { OnOk result (string_bytes text.new ≡ string_bytes text.old ++ flat_map face_lines faces.now) }
+{
+    for face in faces {
+        push_face(text, face)?;
+    }
+    Ok(())
+}
+
+fn push_face(text: &mut String, face: &Face) -> Result<(), AllocError>
+    ensures { OnOk result (string_bytes text.new ≡ string_bytes text.old ++ face_lines face.now) }
+{
+    push_cycle(text, "outer", face.outer.points())?;
+    push_holes(text, &face.holes)
+}
+
+fn push_holes(text: &mut String, holes: &[Chain]) -> Result<(), AllocError>
+    ensures { OnOk result (string_bytes text.new
+        ≡ string_bytes text.old ++ flat_map (cycle_line (codes "hole")) holes.now) }
+{
+    for hole in holes {
+        push_cycle(text, "hole", hole.points())?;
+    }
+    Ok(())
+}
+
+fn push_cycle(text: &mut String, word: &str, points: &[Point]) -> Result<(), AllocError>
+    ensures { OnOk result (string_bytes text.new ≡ string_bytes text.old ++ cycle_line word.now points.now) }
+{
+    write!(text, "{word}")?;
+    push_vertices(text, points)?;
+    write!(text, "\n")
+}
+
+fn push_vertices(text: &mut String, points: &[Point]) -> Result<(), AllocError>
+    ensures { OnOk result (string_bytes text.new ≡ string_bytes text.old ++ flat_map vertex_text points.now) }
+{
+    for p in points {
+        push_vertex(text, p)?;
+    }
+    Ok(())
+}
+
+fn push_vertex(text: &mut String, p: &Point) -> Result<(), AllocError>
+    ensures { OnOk result (string_bytes text.new ≡ string_bytes text.old ++ vertex_text p.now) }
+{
+    write!(text, " ")?;
+    push_point(text, p)
 }
 
 fn push_point_line(text: &mut String, p: &Point) -> Result<(), AllocError>

@@ -290,7 +290,11 @@ static REFUSED: [(&str, &str); 4] = [
         "no range\nno line 25\n",
     ),
     // Whatever else is wrong with these lines.
-    ("faces a\ncheckpoint\n", "no not-built\nno not-built\n"),
+    ("faces a
+checkpoint
+", "no no-name
+no not-built
+"),
 ];
 
 #[test]

@@ -1,0 +1,51 @@
+//! What `faces` is answered.
+ghost use Rattle.std.specs.Prelude.{◌≡◌, false, IfOk};
+ghost use Rattle.line_grammar.specs.declared.command.Query.TheVariants.{Faces};
+ghost use Rattle.r_faces.specs.FaceCycles.{AreFaces};
+ghost use Rattle.rose_query.specs.Answers.{AnswersQuery};
+ghost use Rattle.rose_query.specs.Told.{ListsFaces, TellsFaces};
+
+use crate::printing::list_faces;
+use crate::refusals::{refuse, refuse_name};
+use grid_base::{NoMemory, Reply};
+use line_grammar::Name;
+use r_faces::Face;
+use realm_insert::{Engine, Refusal};
+use rose_values::{Geometry, RegionsValue};
+use std::alloc::Global;
+
+/// The faces of the value with this name.
+pub(crate) fn show_faces(alloc: Global, state: &Engine, name: &Name) -> Result<Reply, NoMemory>
+    requires ready { state.now.spent ≡ false }
+    ensures { IfOk result (λ reply. AnswersQuery (Faces name.now) state.now.state reply) }
+{
+    match state.geometry(name.text()) {
+        Ok(Some(geometry)) => tell_faces(alloc, &geometry),
+        Ok(None) => refuse_name(alloc),
+        Err(NoMemory) => Err(NoMemory),
+    }
+}
+
+// The reply that lists the faces of the value, or says that it is no region.
+fn tell_faces(alloc: Global, value: &Geometry) -> Result<Reply, NoMemory>
+    ensures { IfOk result (TellsFaces value.now) }
+{
+    match value {
+        Geometry::R(region) => tell_region(alloc, region),
+        _ => refuse(alloc, Refusal::Types),
+    }
+}
+
+fn tell_region(alloc: Global, region: &RegionsValue) -> Result<Reply, NoMemory>
+    ensures { IfOk result (ListsFaces region.now) }
+{
+    let found = faces(alloc, region)?;
+    list_faces(alloc, &found)
+}
+
+// Stands for the call of `r_faces` with this contract.
+fn faces(alloc: Global, r: &RegionsValue) -> Result<Vec<Face>, NoMemory>
+    ensures { IfOk result (λ v. AreFaces r.now v.items) }
+{
+    Err(NoMemory)
+}
