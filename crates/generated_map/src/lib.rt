@@ -5,7 +5,5 @@
 mod drawing_lots;
 mod lines;
 mod running;
-#[cfg(test)]
-mod tests;
 
 pub use running::generate;

@@ -1,5 +1,5 @@
 //! What is found again after a crash, and after a fault of each call in turn.
-use crate::running::{left, run_words, told, world_of};
+use crate::running::{left, place_of, run_words, told};
 use grid_base::NoMemory;
 use outside_world::{Leave, MemoryWorld};
 use std::alloc::Global;
@@ -51,11 +51,11 @@ fn look_at_first<R: Threads + Sync + Abort>(
     call: u64,
     changes: &[u64],
 ) -> Result<(), NoMemory> {
-    let mut world = world_of(alloc, "point 3 0\n", b"", &[call])?;
-    let status = run_words(rt, alloc, "run", &mut world)?;
+    let mut place = place_of(alloc, "point 3 0\n", b"", &[call])?;
+    let status = run_words(rt, alloc, "run", &mut place.world)?;
     assert_eq!(rt; status.number(), 4, "at call {call}");
     for (leave, wanted) in LEAVES.iter().zip(changes.iter()) {
-        look_at_leave(rt, alloc, &world, call, *leave, (*wanted, *wanted))?;
+        look_at_leave(rt, alloc, &place.world, call, *leave, (*wanted, *wanted))?;
     }
     Ok(())
 }
@@ -101,12 +101,12 @@ fn fail_after<R: Threads + Sync + Abort>(
     alloc: Global,
     call: u64,
 ) -> Result<u64, NoMemory> {
-    let mut world = world_of(alloc, TEN, b"", &[call.saturating_add(1)])?;
-    let status = run_words(rt, alloc, "run", &mut world)?;
-    let calls = world.calls();
+    let mut place = place_of(alloc, TEN, b"", &[call.saturating_add(1)])?;
+    let status = run_words(rt, alloc, "run", &mut place.world)?;
+    let calls = place.world.calls();
     assert!(rt; (status.number() == 0) == (calls <= call), "at call {call}");
-    find_again(rt, alloc, &world, call)?;
-    find_again(rt, alloc, &world, calls)?;
+    find_again(rt, alloc, &place.world, call)?;
+    find_again(rt, alloc, &place.world, calls)?;
     Ok(calls)
 }
 

@@ -1,12 +1,12 @@
 //! What words do, and how runs end: behind long lines, at faults and at budgets.
-use crate::running::{run_words, serve_within, world_of};
+use crate::running::{look_at_run, place_of, run_words, serve_within};
 use grid_base::NoMemory;
 use std::alloc::Global;
 use std::process::Abort;
 use std::thread::Threads;
 
 // Words, what they give over an empty file, and the status.
-static WORDS: [(&str, &str, u8); 9] = [
+static WORDS: [(&str, &str, u8); 10] = [
     ("", "", 1),
     ("run x", "", 1),
     ("check check", "", 1),
@@ -28,6 +28,11 @@ static WORDS: [(&str, &str, u8); 9] = [
         "gen 1 7\noriginals 1\nvalues 0\npoints 2\npieces 1\nsteps 0\n",
         0,
     ),
+    (
+        "gen 1 9999999999999999999",
+        "gen 1 9999999999999999999\noriginals 1\nvalues 0\npoints 2\npieces 1\nsteps 0\n",
+        0,
+    ),
 ];
 
 // These words give this.
@@ -38,11 +43,8 @@ fn look_at_words<R: Threads + Sync + Abort>(
     given: &str,
     number: u8,
 ) -> Result<(), NoMemory> {
-    let mut world = world_of(alloc, "realm\n", b"", &[])?;
-    let status = run_words(rt, alloc, words, &mut world)?;
-    assert_eq!(rt; status.number(), number, "at {words:?}");
-    assert_eq!(rt; world.given(), given.as_bytes(), "at {words:?}");
-    Ok(())
+    let mut place = place_of(alloc, "realm\n", b"", &[])?;
+    look_at_run(rt, alloc, words, &mut place.world, given, number)
 }
 
 #[test]
@@ -51,6 +53,30 @@ fn words_choose_what_is_done(rt: HostRuntime) {
         let done = look_at_words(&rt, rt.alloc(), words, given, *number);
         assert!(rt; done.is_ok(), "no memory");
     }
+}
+
+// What these words give begins so.
+fn look_at_front<R: Threads + Sync + Abort>(
+    rt: &R,
+    alloc: Global,
+    words: &str,
+    front: &str,
+) -> Result<(), NoMemory> {
+    let mut place = place_of(alloc, "", b"", &[])?;
+    let _ = run_words(rt, alloc, words, &mut place.world)?;
+    assert!(rt;
+        place.world.given().starts_with(front.as_bytes()),
+        "at {words:?}"
+    );
+    Ok(())
+}
+
+// How many originals and values there are doesn't depend on the choice of steps.
+#[test]
+fn no_change_of_a_map_is_refused(rt: HostRuntime) {
+    let front = "gen 2000 7\noriginals 3000\nvalues 500\n";
+    let done = look_at_front(&rt, rt.alloc(), "gen 2000 7", front);
+    assert!(rt; done.is_ok(), "no memory");
 }
 
 // Of sessions that begin with one line of so many bytes: what stands behind them, the budget and the replies.
@@ -78,9 +104,9 @@ fn look_at_line<R: Threads + Sync + Abort>(
 ) -> Result<(), NoMemory> {
     let mut input = "x".repeat(alloc, size)?;
     input.push_str(behind)?;
-    let mut world = world_of(alloc, input.as_str(), b"", &[])?;
-    let _ = serve_within(rt, alloc, &mut world, budget);
-    assert_eq!(rt; world.given(), replies.as_bytes(), "at {size} bytes");
+    let mut place = place_of(alloc, input.as_str(), b"", &[])?;
+    let _ = serve_within(rt, alloc, &mut place.world, budget);
+    assert_eq!(rt; place.world.given(), replies.as_bytes(), "at {size} bytes");
     Ok(())
 }
 
@@ -113,15 +139,15 @@ fn look_at_fault<R: Threads + Sync + Abort>(
     number: u8,
     replies: &str,
 ) -> Result<(), NoMemory> {
-    let mut world = world_of(alloc, "realm\n", b"", &[call])?;
-    let status = serve_within(rt, alloc, &mut world, budget);
+    let mut place = place_of(alloc, "realm\n", b"", &[call])?;
+    let status = serve_within(rt, alloc, &mut place.world, budget);
     assert_eq!(rt;
         status.number(),
         number,
         "at call {call} and budget {budget}"
     );
     assert_eq!(rt;
-        world.given(),
+        place.world.given(),
         replies.as_bytes(),
         "at call {call} and budget {budget}"
     );

@@ -1,8 +1,8 @@
 //! File A: its bytes after a commit, what is found in it after a crash, and what is told of one that is damaged. The bytes
 //! are the example of docs/formats/FILES.md.
-use crate::running::{left, look, run_words, told, world_of};
+use crate::running::{Place, left, look, look_at_run, place_of, told};
 use grid_base::NoMemory;
-use outside_world::{Leave, MemoryWorld};
+use outside_world::Leave;
 use std::alloc::Global;
 use std::process::Abort;
 use std::thread::Threads;
@@ -63,8 +63,8 @@ fn look_at_commit<R: Threads + Sync + Abort>(
     reply: &str,
 ) -> Result<(), NoMemory> {
     let before = file_of(alloc, 1, numbers, behind)?;
-    let world = look(rt, alloc, "point 3 0\n", &before, reply, 0)?;
-    let after = left(&world, world.calls(), Leave::New)?;
+    let place = look(rt, alloc, "point 3 0\n", &before, reply, 0)?;
+    let after = left(&place.world, place.world.calls(), Leave::New)?;
     let mut more = Vec::from_slice(alloc, numbers)?;
     more.push(number)?;
     let wanted = file_of(alloc, 1, &more, b"\0")?;
@@ -179,25 +179,22 @@ static AGAIN: [(&str, &str, &str, &str, &str); 3] = [
 fn look_again<R: Threads + Sync + Abort>(
     rt: &R,
     alloc: Global,
-    before: &MemoryWorld,
+    before: &Place,
     words: &str,
     lines: &str,
     given: &str,
 ) -> Result<(), NoMemory> {
-    let file = left(before, before.calls(), Leave::Old)?;
-    let mut world = world_of(alloc, lines, &file, &[])?;
-    let status = run_words(rt, alloc, words, &mut world)?;
-    assert_eq!(rt; status.number(), 0, "at {words:?}");
-    assert_eq!(rt; world.given(), given.as_bytes(), "at {words:?}");
-    Ok(())
+    let file = left(&before.world, before.world.calls(), Leave::Old)?;
+    let mut place = place_of(alloc, lines, &file, &[])?;
+    look_at_run(rt, alloc, words, &mut place.world, given, 0)
 }
 
 #[test]
 fn what_was_made_is_found_again(rt: HostRuntime) {
     for (lines, replies, words, more, given) in AGAIN.iter() {
         match look(&rt, rt.alloc(), lines, b"", replies, 0) {
-            Ok(world) => {
-                let done = look_again(&rt, rt.alloc(), &world, words, more, given);
+            Ok(place) => {
+                let done = look_again(&rt, rt.alloc(), &place, words, more, given);
                 assert!(rt; done.is_ok(), "no memory");
             }
             Err(NoMemory) => assert!(rt; false, "no memory"),

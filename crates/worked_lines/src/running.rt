@@ -7,17 +7,30 @@ use std::alloc::Global;
 use std::process::Abort;
 use std::thread::Threads;
 
+/// A world in memory. It is let go of in one place, by a call that each of its owners makes: what is in it isn't gone through
+/// again wherever one of them gives up.
+pub(crate) struct Place {
+    pub(crate) world: MemoryWorld,
+}
+
+impl Drop for Place {
+    fn drop(self) {
+        let Place { world: _world } = self;
+    }
+}
+
 /// A world with this input and file A, in which the calls of these numbers fail.
-pub(crate) fn world_of(
+pub(crate) fn place_of(
     alloc: Global,
     input: &str,
     file: &[u8],
     failing: &[u64],
-) -> Result<MemoryWorld, NoMemory> {
+) -> Result<Place, NoMemory> {
     let input = Vec::from_slice(alloc, input.as_bytes())?;
     let file = Vec::from_slice(alloc, file)?;
     let failing = Vec::from_slice(alloc, failing)?;
-    MemoryWorld::new(alloc, input, file, Vec::new(alloc), failing)
+    let world = MemoryWorld::new(alloc, input, file, Vec::new(alloc), failing)?;
+    Ok(Place { world })
 }
 
 /// What the program does with these words there, one space between two of them.
@@ -47,6 +60,21 @@ pub(crate) fn serve_within<R: Threads + Sync>(
     }
 }
 
+/// A run with these words there gives this and ends with this number.
+pub(crate) fn look_at_run<R: Threads + Sync + Abort>(
+    rt: &R,
+    alloc: Global,
+    words: &str,
+    world: &mut MemoryWorld,
+    given: &str,
+    number: u8,
+) -> Result<(), NoMemory> {
+    let status = run_words(rt, alloc, words, world)?;
+    assert_eq!(rt; status.number(), number, "at {words:?} for {given:?}");
+    assert_eq!(rt; world.given(), given.as_bytes(), "at {words:?}");
+    Ok(())
+}
+
 /// A run over these lines on file A gives this and ends with this number.
 pub(crate) fn look<R: Threads + Sync + Abort>(
     rt: &R,
@@ -55,21 +83,24 @@ pub(crate) fn look<R: Threads + Sync + Abort>(
     file: &[u8],
     replies: &str,
     number: u8,
-) -> Result<MemoryWorld, NoMemory> {
-    let mut world = world_of(alloc, lines, file, &[])?;
-    let status = run_words(rt, alloc, "run", &mut world)?;
-    assert_eq!(rt; status.number(), number, "at {lines:?}");
-    assert_eq!(rt; world.given(), replies.as_bytes(), "at {lines:?}");
-    Ok(world)
+) -> Result<Place, NoMemory> {
+    let mut place = place_of(alloc, lines, file, &[])?;
+    look_at_run(rt, alloc, "run", &mut place.world, replies, number)?;
+    Ok(place)
 }
 
 /// What a start tells of a file A with these bytes: 0 and the number of its changes; or 5 and the number of the record or
 /// the page that is damaged; or the number of another status.
 pub(crate) fn told<R: Threads + Sync>(rt: &R, alloc: Global, file: &[u8]) -> (u8, u64) {
-    let Ok(mut world) = world_of(alloc, "", file, &[]) else {
-        return (6, 0);
-    };
-    match Store::start(rt, alloc, &mut world) {
+    match place_of(alloc, "", file, &[]) {
+        Ok(mut place) => told_by(rt, alloc, &mut place.world),
+        Err(_) => (6, 0),
+    }
+}
+
+// What a start there tells.
+fn told_by<R: Threads + Sync>(rt: &R, alloc: Global, world: &mut MemoryWorld) -> (u8, u64) {
+    match Store::start(rt, alloc, world) {
         Ok(store) => (0, store.state().changes()),
         Err(StartError::Damaged(Damage::BadPage { page, .. })) => (5, page),
         Err(StartError::Damaged(Damage::BadRecord { number, .. })) => (5, number),
