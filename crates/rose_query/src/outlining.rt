@@ -1,7 +1,6 @@
 //! What `faces` is answered.
 ghost use Rattle.std.specs.Prelude.{◌≡◌, false, IfOk};
 ghost use Rattle.line_grammar.specs.declared.command.Query.TheVariants.{Faces};
-ghost use Rattle.r_faces.specs.FaceCycles.{AreFaces};
 ghost use Rattle.rose_query.specs.Answers.{AnswersQuery};
 ghost use Rattle.rose_query.specs.Told.{ListsFaces, TellsFaces};
 
@@ -9,7 +8,7 @@ use crate::printing::list_faces;
 use crate::refusals::{refuse, refuse_name};
 use grid_base::{NoMemory, Reply};
 use line_grammar::Name;
-use r_faces::Face;
+use r_faces::faces;
 use realm_insert::{Engine, Refusal};
 use rose_values::{Geometry, RegionsValue};
 use std::alloc::Global;
@@ -41,11 +40,4 @@ fn tell_region(alloc: Global, region: &RegionsValue) -> Result<Reply, NoMemory>
 {
     let found = faces(alloc, region)?;
     list_faces(alloc, &found)
-}
-
-// Stands for the call of `r_faces` with this contract.
-fn faces(alloc: Global, r: &RegionsValue) -> Result<Vec<Face>, NoMemory>
-    ensures { IfOk result (λ v. AreFaces r.now v.items) }
-{
-    Err(NoMemory)
 }
