@@ -5,12 +5,13 @@ use Rattle.outside_world.specs.declared.world.FileName.TheVariants.{A, B}
 use Rattle.record_codec.specs.declared.header.Header.{Header}
 use Rattle.record_codec.specs.Heads.{header_text}
 use Rattle.realm_journal.specs.Gates.{IsWrittenAt}
-use Rattle.realm_pages.specs.Generations.{page_count, header_of, gate_of}
+use Rattle.realm_pages.specs.Generations.{page_count, header_of, gate_of, gate_behind}
 use Rattle.realm_pages.specs.Files.{Counts}
 use Rattle.realm_pages.proofs.Counting.{is_head}
 use Rattle.realm_files.specs.Meaning.{Meaning}
 use Rattle.realm_files.specs.Rows.{AreRecords}
 use Rattle.realm_files.specs.Stands.{StandsAt, NoneCounts, numbered}
+use Rattle.realm_files.specs.Writing.{renewed_place, first_place}
 use Rattle.realm_files.specs.Alone.{StoodAt, alone, place_alone, first_head}
 
 no_pages : page_count 0 ≡ 0
@@ -27,6 +28,10 @@ none_alone none B = empty_counts
 
 first_is : header_of (numbered 1 []) ≡ first_head
 first_is = λ i. record { generation = 1; pages = no_pages i; length = 0 }
+
+-- so the first generation's place is behind its head
+pub first_place_is : renewed_place None [] ≡ first_place
+first_place_is = λ i. record { file = A; generation = 1; next = gate_behind (no_pages i) }
 
 older : {P : FileName → Type 0} {file : List ℕ} (other : FileName) → other ≢ A → Counts (alone file other) → P other
 older A differ counts = absurd (differ refl)

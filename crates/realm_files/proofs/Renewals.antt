@@ -152,7 +152,30 @@ module _ {S : Type 0} (m : Meaning S) where
                 }
             at_ok (Err e) whole newest = tt
 
+    -- so it is with each generation that has the next number and a payload of this state
+    pub renewed_by : {new : View} {file : FileName} {g : Generation} {r : Result ℕ SwitchError} → file ≡ next_file kept.place
+        → g.number ≡ next_generation kept.place → m.opens g.payload kept.state
+        → ((a : Moment) → MayLeave new a → new.left_since old.moment a)
+        → ((a : Moment) → old.left_since old.moment a → MayLeave old a) → Switched old new file g r
+        → (MayTake old file g → KeepsNewest old new file g r)
+        → Renewed m old new kept.state (renewed_place kept.place g.payload) r
+    renewed_by {new} {file} {g} {r} there number opens counts only switched keeps =
+        let next : g ≡ numbered (next_generation kept.place) g.payload = λ i. numbered (number i) g.payload in
+        let same = λ i. (there i, next i) in
+        let to = subst (λ (x : FileName × Generation). Switched old new x.0 x.1 r) same switched in
+        let on = subst (λ (x : FileName × Generation). MayTake old x.0 x.1 → KeepsNewest old new x.0 x.1 r) same keeps in
+        renewed g.payload opens new counts only r to (on (may_take g.payload))
+
   -- ---- what comes behind it
+
+  -- the fault has another name, or the place
+  pub renewed_ok : {T U E F : Type 0} {old new : View} {state : S} {place : Place} {x : T} {y : U}
+      → Renewed m old new state place (Ok {T = T} {E = E} x) → Renewed m old new state place (Ok {T = U} {E = F} y)
+  renewed_ok is = record { stays = is.stays; rest = is.rest }
+
+  pub renewed_cut : {T U E F : Type 0} {old new : View} {state : S} {place : Place} {r : Result T E} {e : F}
+      → Renewed m old new state place r → Renewed m old new state place (Err {T = U} {E = F} e)
+  renewed_cut is = record { stays = is.stays; rest = tt }
 
   place_not_ok : (n : ℕ) → IsErr {T = ℕ} {E = JournalError} (Ok n) → ⊥
   place_not_ok n is = cc

@@ -14,6 +14,15 @@ use Rattle.realm_files.specs.declared.place.Place.{Place}
 abbrev pub with_gate : Place → ℕ → Place
 with_gate place next = record { file = place.file; generation = place.generation; next = next }
 
+-- where the first record of all stands: in file A, behind a first generation without pages
+abbrev pub first_place : Place
+first_place = record { file = A; generation = 1; next = 4096 }
+
+-- where the next record's gate stands, or will stand where no file counts yet
+abbrev pub place_or_first : Option Place → Place
+place_or_first None = first_place
+place_or_first (Some place) = place
+
 -- ---- states that stay
 
 -- a run of calls while which the files stand for one state
@@ -29,10 +38,14 @@ next_file None = A
 next_file (Some (record { file = A; generation = generation; next = next })) = B
 next_file (Some (record { file = B; generation = generation; next = next })) = A
 
+-- the number of the newest generation; 0 where no file counts
+abbrev pub generation_of : Option Place → ℕ
+generation_of None = 0
+generation_of (Some place) = place.generation
+
 -- the number of the next generation
 abbrev pub next_generation : Option Place → ℕ
-next_generation None = 1
-next_generation (Some place) = place.generation + 1
+next_generation place = generation_of place + 1
 
 -- where the first record of the next generation will stand, if that has this payload
 abbrev pub renewed_place : Option Place → List ℕ → Place
