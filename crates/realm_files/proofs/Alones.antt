@@ -1,12 +1,12 @@
 -- This file shows that what file A stood for alone it stands for beside an empty file B.
-use Rattle.std.proofs.Common.{◌≡◌, ◌≢◌, ℕ, List, [], length, Option, Some, None, refl, sym, subst, arith}
+use Rattle.std.proofs.Common.{◌≡◌, ◌≢◌, ◌<◌, ℕ, List, [], length, Option, Some, None, refl, sym, subst, arith}
 use Rattle.outside_world.specs.declared.world.FileName.{FileName}
 use Rattle.outside_world.specs.declared.world.FileName.TheVariants.{A, B}
 use Rattle.record_codec.specs.declared.header.Header.{Header}
 use Rattle.record_codec.specs.Heads.{header_text}
 use Rattle.realm_journal.specs.Gates.{IsWrittenAt}
 use Rattle.realm_pages.specs.Generations.{page_count, header_of, gate_of, gate_behind}
-use Rattle.realm_pages.specs.Files.{Counts}
+use Rattle.realm_pages.specs.Files.{Counts, HasHead}
 use Rattle.realm_pages.proofs.Counting.{is_head}
 use Rattle.realm_files.specs.Meaning.{Meaning}
 use Rattle.realm_files.specs.Rows.{AreRecords}
@@ -33,16 +33,16 @@ first_is = λ i. record { generation = 1; pages = no_pages i; length = 0 }
 pub first_place_is : renewed_place None [] ≡ first_place
 first_place_is = λ i. record { file = A; generation = 1; next = gate_behind (no_pages i) }
 
-older : {P : FileName → Type 0} {file : List ℕ} (other : FileName) → other ≢ A → Counts (alone file other) → P other
-older A differ counts = absurd (differ refl)
-older B differ counts = absurd (empty_counts counts)
+other_alone : (P : FileName → Type 0) (file : List ℕ) (other : FileName) → other ≢ A → Counts (alone file other) → P other
+other_alone P file A differ counts = absurd (differ refl)
+other_alone P file B differ counts = absurd (empty_counts counts)
 
 module _ {S : Type 0} (m : Meaning S) (opens : m.opens [] m.empty) where
   pub stands_alone : (file : List ℕ) (state : S) (next : Option ℕ) → StoodAt m file state next
       → StandsAt m (alone file) state (place_alone next)
   stands_alone file state None stood = (none_alone stood.0, stood.1)
   stands_alone file state (Some next) stood =
-      let head = record {
+      let head : HasHead file (header_of (numbered 1 [])) = record {
         is_header = is_head 1 0 (omega arith, omega arith) (omega arith);
         stands = subst (λ h. IsWrittenAt 1 (header_text h) file) (sym first_is) stood.has_head;
       } in
@@ -52,7 +52,7 @@ module _ {S : Type 0} (m : Meaning S) (opens : m.opens [] m.empty) where
         newest = record {
           newest = record {
             counts = record { counts = stood.counts; head = head };
-            older = λ other differ counts. older other differ counts;
+            older = other_alone (λ f. (h : Header) × HasHead (alone file f) h × (h.generation < 1)) file;
           };
           holds = record {
             counts = stood.counts;

@@ -69,7 +69,7 @@ module _ {S : Type 0} (m : Meaning S) where
     within = (rest v.reads reads).reach.1 refl;
     closed = λ c image.
         let files = put v.reads place.file c in
-        let stands = (rest files (put_left {v} v.reads place.file c image (λ f differ. reads f))).stands in
+        let stands = (rest files (put_left v v.reads place.file c image (λ f differ. reads f))).stands in
         subst (λ l. IsClosedAt place.next l) (put_here v.reads place.file c) stands.lead.1;
   }
 
@@ -85,7 +85,7 @@ module _ {S : Type 0} (m : Meaning S) where
       was = put files place.file part.was
 
       stood : StandsOn m was state place
-      stood = (rest was (put_left {old} files place.file part.was part.could others)).stands
+      stood = (rest was (put_left old files place.file part.was part.could others)).stands
 
       apart : (f : FileName) → f ≢ place.file → files f ≡ was f
       apart f differ = sym (put_there files place.file part.was f differ)

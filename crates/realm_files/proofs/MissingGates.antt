@@ -40,7 +40,7 @@ module _ {S : Type 0} (m : Meaning S) where
         let was = put files file (old.reads file) in
         let front : take place.next (files file) ≡ take place.next (was file) =
         ap (λ l. take place.next l) same ∙ shut.front ∙ ap (λ l. take place.next l) (sym (put_here files file (old.reads file))) in
-        let stood = rest was (put_left {old} files file (old.reads file) current
+        let stood = rest was (put_left old files file (old.reads file) current
         (λ f differ. shut.writes.others f (files f) differ (images f))) in
         let within = subst (λ l. place.next < length l) (sym same) shut.shut.within in
         record {

@@ -39,9 +39,9 @@ put_there files B c A differ = refl
 put_there files B c B differ = absurd (differ refl)
 
 -- where each file of a pair could be left, so could the pair with another image of one
-pub put_left : {v : View} (files : Files) (f : FileName) (c : List ℕ) → v.image f c
+pub put_left : (v : View) (files : Files) (f : FileName) (c : List ℕ) → v.image f c
     → ((g : FileName) → g ≢ f → v.image g (files g)) → (g : FileName) → v.image g (put files f c g)
-put_left files A c here there A = here
-put_left files A c here there B = there B not_a
-put_left files B c here there A = there A not_b
-put_left files B c here there B = here
+put_left v files A c here there A = here
+put_left v files A c here there B = there B not_a
+put_left v files B c here there A = there A not_b
+put_left v files B c here there B = here

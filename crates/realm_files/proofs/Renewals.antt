@@ -20,7 +20,7 @@ use Rattle.realm_files.specs.Meaning.{Meaning}
 use Rattle.realm_files.specs.Rows.{AreRecords}
 use Rattle.realm_files.specs.Stands.{Files, NoneCounts, StandsOn, StandsAt, StandsFor, numbered}
 use Rattle.realm_files.specs.Keeping.{Kept, RestsAt, AllRest, at_gate}
-use Rattle.realm_files.specs.Writing.{Stays, Renewed, Committed, next_file, next_generation, renewed_place}
+use Rattle.realm_files.specs.Writing.{Stays, Renewed, Committed, other_file, next_file, next_generation, renewed_place}
 use Rattle.realm_files.specs.declared.place.Place.{Place}
 use Rattle.realm_files.proofs.Pairs.{not_a, not_b, same_or, put, put_here, put_left}
 
@@ -34,15 +34,15 @@ only_both first second = record {
 }
 
 -- the next file is another than the newest
-next_differs : (place : Place) → place.file ≢ next_file (Some place)
-next_differs (record { file = A; generation = generation; next = next }) = not_b
-next_differs (record { file = B; generation = generation; next = next }) = not_a
+other_differs : (f : FileName) → f ≢ other_file f
+other_differs A = not_b
+other_differs B = not_a
 
 module _ {S : Type 0} (m : Meaning S) where
   module _ (old : View) (reads : (f : FileName) → old.image f (old.reads f)) (kept : Kept S) (rest : AllRest m kept old) where
     -- some pair of files that could be left has this image
     with_image : (f : FileName) (c : List ℕ) → old.image f c → RestsAt m kept (put old.reads f c)
-    with_image f c image = rest (put old.reads f c) (put_left {old} old.reads f c image (λ g differ. reads g))
+    with_image f c image = rest (put old.reads f c) (put_left old old.reads f c image (λ g differ. reads g))
 
     -- whatever could be left before is older,
     older_at : (place : Option Place) (f : FileName) (files : Files) → StandsAt m files kept.state place → Counts (files f)
@@ -64,7 +64,7 @@ module _ {S : Type 0} (m : Meaning S) where
     not_newest_at : (place : Option Place) (files : Files) (h : Header) → StandsAt m files kept.state place
         → IsNewest files (next_file place) h → ⊥
     not_newest_at None files h stands newest = stands.0 A newest.counts.counts
-    not_newest_at (Some place) files h stands newest = next_differs place (newest_once stands.newest.newest newest).0
+    not_newest_at (Some place) files h stands newest = other_differs place.file (newest_once stands.newest.newest newest).0
 
     -- so the next generation may be put on the other file
     pub may_take : (payload : List ℕ) → MayTake old (next_file kept.place) (numbered (next_generation kept.place) payload)
@@ -161,20 +161,22 @@ module _ {S : Type 0} (m : Meaning S) where
         → Renewed m old new kept.state (renewed_place kept.place g.payload) r
     renewed_by {new} {file} {g} {r} there number opens counts only switched keeps =
         let next : g ≡ numbered (next_generation kept.place) g.payload = λ i. numbered (number i) g.payload in
-        let same = λ i. (there i, next i) in
-        let to = subst (λ (x : FileName × Generation). Switched old new x.0 x.1 r) same switched in
-        let on = subst (λ (x : FileName × Generation). MayTake old x.0 x.1 → KeepsNewest old new x.0 x.1 r) same keeps in
+        let to = subst (λ f. Switched old new f (numbered (next_generation kept.place) g.payload) r) there
+        (subst (λ (k : Generation). Switched old new file k r) next switched) in
+        let on = subst (λ f. MayTake old f (numbered (next_generation kept.place) g.payload)
+        → KeepsNewest old new f (numbered (next_generation kept.place) g.payload) r) there
+        (subst (λ (k : Generation). MayTake old file k → KeepsNewest old new file k r) next keeps) in
         renewed g.payload opens new counts only r to (on (may_take g.payload))
 
   -- ---- what comes behind it
 
   -- the fault has another name, or the place
   pub renewed_ok : {T U E F : Type 0} {old new : View} {state : S} {place : Place} {x : T} {y : U}
-      → Renewed m old new state place (Ok {T = T} {E = E} x) → Renewed m old new state place (Ok {T = U} {E = F} y)
+      → Renewed {T = T} {E = E} m old new state place (Ok x) → Renewed {T = U} {E = F} m old new state place (Ok y)
   renewed_ok is = record { stays = is.stays; rest = is.rest }
 
   pub renewed_cut : {T U E F : Type 0} {old new : View} {state : S} {place : Place} {r : Result T E} {e : F}
-      → Renewed m old new state place r → Renewed m old new state place (Err {T = U} {E = F} e)
+      → Renewed m old new state place r → Renewed {T = U} {E = F} m old new state place (Err e)
   renewed_cut is = record { stays = is.stays; rest = tt }
 
   place_not_ok : (n : ℕ) → IsErr {T = ℕ} {E = JournalError} (Ok n) → ⊥

@@ -32,11 +32,15 @@ pub record Stays {S : Type 0} (m : Meaning S) (old new : View) (state : S) : Typ
   pub crash : LeavesOnly old new (λ a. (a.given ≡ old.given) × StandsFor m a.files state)
   pub now : InEachImage new (λ files. StandsFor m files state)
 
+-- the other of the two files
+abbrev pub other_file : FileName → FileName
+other_file A = B
+other_file B = A
+
 -- the file that isn't the newest; file A where none counts
 abbrev pub next_file : Option Place → FileName
 next_file None = A
-next_file (Some (record { file = A; generation = generation; next = next })) = B
-next_file (Some (record { file = B; generation = generation; next = next })) = A
+next_file (Some place) = other_file place.file
 
 -- the number of the newest generation; 0 where no file counts
 abbrev pub generation_of : Option Place → ℕ

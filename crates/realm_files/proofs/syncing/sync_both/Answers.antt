@@ -9,5 +9,5 @@ returns-in_err-sync-clause-told g c = λ t.
 -- or it is, and then file B
 pub returns-clause-told : goal.returns-clause-told
 returns-clause-told g c = λ t.
-    let two = c.sync.ensures in
-    both c.sync.result (c.in_ok-sync.ensures.told (two.still t)) (two.told t)
+    let two = c.sync-2.ensures in
+    both c.sync-2.result (c.in_ok-sync.ensures.told (two.still t)) (two.told t)
