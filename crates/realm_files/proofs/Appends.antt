@@ -57,7 +57,7 @@ module _ {S : Type 0} (m : Meaning S) where
       records = stands.records ++ r ∷ [];
       lead = (
         led_more m stands.first stands.records gate (was place.file) (files place.file) state place.next r after stands.lead.0 front
-        is_record leads whole,
+            is_record leads whole,
         whole_closed place.next (text_of r) (files place.file) whole,
       );
     }

@@ -73,6 +73,7 @@ pub(crate) fn told<R: Threads + Sync>(rt: &R, alloc: Global, file: &[u8]) -> (u8
         Ok(store) => (0, store.state().changes()),
         Err(StartError::Damaged(Damage::BadPage { page, .. })) => (5, page),
         Err(StartError::Damaged(Damage::BadRecord { number, .. })) => (5, number),
+        Err(StartError::Damaged(_)) => (5, 0),
         Err(StartError::Disk) => (4, 0),
         Err(StartError::NoMemory) => (6, 0),
     }

@@ -56,7 +56,7 @@ returns-in-Err-Refused-clause-refused g c = λ word same.
     let here = subst (λ (s : SpendableKept). IsRefusedBy c.args.c.now s.kept.state c.in-Err-Refused.word) c.self.view_is why in (
       inl (subst (λ (w : Word). IsRefusedBy c.args.c.now c.args.self.now.kept.state w) is here),
       ap (λ (e : SpendableState). record {
-        kept = record { state = e.state; next = c.self.inside.next; has_gate = c.self.inside.has_gate };
+        kept = record { state = e.state; place = c.self.inside.place; has_gate = c.self.inside.has_gate };
         spent = c.self.inside.spent;
       }) stays ∙ c.self.view_is,
       refl,

@@ -1,0 +1,2 @@
+-- snapshots
+pub mod Snapshots
