@@ -1,16 +1,13 @@
 -- This file shows what two files stand for that were read, and whose records were made again.
-use Rattle.std.proofs.Common.{◌≡◌, ◌≢◌, inl, inr, ℕ, ◌+◌, ◌<◌, ◌≤◌, Bool, true, false, List, [], ◌∷◌, ◌++◌, length, drop, Some, None}
+use Rattle.std.proofs.Common.{◌≡◌, inl, inr, ℕ, ◌+◌, ◌<◌, ◌≤◌, Bool, true, false, List, [], ◌∷◌, ◌++◌, length, drop, Some}
 use Rattle.std.proofs.Common.{refl, sym, ◌∙◌, ap, subst, arith, length-append, length-drop}
 use Rattle.std.proofs.lemmas.List.{append-nil}
-use Rattle.std.specs.Prelude.{◌↔◌, IsTrue, Result, Ok, Err, IsErr, IfOk, Vec}
-use Rattle.std.specs.declared.alloc.Global.{Global}
+use Rattle.std.specs.Prelude.{◌↔◌, IsTrue, Option, Result, Ok, Err, IfOk}
 use Rattle.outside_world.specs.declared.world.FileName.{FileName}
 use Rattle.outside_world.specs.View.{View, Moment, MayLeave}
 use Rattle.record_codec.specs.declared.record.Record.{Record}
-use Rattle.realm_insert.specs.State.{State, SpendableState, empty_state, fresh_state}
-use Rattle.realm_journal.specs.Reading.{OnlyAsks, ReadFrom}
-use Rattle.realm_journal.specs.declared.error.ScanError.{ScanError}
-use Rattle.realm_journal.specs.declared.error.ScanError.TheVariants as scans
+use Rattle.realm_insert.specs.State.{State, SpendableState}
+use Rattle.realm_journal.specs.Reading.{OnlyAsks}
 use Rattle.realm_journal.specs.Scanning.{IsScan, Scans}
 use Rattle.realm_pages.specs.Generations.{gate_of}
 use Rattle.realm_pages.specs.Finding.{HoldsNewest, IsFound, FoundNewest, generation_found}
@@ -30,41 +27,42 @@ use Rattle.realm_files.specs.declared.place.Place.{Place}
 use Rattle.realm_files.proofs.Pairs.{same_files}
 use Rattle.realm_files.proofs.NewestFronts.{holds_reach}
 use Rattle.realm_files.proofs.Scans.{led, scan_within, ends_badly}
-use Rattle.realm_files.proofs.Syncs.{asks_all, opened, all_rest}
+use Rattle.realm_files.proofs.Syncs.{opened, all_rest}
 use Rattle.realm_store.specs.Stands.{meaning, Opens}
 use Rattle.realm_store.specs.Keeping.{Kept, SpendableKept, RestsAt, AllRest}
-use Rattle.realm_store.specs.Replaying.{LeadOn, LeadsNowhere, IsRest, Replayed}
+use Rattle.realm_store.specs.Replaying.{LeadOn, IsRest, Replayed}
 use Rattle.realm_store.specs.Damages.{IsDamaged}
 use Rattle.realm_store.specs.Opening.{LeadsTo, IsBadRow, OpensRow, Opened}
 use Rattle.realm_store.specs.Starting.{Started}
-use Rattle.realm_store.specs.StartErrors.{start_error, newest_error}
+use Rattle.realm_store.specs.StartErrors.{newest_error}
 use Rattle.realm_store.specs.declared.error.StartError.{StartError}
 use Rattle.realm_store.specs.declared.error.StartError.TheVariants.{Disk, Damaged, NoMemory}
 
 -- ---- the records of one file
 
 -- all records lead on, so the engine has the state behind them
-all_led : {file : List ℕ} {start reached : State} {at end count : ℕ} {engine : SpendableState} (before left : List Record)
-    → count ≡ length before → length (before ++ left) ≤ count → LeadOn start before reached → IsRest reached left engine
+all_led : (start reached : State) (engine : SpendableState) (count : ℕ) (before left : List Record) → count ≡ length before
+    → length (before ++ left) ≤ count → LeadOn start before reached → IsRest reached left engine
     → LeadOn start (before ++ left) engine.state
-all_led {start = start} {reached} {engine = engine} before [] is most lead rest =
+all_led start reached engine count before [] is most lead rest =
     subst (λ l. LeadOn start l engine.state) (sym (append-nil before)) (subst (λ s. LeadOn start before s) (sym rest.1) lead)
-all_led before (r ∷ left) is most lead rest = absurd (omega (arith, is, most, length-append before (r ∷ left)))
+all_led start reached engine count before (r ∷ left) is most lead rest = absurd (omega (arith, is, most, length-append before (r ∷ left)))
 
 -- or the row stops
-stops_at : {reached : State} {count : ℕ} {bad : Bool} {engine : SpendableState} (before left : List Record) → count ≡ length before
+stops_at : (reached : State) (engine : SpendableState) (count : ℕ) (bad : Bool) (before left : List Record) → count ≡ length before
     → (length (before ++ left) ≤ count → bad ≡ true) → IsRest reached left engine → StopsAt meaning reached left bad
-stops_at {count = count} before [] is bad_then rest =
+stops_at reached engine count bad before [] is bad_then rest =
     let most : length (before ++ []) ≤ count = omega (arith, is, length-append before []) in
     bad_then most
-stops_at before (r ∷ left) is bad_then rest = rest
+stops_at reached engine count bad before (r ∷ left) is bad_then rest = rest
 
 bad_unless : (b test : Bool) → (b ≡ false → IsTrue test) → test ≡ false → b ≡ true
 bad_unless true test shown failed = refl
 bad_unless false test shown failed = let yes : test ≡ true = shown refl in absurd cc
 
-module _ {file bytes : List ℕ} {start : State} {place : Place} {records seen : List Record} {count end : ℕ} {bad : Bool}
-    {engine : SpendableState} (bytes_are : bytes ≡ drop place.next file) (within : place.next ≤ length file)
+-- a row of records that was scanned from this place on, and made again
+module _ (file bytes : List ℕ) (start : State) (place : Place) (records seen : List Record) (count end : ℕ) (bad : Bool)
+    (engine : SpendableState) (bytes_are : bytes ≡ drop place.next file) (within : place.next ≤ length file)
     (scan : Scans file place.next records end bad) (same : seen ≡ records) (again : Replayed start seen count engine) where
   made : Replayed start records count engine
   made = subst (λ l. Replayed start l count engine) same again
@@ -78,7 +76,7 @@ module _ {file bytes : List ℕ} {start : State} {place : Place} {records seen :
       → store.kept ≡ record { state = engine.state; place = Some next; has_gate = has_gate } → OpensRow file start place (Ok store)
   row_leads store next has_gate all gate is_next is =
       let most = subst (λ l. length l ≤ count) made.in_order all.0 in
-      let lead = all_led {file = file} {at = place.next} {end = end} made.before made.left made.count_is most made.lead made.rest in
+      let lead = all_led start made.reached engine count made.before made.left made.count_is most made.lead made.rest in
       let rows = led meaning file (made.before ++ made.left) start engine.state place.next end scanned lead in
       let size : place.next + length bytes ≡ length file = omega (arith, ap length bytes_are, length-drop place.next file, within) in
       let kept : Kept = record { state = engine.state; place = Some (with_gate place end); has_gate = has_gate } in
@@ -99,7 +97,7 @@ module _ {file bytes : List ℕ} {start : State} {place : Place} {records seen :
   row_is_bad number test told failed is =
       let bad_then = λ (most : length (made.before ++ made.left) ≤ count).
       bad_unless bad test (λ good. told.1 (subst (λ l. length l ≤ count) (sym made.in_order) most, good)) failed in
-      let stops = stops_at {bad = bad} made.before made.left made.count_is bad_then made.rest in
+      let stops = stops_at made.reached engine count bad made.before made.left made.count_is bad_then made.rest in
       let bad_row : IsBadRow file start place (BadRecord place.file number) = record {
         records = made.before;
         ends = ends_badly meaning file start place.next end bad made.before made.left made.reached scanned scan.ends made.lead stops;
@@ -110,35 +108,7 @@ module _ {file bytes : List ℕ} {start : State} {place : Place} {records seen :
         damaged = λ d same. let one : BadRecord place.file number ≡ d = cc in subst (λ x. IsBadRow file start place x) one bad_row;
       }
 
--- a fault of the disk and want of memory are no damage
-pub scan_undamaged : (why : ScanError) (d : Damage) → start_error why ≡ Damaged d → ⊥
-scan_undamaged scans.Disk d is = cc
-scan_undamaged scans.NoMemory d is = cc
-
--- nothing is told of a row where memory ran out
-pub row_unread : {file : List ℕ} {start : State} {place : Place} (r : Result SpendableKept StartError) → r ≡ Err NoMemory
-    → OpensRow file start place r
-row_unread (Ok store) is = absurd cc
-row_unread (Err e) is = record { leads = tt; damaged = λ d same. absurd cc }
-
-pub row_unscanned : {file : List ℕ} {start : State} {place : Place} {why : ScanError} (r : Result SpendableKept StartError)
-    → r ≡ Err (start_error why) → OpensRow file start place r
-row_unscanned (Ok store) is = absurd cc
-row_unscanned {why = why} (Err e) is = record {
-  leads = tt;
-  damaged = λ d same. let one : start_error why ≡ Damaged d = cc in absurd (scan_undamaged why d one);
-}
-
 -- ---- both files
-
--- no damage is told where the disk failed or memory ran out
-pub opened_unread : {old new : View} (r : Result SpendableKept StartError) → OnlyAsks old new → IsErr r
-    → ((d : Damage) → r ≡ Err (Damaged d) → ⊥) → Opened old new r
-opened_unread (Ok store) asks no_error never = absurd (ok_no_error store no_error)
-  where
-    ok_no_error : (store : SpendableKept) → IsErr {T = SpendableKept} {E = StartError} (Ok store) → ⊥
-    ok_no_error store is = cc
-opened_unread (Err e) asks is_error never = record { asks = asks; stands = tt; damaged = λ d is. absurd (never d is) }
 
 pub opened_damaged : {old new : View} {damage : Damage} → OnlyAsks old new → IsDamaged damage old.reads
     → Opened old new (Err (Damaged damage))
@@ -148,26 +118,25 @@ opened_damaged {old} {damage = damage} asks is = record {
   damaged = λ d same. let one : damage ≡ d = cc in subst (λ x. IsDamaged x old.reads) one is;
 }
 
--- the newest is at fault
-pub newest_unfound : {old new : View} {e : PagesError} → FoundNewest old new (Err e) → Opened old new (Err (newest_error e))
-newest_unfound {e = pages.Disk} found = opened_unread (Err Disk) found.asks cc (λ d is. cc)
-newest_unfound {e = pages.NoMemory} found = opened_unread (Err NoMemory) found.asks cc (λ d is. cc)
-newest_unfound {e = pages.Damaged damage} found = opened_damaged found.asks (inl (found.damaged damage refl))
+-- a fault of the disk and want of memory are no damage
+disk_undamaged : (d : Damage) → Disk ≡ Damaged d → ⊥
+disk_undamaged d is = cc
 
--- none counts
-pub none_opened : {old new : View} {engine : SpendableState} (store : SpendableKept) → FoundNewest old new (Ok None)
-    → engine ≡ fresh_state → store.kept ≡ record { state = engine.state; place = None; has_gate = true } → Opened old new (Ok store)
-none_opened {old} {engine = engine} store found fresh is =
-    let kept : Kept = record { state = empty_state; place = None; has_gate = true } in
-    let same : store.kept ≡ kept =
-    is ∙ (λ i. record { state = (fresh i).state; place = None; has_gate = true }) in
-    let rests : RestsAt kept old.reads = record { stands = (found.none refl, refl); reach = refl } in
-    let knows : KnowsGate kept old.reads = λ place no lt. refl in
-    record {
-      asks = found.asks;
-      stands = (subst (λ k. RestsAt k old.reads) (sym same) rests, subst (λ (k : Kept). KnowsGate k old.reads) (sym same) knows);
-      damaged = λ d no. absurd cc;
-    }
+memory_undamaged : (d : Damage) → NoMemory ≡ Damaged d → ⊥
+memory_undamaged d is = cc
+
+opened_cut : {old new : View} (e : StartError) → OnlyAsks old new → ((d : Damage) → e ≡ Damaged d → ⊥) → Opened old new (Err e)
+opened_cut e asks never = record {
+  asks = asks;
+  stands = tt;
+  damaged = λ d is. let one : e ≡ Damaged d = cc in absurd (never d one);
+}
+
+-- the newest is at fault
+pub newest_unfound : {old new : View} (e : PagesError) → FoundNewest old new (Err e) → Opened old new (Err (newest_error e))
+newest_unfound pages.Disk found = opened_cut Disk found.asks disk_undamaged
+newest_unfound pages.NoMemory found = opened_cut NoMemory found.asks memory_undamaged
+newest_unfound (pages.Damaged damage) found = opened_damaged found.asks (inl (found.damaged damage refl))
 
 -- the payload is that of no state
 pub payload_bad : {old new : View} {found : Found} {damage : Damage} → OnlyAsks old new → IsFound old.reads found
@@ -179,6 +148,19 @@ payload_bad {found = found} asks is bad = inr (inl (record {
   none = bad.1;
   is = bad.0;
 }))
+
+pub payload_unopened : {old new : View} {found : Found} {bytes : List ℕ} {e : StartError} → OnlyAsks old new → IsFound old.reads found
+    → bytes ≡ found.payload.items
+    → ((d : Damage) → e ≡ Damaged d → (d ≡ BadSnapshot found.file) × ((state : State) → Opens bytes state → ⊥))
+    → Opened old new (Err e)
+payload_unopened {found = found} {e = e} asks is same damaged = record {
+  asks = asks;
+  stands = tt;
+  damaged = λ d told.
+      let one : e ≡ Damaged d = cc in
+      let (file, none) = damaged d one in
+      payload_bad asks is (file, λ state opens. none state (subst (λ l. Opens l state) (sym same) opens));
+}
 
 module _ {old new : View} {payload : List ℕ} {start : State} {place : Place} (asks : OnlyAsks old new)
     (newest : HoldsNewest old.reads place.file (numbered place.generation payload))
@@ -239,16 +221,14 @@ opened_behind {old} {mid} {r = r} asks opened =
       damaged = λ d is. subst (λ f. IsDamaged d f) same (opened.damaged d is);
     }
 
--- ---- the start of a store
+-- the newest was found, and opened then
+pub found_behind : {old mid new : View} {found : Found} {f : Result (Option Found) PagesError} {r : Result SpendableKept StartError}
+    → FoundNewest old mid f → f ≡ Ok (Some found) → (IsFound mid.reads found → Opened mid new r) → Opened old new r
+found_behind {found = found} one is then =
+    let same = same_files one.asks.files.reads in
+    opened_behind one.asks (then (subst (λ f. IsFound f found) (sym same) (one.found found is)))
 
--- the files weren't synced
-pub started_cut : {old new : View} {e : StartError} → OnlyAsks old new → e ≡ Disk → Started old new (Err e)
-started_cut {e = e} asks is = record {
-  asks = asks;
-  opened = λ other. absurd (other (ap (λ x. Err x) is));
-  stands = tt;
-  damaged = λ d same. absurd cc;
-}
+-- ---- the start of a store
 
 module _ {old mid new : View} {x : Unit {0}} (synced : Synced old mid (Ok x)) (only : (a : Moment) → mid.left_since mid.moment a → MayLeave mid a)
     (r : Result SpendableKept StartError) (files : Opened mid new r) where

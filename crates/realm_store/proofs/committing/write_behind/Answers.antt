@@ -12,7 +12,7 @@ write_first-requires-clause-first g c =
 pub write_first-requires-clause-rest : goal.write_first-requires-clause-rest
 write_first-requires-clause-rest g c = λ t.
     let (kept, waits, rest) = c.requires.rest in
-    rests_first kept waits _ (rest t) (λ f. g.met.W.Outside.reads_an_image c.args.world.now f t) c.in-First.is
+    rests_first kept waits (g.W.Outside.view c.args.world.now) (rest t) (λ f. g.met.W.Outside.reads_an_image c.args.world.now f t) c.in-First.is
 
 -- the files rest before the gate that is missing
 pub write_at_end-requires-clause-rest : goal.write_at_end-requires-clause-rest
@@ -30,7 +30,7 @@ write_record-requires-clause-rest g c = λ t.
 pub returns-in-First-clause-told : goal.returns-in-First-clause-told
 returns-in-First-clause-told g c = λ t kept after waits rest leads.
     let one = c.write_first.ensures in
-    first_committed kept waits _ rest (λ f. g.met.W.Outside.reads_an_image c.args.world.now f (one.goes_on.tells t)) c.in-First.is
+    first_committed kept waits (g.W.Outside.view c.args.world.now) rest (λ f. g.met.W.Outside.reads_an_image c.args.world.now f (one.goes_on.tells t)) c.in-First.is
     (λ lead. one.told t after lead) leads
 
 pub returns-in-Missing-clause-told : goal.returns-in-Missing-clause-told
