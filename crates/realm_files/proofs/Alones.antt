@@ -1,5 +1,5 @@
 -- This file shows that what file A stood for alone it stands for beside an empty file B.
-use Rattle.std.proofs.Common.{◌≡◌, ◌≢◌, ◌<◌, ℕ, List, [], length, Option, Some, None, refl, sym, subst, arith}
+use Rattle.std.proofs.Common.{◌≡◌, ◌≢◌, ◌<◌, ℕ, List, [], Option, Some, None, refl, sym, subst, arith}
 use Rattle.outside_world.specs.declared.world.FileName.{FileName}
 use Rattle.outside_world.specs.declared.world.FileName.TheVariants.{A, B}
 use Rattle.record_codec.specs.declared.header.Header.{Header}

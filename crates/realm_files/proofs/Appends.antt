@@ -1,5 +1,5 @@
 -- This file shows what two files stand for while a record is appended to the newest.
-use Rattle.std.proofs.Common.{◌≡◌, ◌≢◌, ◌⊎◌, inl, inr, ⊎_elim, ℕ, ◌+◌, ◌<◌, ◌≤◌, Bool, true, List, [], ◌∷◌, ◌++◌, length, take}
+use Rattle.std.proofs.Common.{◌≡◌, ◌≢◌, ◌⊎◌, inl, inr, ⊎_elim, ℕ, ◌+◌, ◌≤◌, Bool, List, [], ◌∷◌, ◌++◌, length, take}
 use Rattle.std.proofs.Common.{Some, refl, sym, ◌∙◌, ap, subst, arith}
 use Rattle.std.specs.Prelude.{Result, Ok, Err, OnOk, IfOk}
 use Rattle.outside_world.specs.declared.world.FileName.{FileName}
@@ -14,7 +14,7 @@ use Rattle.realm_journal.specs.Gates.{IsClosedAt, IsWholeAt}
 use Rattle.realm_pages.specs.Generations.{gate_of}
 use Rattle.realm_files.specs.Meaning.{Meaning}
 use Rattle.realm_files.specs.Stands.{Files, StandsOn, StandsFor, numbered}
-use Rattle.realm_files.specs.Keeping.{at_gate, InEachImage, AllRest}
+use Rattle.realm_files.specs.Keeping.{at_gate, AllRest}
 use Rattle.realm_files.specs.Writing.{Committed, with_gate}
 use Rattle.realm_files.specs.declared.place.Place.{Place}
 use Rattle.realm_files.proofs.Pairs.{put, put_here, put_there, put_left}

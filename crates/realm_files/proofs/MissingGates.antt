@@ -1,14 +1,11 @@
 -- This file shows what two files stand for while the gate is added that is missing at the end of the newest.
-use Rattle.std.proofs.Common.{◌≡◌, ◌≢◌, ℕ, ◌<◌, Bool, true, false, List, length, take, Some, sym, ◌∙◌, ap, subst, arith}
+use Rattle.std.proofs.Common.{◌≡◌, ℕ, ◌<◌, Bool, true, false, length, take, Some, sym, ◌∙◌, ap, subst, arith}
 use Rattle.std.specs.Prelude.{Result, Ok, Err, IsErr}
-use Rattle.outside_world.specs.declared.world.FileName.{FileName}
 use Rattle.outside_world.specs.View.{View}
 use Rattle.outside_world.proofs.Moments.{only_wider, only_then, none_taken_then}
 use Rattle.realm_journal.specs.declared.error.JournalError.{JournalError}
 use Rattle.realm_journal.specs.Shutting.{Shut}
-use Rattle.realm_journal.specs.Gates.{IsClosedAt}
 use Rattle.realm_files.specs.Meaning.{Meaning}
-use Rattle.realm_files.specs.Stands.{Files}
 use Rattle.realm_files.specs.Keeping.{Kept, AllRest}
 use Rattle.realm_files.specs.Writing.{AddedGate, Committed}
 use Rattle.realm_files.specs.declared.place.Place.{Place}
@@ -44,7 +41,8 @@ module _ {S : Type 0} (m : Meaning S) where
         (λ f differ. shut.writes.others f (files f) differ (images f))) in
         let within = subst (λ l. place.next < length l) (sym same) shut.shut.within in
         record {
-          stands = stands_front m was files state place stood.stands (λ f differ. sym (put_there files file (old.reads file) f differ)) front
+          stands = stands_front m was files state place stood.stands
+              (λ f differ. sym (put_there files file (old.reads file) f differ)) front
               (shut.shut.closed (files file) (images file));
           reach = (omega (arith, within), λ _. within);
         };

@@ -3,10 +3,9 @@ use Rattle.std.proofs.Common.{◌≡◌, ◌≢◌, ℕ, ◌+◌, ◌*◌, ◌<�
 use Rattle.std.proofs.Common.{refl, sym, ◌∙◌, ap, subst, arith, length-drop}
 use Rattle.std.proofs.lemmas.List.{get_or-take, length-take}
 use Rattle.outside_world.specs.declared.world.FileName.{FileName}
-use Rattle.record_codec.specs.declared.header.Header.{Header}
 use Rattle.record_codec.specs.Heads.{header_text}
 use Rattle.realm_pages.specs.Generations.{Generation, page_count, header_of, gate_of, part_behind}
-use Rattle.realm_pages.specs.Files.{Counts, HasHead, HoldsFirst, Holds, page_at}
+use Rattle.realm_pages.specs.Files.{Counts, HasHead, HoldsFirst, Holds}
 use Rattle.realm_pages.specs.Finding.{HoldsNewest}
 use Rattle.realm_pages.proofs.HeadLength.{head_size}
 use Rattle.realm_pages.proofs.Parts.{length_page, part_fills}
@@ -28,7 +27,8 @@ module _ (g : Generation) (c d : List ℕ) (next : ℕ) (behind : gate_of g ≤ 
     counts = counts_front c d next (omega (arith, behind)) front holds.counts;
     head = record {
       is_header = holds.head.is_header;
-      stands = written_front 1 (header_text (header_of g)) c d next (omega (arith, behind, head_size (header_of g))) front holds.head.stands;
+      stands = written_front 1 (header_text (header_of g)) c d next (omega (arith, behind, head_size (header_of g))) front
+          holds.head.stands;
     };
     pages = record {
       fills = holds.pages.fills;
@@ -54,8 +54,8 @@ newest_front g was files file next behind others front newest =
     }
 
 -- a file that holds a generation reaches to the gate of its first record
-last_page : (g : Generation) (file : List ℕ) (n : ℕ) → n ≡ page_count (length g.payload) → HoldsFirst file (length g.payload) (page_count (length g.payload)) g.payload
-    → 4096 ≤ length file → 4096 * (n + 1) ≤ length file
+last_page : (g : Generation) (file : List ℕ) (n : ℕ) → n ≡ page_count (length g.payload)
+    → HoldsFirst file (length g.payload) (page_count (length g.payload)) g.payload → 4096 ≤ length file → 4096 * (n + 1) ≤ length file
 last_page g file zero is pages long = omega (arith, long)
 last_page g file (suc n) is pages long =
     let lt : n < page_count (length g.payload) = omega (arith, is) in

@@ -1,10 +1,9 @@
 -- This file shows that two files have one reading: one state with one place, or one damage.
-use Rattle.std.proofs.Common.{◌≡◌, ◌⊎◌, inl, inr, ℕ, ◌+◌, List, length, Option, Some, None, refl, sym, ◌∙◌, ap, subst}
+use Rattle.std.proofs.Common.{◌≡◌, inl, inr, ℕ, ◌+◌, List, length, Option, Some, None, refl, sym, ◌∙◌, ap, subst}
 use Rattle.outside_world.specs.declared.world.FileName.{FileName}
 use Rattle.record_codec.specs.declared.record.Record.{Record}
 use Rattle.realm_journal.specs.Gates.{IsOpenAt}
 use Rattle.realm_pages.specs.Generations.{Generation, gate_of}
-use Rattle.realm_pages.specs.Damages.{IsDamaged as IsDamagedPage}
 use Rattle.realm_pages.specs.Finding.{HoldsNewest}
 use Rattle.realm_pages.specs.declared.damage.Damage.{Damage}
 use Rattle.realm_pages.specs.declared.damage.Damage.TheVariants.{BadSnapshot, BadRecord}
@@ -12,7 +11,7 @@ use Rattle.realm_pages.proofs.FilesOnce.{generation_once, no_damage, damage_once
 use Rattle.realm_files.specs.Meaning.{Meaning}
 use Rattle.realm_files.specs.Rows.{AreLed, LacksRecord}
 use Rattle.realm_files.specs.Stands.{Files, StandsOn, StandsAt, StandsFor, numbered}
-use Rattle.realm_files.specs.Damages.{IsNoState, HasBadRecord, EndsBadly, IsDamaged}
+use Rattle.realm_files.specs.Damages.{IsNoState, HasBadRecord, IsDamaged}
 use Rattle.realm_files.specs.declared.place.Place.{Place}
 use Rattle.realm_files.proofs.LedOnce.{closed_lacks, one_row}
 

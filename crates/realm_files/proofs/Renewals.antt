@@ -1,7 +1,7 @@
 -- This file shows what two files stand for while the next generation is put on the one that isn't the newest.
-use Rattle.std.proofs.Common.{◌≡◌, ◌≢◌, ◌⊎◌, inl, inr, ⊎_elim, ℕ, ◌+◌, ◌<◌, Bool, true, List, [], length, Option, Some, None}
-use Rattle.std.proofs.Common.{refl, sym, ◌∙◌, ap, subst, arith}
-use Rattle.std.specs.Prelude.{Result, Ok, Err, IsErr, OnOk, IfOk}
+use Rattle.std.proofs.Common.{◌≡◌, ◌≢◌, inl, inr, ⊎_elim, ℕ, ◌<◌, Bool, true, List, [], Option, Some, None}
+use Rattle.std.proofs.Common.{refl, sym, ◌∙◌, subst, arith}
+use Rattle.std.specs.Prelude.{Result, Ok, Err, IsErr, OnOk}
 use Rattle.outside_world.specs.declared.world.FileName.{FileName}
 use Rattle.outside_world.specs.declared.world.FileName.TheVariants.{A, B}
 use Rattle.outside_world.specs.View.{View, Moment, MayLeave}
@@ -18,7 +18,7 @@ use Rattle.realm_pages.specs.Switching.{Switched, MayTake, HasSameNewest, IsNewe
 use Rattle.realm_pages.proofs.FilesOnce.{newest_once}
 use Rattle.realm_files.specs.Meaning.{Meaning}
 use Rattle.realm_files.specs.Rows.{AreRecords}
-use Rattle.realm_files.specs.Stands.{Files, NoneCounts, StandsOn, StandsAt, StandsFor, numbered}
+use Rattle.realm_files.specs.Stands.{Files, StandsOn, StandsAt, StandsFor, numbered}
 use Rattle.realm_files.specs.Keeping.{Kept, RestsAt, AllRest, at_gate}
 use Rattle.realm_files.specs.Writing.{Stays, Renewed, Committed, other_file, next_file, next_generation, renewed_place}
 use Rattle.realm_files.specs.declared.place.Place.{Place}

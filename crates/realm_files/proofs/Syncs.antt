@@ -1,5 +1,5 @@
 -- This file shows what is told of files that are synced and then only read.
-use Rattle.std.proofs.Common.{◌≡◌, ⊎_elim, ℕ, List, ◌∙◌, arith, sym, subst}
+use Rattle.std.proofs.Common.{◌≡◌, ⊎_elim, ◌∙◌, arith, sym, subst}
 use Rattle.std.specs.Prelude.{Result, Ok, Err, IsErr}
 use Rattle.outside_world.specs.declared.world.FileName.{FileName}
 use Rattle.outside_world.specs.declared.world.FileName.TheVariants.{A, B}

@@ -1,5 +1,5 @@
 -- What is kept of the files between two changes.
-use Rattle.std.specs.Prelude.{◌≡◌, ◌<◌, ℕ, Bool, true, List, length, Option, Some}
+use Rattle.std.specs.Prelude.{◌≡◌, ◌<◌, Bool, true, length, Option, Some}
 use Rattle.outside_world.specs.declared.world.FileName.{FileName}
 use Rattle.outside_world.specs.View.{View}
 use Rattle.realm_files.specs.Meaning.{Meaning}

@@ -6,7 +6,7 @@ use Rattle.outside_world.specs.View.{View, Moment}
 use Rattle.outside_world.specs.Since.{TakesNone, LeavesOnly}
 use Rattle.realm_pages.specs.Generations.{gate_of}
 use Rattle.realm_files.specs.Meaning.{Meaning}
-use Rattle.realm_files.specs.Stands.{Files, StandsFor, numbered}
+use Rattle.realm_files.specs.Stands.{StandsFor, numbered}
 use Rattle.realm_files.specs.Keeping.{Kept, at_gate, InEachImage, AllRest}
 use Rattle.realm_files.specs.declared.place.Place.{Place}
 
