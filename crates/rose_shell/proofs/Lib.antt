@@ -38,7 +38,7 @@ mod Exits
 mod Prefixes
 -- sessions of the store
 mod Sessions
--- a session that begins after file A was read
+-- a session that begins after the files were read
 mod Openings
 -- how a run ends that counts no fault
 mod Rises

@@ -104,6 +104,7 @@ fn told_by<R: Threads + Sync>(rt: &R, alloc: Global, world: &mut MemoryWorld) ->
         Ok(store) => (0, store.state().changes()),
         Err(StartError::Damaged(Damage::BadPage { page, .. })) => (5, page),
         Err(StartError::Damaged(Damage::BadRecord { number, .. })) => (5, number),
+        Err(StartError::Damaged(_)) => (5, 0),
         Err(StartError::Disk) => (4, 0),
         Err(StartError::NoMemory) => (6, 0),
     }

@@ -8,7 +8,7 @@ use Rattle.rose_shell.proofs.running.start_and_serve.Goals as goal
 pub returns-in-Ok-clause-damaged : goal.returns-in-Ok-clause-damaged
 returns-in-Ok-clause-damaged g c = λ d is tells. absurd (c.serve.ensures.never_damaged d is)
 
--- the session goes on from what file A was read as
+-- the session goes on from what the files were read as
 pub returns-in-Ok-clause-told : goal.returns-in-Ok-clause-told
 returns-in-Ok-clause-told g c = λ tells.
     let then = c.serve.ensures.goes_on.tells tells in

@@ -6,7 +6,7 @@ use Rattle.rose_shell.proofs.Rises.{rose_behind, unstarted}
 use Rattle.rose_shell.proofs.Tellings.{lines_behind}
 use Rattle.rose_shell.proofs.telling.tell_store.Goals as goal
 
--- file A stands for the state whose numbers are told
+-- the files stand for the state whose numbers are told
 pub returns-in-Ok-count_state-clause-told : goal.returns-in-Ok-count_state-clause-told
 returns-in-Ok-count_state-clause-told g c = λ tells.
     let started = c.in-Ok.ensures.told (c.give_lines.ensures.goes_on.tells tells) in
@@ -14,7 +14,7 @@ returns-in-Ok-count_state-clause-told g c = λ tells.
     inr (
       kept.state,
       c.in-Ok-count_state.lines,
-      (kept.next, started.stands.0.stands),
+      (kept.place, started.stands.0.stands),
       subst (λ (s : State). TellsCounts s c.in-Ok-count_state.lines) c.state.ensures.state c.in-Ok-count_state.ensures,
       lines_behind started.asks (c.give_lines.ensures.told tells),
     )
