@@ -1,34 +1,30 @@
 -- This file shows that the one cycle between the face and a class, turned the right way, has the class on its right.
-use Rattle.std.proofs.Common.{◌≡◌, ◌≢◌, ◌⊎◌, ℕ, zero, suc, ◌+◌, ◌<◌, ◌≤◌, ◌==◌, Bool, true, false, cond, not, ◌&&◌, ◌||◌, List, [], ◌∷◌, ◌++◌}
-use Rattle.std.proofs.Common.{reverse, length, get_or, Contains, All, AllPairs, IsTrue, count_by, if◌then◌else◌, refl, sym, ap, ap₂, subst, ◌∙◌}
+use Rattle.std.proofs.Common.{◌≡◌, ◌≢◌, ◌⊎◌, ℕ, zero, suc, ◌<◌, ◌==◌, Bool, true, false, not, ◌&&◌, ◌||◌, List, [], ◌∷◌, ◌++◌}
+use Rattle.std.proofs.Common.{reverse, length, get_or, Contains, AllPairs, IsTrue, if◌then◌else◌, refl, sym, ap, ap₂, subst, ◌∙◌}
 use Rattle.std.proofs.Common.{◌↔◌, nat_lt, Result, Ok, Err, IfOk, arith, inl, inr}
 use Rattle.std.proofs.lemmas.Bool.Decides.{nat_tests}
-use Rattle.grid_base.specs.Point.{GridPoint, IsBefore, is_before, is_point}
+use Rattle.grid_base.specs.Point.{GridPoint, IsBefore, is_before}
 use Rattle.grid_base.specs.Segment.{GridSegment, IsSegmentBefore, segment_of}
 use Rattle.grid_base.specs.Sides.{Side, Left, On, Right}
 use Rattle.grid_base.specs.Plane.{Place}
-use Rattle.grid_base.specs.Border.{AreNoded, IsEvenBorder}
-use Rattle.grid_base.proofs.Orders.{is_point-same, is_point-itself}
-use Rattle.grid_base.proofs.Elements.{Contains-here, Contains-later, Contains-nil, same_place}
-use Rattle.plane_classes.specs.Classes.{AreInOneClass, AreAcross, FromLeft, FromRight}
-use Rattle.plane_classes.proofs.ClassLemmas.{one_class_back}
+use Rattle.grid_base.proofs.Elements.{Contains-here, Contains-later}
+use Rattle.plane_classes.specs.Classes.{FromLeft, FromRight}
 use Rattle.plane_cells.specs.Numbered.{numbered}
 use Rattle.plane_cells.specs.Sheared.{AreOfRealm}
 use Rattle.plane_cells.specs.ClassNumbers.{number_at, LiesBeside, AreClassNumbers}
 use Rattle.plane_cells.specs.declared.classes.SideClasses.{SideClasses}
 use Rattle.plane_cells.proofs.OfRealm.{once_in}
-use Rattle.plane_cells.proofs.ShearedRealm.{numbered_in}
-use Rattle.r_cycles.specs.Cycles.{Link, link, links, round, joins, times_joined, IsCycle, CutsIntoCycles}
-use Rattle.r_cycles.proofs.Counts.{count_by-some, count_by-found}
+use Rattle.r_cycles.specs.Cycles.{Link, link, links, round, joins, IsCycle, CutsIntoCycles}
+use Rattle.r_cycles.proofs.Counts.{count_by-found}
 use Rattle.class_borders.specs.ClassLinks.{is_left_alone, is_right_alone, class_links, class_rim}
 use Rattle.class_borders.specs.ClassBorders.{LiesBetween, back, GoesAlong}
 use Rattle.class_borders.proofs.LinkCounts.{numbers_at}
-use Rattle.class_borders.proofs.EvenRims.{is_alone, IsAlong, rim_number, rim_part, link_along, left_link, right_link}
+use Rattle.class_borders.proofs.EvenRims.{is_alone, IsAlong, rim_number, link_along, left_link, right_link}
 use Rattle.class_borders.proofs.OneCycles.{along, along_border, first_used, by_joins, along_ends}
 use Rattle.class_borders.proofs.Aligned.{GoesWith, With, Against}
 use Rattle.class_borders.proofs.OneWays.{one_way, with_class}
 use Rattle.r_faces.specs.Rounds.{IsFaceNumber, IsRound}
-use Rattle.r_faces.specs.Turned.{IsTurned, BeginsLeast, back_of}
+use Rattle.r_faces.specs.Turned.{IsTurned, BeginsLeast}
 use Rattle.r_faces.proofs.TurnedLinks.{cycle_turned, cycle_reversed, HaveLinks, link_was, link_is}
 
 -- ---- each segment of a class's rim lies between the class and the face
@@ -56,7 +52,8 @@ pub data HasSides (N : List SideClasses) (face n i : ℕ) : Type 0 where
 
 pub has_sides : (R : List GridSegment) (N : List SideClasses) (face n i : ℕ) → IsFaceNumber R N face → n ≢ face → i < length R
     → is_alone n (numbers_at N i) ≡ true → HasSides N face n i
-has_sides R N face n i two other hi alone = by (one_of (is_left_alone n (numbers_at N i)) (is_right_alone n (numbers_at N i)) alone) (two i hi)
+has_sides R N face n i two other hi alone =
+    by (one_of (is_left_alone n (numbers_at N i)) (is_right_alone n (numbers_at N i)) alone) (two i hi)
   where
     by : (is_left_alone n (numbers_at N i) ≡ true) ⊎ (is_right_alone n (numbers_at N i) ≡ true)
         → ((number_at N i Left ≡ face) × (number_at N i Right ≢ face)) ⊎ ((number_at N i Right ≡ face) × (number_at N i Left ≢ face))

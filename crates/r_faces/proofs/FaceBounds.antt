@@ -1,6 +1,7 @@
 -- This file shows that the cycles round the classes beyond a face are its borders.
-use Rattle.std.proofs.Common.{◌≡◌, ◌≢◌, ◌⊎◌, ◌↔◌, ℕ, zero, suc, ◌+◌, ◌<◌, ◌≤◌, ◌==◌, Bool, true, false, not, ◌&&◌, ◌||◌, if◌then◌else◌}
-use Rattle.std.proofs.Common.{List, [], ◌∷◌, ◌++◌, length, slice_index, get_or, remove, Contains, AllPairs, refl, sym, ap, subst, ◌∙◌, arith, inl, inr}
+use Rattle.std.proofs.Common.{◌≡◌, ◌≢◌, ◌⊎◌, ◌↔◌, ℕ, zero, suc, ◌+◌, ◌<◌, ◌==◌, Bool, true, false, not, ◌&&◌, ◌||◌, if◌then◌else◌}
+use Rattle.std.proofs.Common.{List, [], ◌∷◌, ◌++◌, length, slice_index, get_or, remove, Contains, AllPairs, refl, sym, ap, subst, ◌∙◌}
+use Rattle.std.proofs.Common.{arith, inl, inr}
 use Rattle.std.specs.List.Sorted.{IsStrictlyIncreasing}
 use Rattle.std.proofs.lemmas.List.Elements.{Contains-get_or}
 use Rattle.std.proofs.lemmas.List.Kept.{AllPairs-from_increasing}
@@ -31,7 +32,6 @@ use Rattle.r_faces.specs.Parted.{AreKeys}
 use Rattle.r_faces.specs.Rims.{IsInside}
 use Rattle.r_faces.specs.Rounds.{AreBeyond, IsFaceNumber, IsRound}
 use Rattle.r_faces.proofs.FaceRims.{IsKnown, in_order, differ, those_alone}
-use Rattle.r_faces.proofs.CycleRounds.{HasSides, OnLeft, OnRight, has_sides}
 
 -- ---- the side of the face
 -- the face is on the side d of segment i
@@ -200,7 +200,8 @@ pub zero_beyond : (R : List GridSegment) (N : List SideClasses) (U : List ℕ) (
     → AreBeyond N face (length R) U → slice_index U key.at ≡ 0
 zero_beyond R N U face key u =
     u.each key.at key.within
-    ∙ ap (λ (b : Bool). if b then number_at N key.at Right else number_at N key.at Left) (test_yes (number_at N key.at Left) face (sym key.is))
+    ∙ ap (λ (b : Bool). if b then number_at N key.at Right else number_at N key.at Left)
+    (test_yes (number_at N key.at Left) face (sym key.is))
     ∙ key.outer
 
 -- and so the least of the keys
@@ -261,8 +262,11 @@ border_cycle R N z face m P c key k inside other says h = record {
                 let on_left = tells (number_at N a.place Left) m (both_true _ _ x.0) in (
                   s,
                   numbered_in R a.place a.within,
-                  inr (ap back x.1, faced a.place Right a.within right_off (right_face on_left (two a.place a.within)),
-                      beside a.place Left a.within left_off on_left),
+                  inr (
+                    ap back x.1,
+                    faced a.place Right a.within right_off (right_face on_left (two a.place a.within)),
+                    beside a.place Left a.within left_off on_left,
+                  ),
                 )
               where
                 right_face : number_at N a.place Left ≡ m
@@ -274,8 +278,11 @@ border_cycle R N z face m P c key k inside other says h = record {
                 let on_right = tells (number_at N a.place Right) m (both_true _ _ x.0) in (
                   s,
                   numbered_in R a.place a.within,
-                  inl (ap back x.1, faced a.place Left a.within left_off (left_face on_right (two a.place a.within)),
-                      beside a.place Right a.within right_off on_right),
+                  inl (
+                    ap back x.1,
+                    faced a.place Left a.within left_off (left_face on_right (two a.place a.within)),
+                    beside a.place Right a.within right_off on_right,
+                  ),
                 )
               where
                 left_face : number_at N a.place Right ≡ m
@@ -448,8 +455,8 @@ hole_of R N z y face U keys cycles h inside e rounds enc = by (enclosed_number R
         )
 
 -- and each cycle behind the first is that of an enclosed class
-pub of_hole : (R : List GridSegment) (N : List SideClasses) (z : Place) (face : ℕ) (U keys : List ℕ) (cycles : List (List GridPoint)) (k : ℕ)
-    (hole : List GridPoint) → IsCut R N face U keys → IsInside R z → length cycles ≡ length keys → AreRounds R N keys cycles
+pub of_hole : (R : List GridSegment) (N : List SideClasses) (z : Place) (face : ℕ) (U keys : List ℕ) (cycles : List (List GridPoint))
+    (k : ℕ) (hole : List GridPoint) → IsCut R N face U keys → IsInside R z → length cycles ≡ length keys → AreRounds R N keys cycles
     → suc k < length cycles → get_or cycles (suc k) hole ≡ hole
     → (y : Place) × IsEnclosed R z y × IsBorderCycle R z (AreInOneClass R y) hole
 of_hole R N z face U keys cycles k hole h inside e rounds within is = by (beyond_is R N U face i.0 two h.beyond i.1)
@@ -472,10 +479,14 @@ of_hole R N z face U keys cycles k hole h inside e rounds within is = by (beyond
 
     at : (d : Side) → (d ≡ On → ⊥) → number_at N i.0 d ≡ m
         → (y : Place) × IsEnclosed R z y × IsBorderCycle R z (AreInOneClass R y) hole
-    at d off f = (p.0, enclosed, border_cycle R N z face m (AreInOneClass R p.0) hole h.key h.known inside
-        (key_other R N z face U keys (suc k) h inside in_keys)
-        (class_says R N m i.0 d p.0 p.0 h.known.numbers p.1 (itself_in_class R p.0 free) f)
-        (subst (IsRound R N m) is (rounds (suc k) hole within)))
+    at d off f = (
+      p.0,
+      enclosed,
+      border_cycle R N z face m (AreInOneClass R p.0) hole h.key h.known inside
+          (key_other R N z face U keys (suc k) h inside in_keys)
+          (class_says R N m i.0 d p.0 p.0 h.known.numbers p.1 (itself_in_class R p.0 free) f)
+          (subst (IsRound R N m) is (rounds (suc k) hole within)),
+    )
       where
         p : (u : Place) × LiesBeside R i.0 d u
         p = h.known.numbers.some i.0 d i.1 off
@@ -503,7 +514,8 @@ pub one_more_round : {X : Type 0} (P : ℕ → X → Type 0) (l more : List X) (
     → (length more ≡ k + 1) × ((j : ℕ) (d : X) → j < length more → P j (get_or more j d))
 one_more_round {X} P l more x k e n here so_far = (
   ap (λ (m : List X). length m) e ∙ longer l ∙ ap (λ (m : ℕ). m + 1) n,
-  subst (λ (m : List X). (j : ℕ) (d : X) → j < length m → P j (get_or m j d)) (sym e) (λ j d within. at l j d P so_far (subst (λ (m : ℕ). P m x)
+  subst (λ (m : List X). (j : ℕ) (d : X) → j < length m → P j (get_or m j d)) (sym e)
+      (λ j d within. at l j d P so_far (subst (λ (m : ℕ). P m x)
       (sym n) here) within),
 )
   where

@@ -1,16 +1,17 @@
 -- This file shows that the segments whose odd side has one number are the rim of a face.
-use Rattle.std.proofs.Common.{◌≡◌, ◌≢◌, ◌⊎◌, ◌↔◌, ℕ, zero, suc, ◌+◌, ◌<◌, ◌==◌, Bool, true, false, not, ◌&&◌, ◌||◌, cond, if◌then◌else◌, List, [], ◌∷◌, ◌++◌}
-use Rattle.std.proofs.Common.{length, slice_index, slice_index_or, get_or, Contains, All, AllPairs, IsTrue, refl, sym, ap, subst, ◌∙◌, arith, inl, inr}
+use Rattle.std.proofs.Common.{◌≡◌, ◌⊎◌, ◌↔◌, ℕ, zero, suc, ◌+◌, ◌<◌, ◌==◌, Bool, true, false, not, ◌&&◌, ◌||◌, if◌then◌else◌}
+use Rattle.std.proofs.Common.{List, [], ◌∷◌, ◌++◌}
+use Rattle.std.proofs.Common.{length, slice_index, get_or, Contains, All, AllPairs, IsTrue, refl, sym, ap, subst, ◌∙◌, arith, inl, inr}
 use Rattle.std.specs.List.{AllZip}
 use Rattle.grid_base.specs.Segment.{GridSegment, IsSegmentBefore}
 use Rattle.grid_base.specs.Sides.{Side, Left, On, Right}
-use Rattle.grid_base.specs.Plane.{Place, IsFree, IsBeside, blend}
+use Rattle.grid_base.specs.Plane.{Place, IsBeside, blend}
 use Rattle.grid_base.specs.Odd.{Odd, AreSides}
 use Rattle.grid_base.specs.Border.{AreNoded, IsEvenBorder}
 use Rattle.grid_base.specs.declared.kinds.Sides.{Sides}
 use Rattle.grid_base.proofs.Elements.{same_place}
 use Rattle.rose_values.specs.Areas.{IsInteriorPoint}
-use Rattle.plane_classes.specs.Classes.{AreInOneClass, IsOuter}
+use Rattle.plane_classes.specs.Classes.{AreInOneClass}
 use Rattle.plane_classes.proofs.ClassLemmas.{one_class_back, one_class_joined, itself_in_class}
 use Rattle.plane_classes.proofs.Counts.{one_parity}
 use Rattle.plane_classes.proofs.FewerSegments.{IsPart, free_of_part, class_of_part}
@@ -29,9 +30,9 @@ use Rattle.r_blocks.specs.Places.{those}
 use Rattle.r_blocks.proofs.AtPlaces.{those_stand, those_have, those_ascend, those_noded}
 use Rattle.class_borders.specs.ClassLinks.{class_rim, is_left_alone, is_right_alone}
 use Rattle.class_borders.proofs.LinkCounts.{numbers_at}
-use Rattle.class_borders.proofs.EvenRims.{is_alone, rim_is_even, rim_part}
+use Rattle.class_borders.proofs.EvenRims.{is_alone, rim_is_even}
 use Rattle.class_borders.proofs.RimPlaces.{rim_odd}
-use Rattle.r_faces.specs.FaceCycles.{HasBeside, IsRim}
+use Rattle.r_faces.specs.FaceCycles.{IsRim}
 use Rattle.r_faces.specs.Rims.{IsInside, IsFaceRim, IsSomeRim, HasOddNumber, AreOddSides}
 
 -- ---- what is known of the border
@@ -145,7 +146,8 @@ number_to_class B N n z q i d k h lies e =
     one_class_joined B z h.place q h.one
     ((k.numbers.one_class h.at i h.side d h.place q h.lies lies).0 (sym h.number ∙ sym e))
 
-odd_in_class : (B : List GridSegment) (N : List SideClasses) (z q : Place) → IsKnown B N → IsInteriorPoint B z → AreInOneClass B z q → Odd B q
+odd_in_class : (B : List GridSegment) (N : List SideClasses) (z q : Place) → IsKnown B N → IsInteriorPoint B z → AreInOneClass B z q
+    → Odd B q
 odd_in_class B N z q k inner one = (parity B N z q k one).0 inner.1
 
 -- the number of a face isn't that of the outer class
@@ -302,14 +304,16 @@ is_inside B N K n z k odd of_z even =
           (r.1.0, r.1.1, (has.0, beside_part (those n K B) B s r.1.0 has.0 part has.1, class_of_part (those n K B) B z has.0 part has.2));
     }
 
-pub is_face_rim : (B : List GridSegment) (N : List SideClasses) (K : List ℕ) (n : ℕ) (z : Place) → IsKnown B N → AreOddSides B N (length B) K
+pub is_face_rim : (B : List GridSegment) (N : List SideClasses) (K : List ℕ) (n : ℕ) (z : Place) → IsKnown B N
+    → AreOddSides B N (length B) K
     → IsOfNumber B N n z → IsFaceRim B (those n K B) z
 is_face_rim B N K n z k odd of_z =
     let even = subst IsEvenBorder (sym (rim_is B N K n z k odd of_z)) (rim_is_even B N n k.realm k.numbers) in
     record { interior = of_z.inner; is_rim = is_rim B N K n z k odd of_z; inside = is_inside B N K n z k odd of_z even }
 
 -- ---- each number that comes
-place_of_number : (B : List GridSegment) (N : List SideClasses) (K : List ℕ) (n i : ℕ) → IsKnown B N → AreOddSides B N (length B) K → i < length B
+place_of_number : (B : List GridSegment) (N : List SideClasses) (K : List ℕ) (n i : ℕ) → IsKnown B N
+    → AreOddSides B N (length B) K → i < length B
     → slice_index K i ≡ n → (z : Place) × IsOfNumber B N n z
 place_of_number B N K n i k odd hi e =
     let a = odd.each i hi in (
@@ -325,7 +329,8 @@ place_of_number B N K n i k odd hi e =
       },
     )
 
-pub some_rim : (B : List GridSegment) (N : List SideClasses) (K : List ℕ) (n : ℕ) → IsKnown B N → AreOddSides B N (length B) K → Contains K n
+pub some_rim : (B : List GridSegment) (N : List SideClasses) (K : List ℕ) (n : ℕ) → IsKnown B N
+    → AreOddSides B N (length B) K → Contains K n
     → IsSomeRim B (those n K B)
 some_rim B N K n k odd there =
     let hi : there.0 < length B = omega (arith, there.1, odd.one_each) in

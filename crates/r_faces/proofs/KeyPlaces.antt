@@ -1,5 +1,5 @@
 -- This file shows that a binary search finds a number that is among ascending ones.
-use Rattle.std.proofs.Common.{◌≡◌, ◌⊎◌, ℕ, ◌+◌, ◌<◌, ◌≤◌, List, length, get_or, slice_index, Contains, Result, Ok, Err, MatchResult, refl, sym}
+use Rattle.std.proofs.Common.{◌≡◌, ◌⊎◌, ℕ, ◌<◌, ◌≤◌, List, length, get_or, slice_index, Contains, Result, Ok, Err, MatchResult}
 use Rattle.std.proofs.Common.{subst, ◌∙◌, arith, inl, inr}
 use Rattle.std.specs.List.Sorted.{IsBinarySearchResult, IsStrictlyIncreasing}
 use Rattle.std.proofs.Common.{nat_cmp}
@@ -40,7 +40,8 @@ key_at keys n r i up answer there e = by e
 
     by : (r ≡ Ok i) ⊎ (r ≡ Err i) → (i < length keys) × (slice_index keys i ≡ n)
     by (inl ok) = subst (λ (a : Result ℕ ℕ). MatchResult a (λ i. (i < length keys) × (get_or keys i 0 ≡ n))
-        (λ i. (i ≤ length keys) × ((k : ℕ) → k < i → get_or keys k 0 < n) × ((k : ℕ) → i ≤ k → k < length keys → n < get_or keys k 0))) ok all
+        (λ i. (i ≤ length keys) × ((k : ℕ) → k < i → get_or keys k 0 < n) × ((k : ℕ) → i ≤ k → k < length keys → n < get_or keys k 0)))
+        ok all
     by (inr err) = absurd (never (subst (λ (a : Result ℕ ℕ). MatchResult a (λ i. (i < length keys) × (get_or keys i 0 ≡ n))
         (λ i. (i ≤ length keys) × ((k : ℕ) → k < i → get_or keys k 0 < n) × ((k : ℕ) → i ≤ k → k < length keys → n < get_or keys k 0))) err
         all))

@@ -1,8 +1,8 @@
 -- This file shows that a turned cycle is a cycle, and which links it has.
-use Rattle.std.proofs.Common.{◌≡◌, ◌≢◌, ◌⊎◌, ℕ, zero, suc, ◌+◌, ◌<◌, ◌≤◌, Bool, true, false, cond, ◌&&◌, List, [], ◌∷◌, ◌++◌, reverse, length}
-use Rattle.std.proofs.Common.{get_or, Contains, AllPairs, count_by, if◌then◌else◌, refl, sym, ap, ap₂, subst, ◌∙◌, inl, inr, ⊎_elim, arith}
+use Rattle.std.proofs.Common.{◌≡◌, ◌+◌, Bool, true, false, ◌&&◌, List, [], ◌∷◌, ◌++◌, reverse, length}
+use Rattle.std.proofs.Common.{Contains, count_by, if◌then◌else◌, refl, sym, ap, ap₂, subst, ◌∙◌, ⊎_elim, arith}
 use Rattle.std.proofs.lemmas.List.{reverse-append}
-use Rattle.std.proofs.lemmas.List.Elements.{Contains-append_cases, Contains-append_left, Contains-append_right}
+use Rattle.std.proofs.lemmas.List.Elements.{Contains-append_cases}
 use Rattle.grid_base.specs.Point.{GridPoint, is_point}
 use Rattle.grid_base.proofs.Orders.{is_point-same, is_point-itself}
 use Rattle.grid_base.proofs.Elements.{Contains-here, Contains-later, Contains-cases, Contains-nil}
@@ -36,7 +36,8 @@ in_reverse : (c : List GridPoint) (p : GridPoint) → Contains (reverse c) p →
 in_reverse [] p m = m
 in_reverse (v ∷ c) p m =
     ⊎_elim (λ rest. Contains-later v c p (in_reverse c p rest))
-    (λ last. ⊎_elim (λ same. subst (Contains (v ∷ c)) same (Contains-here v c)) (λ nil. absurd (Contains-nil p nil)) (Contains-cases v [] p last))
+    (λ last. ⊎_elim (λ same. subst (Contains (v ∷ c)) same (Contains-here v c)) (λ nil. absurd (Contains-nil p nil))
+    (Contains-cases v [] p last))
     (Contains-append_cases (reverse c) (v ∷ []) p (subst (λ l. Contains l p) (reverse-append (v ∷ []) c) m))
 
 apart_reversed : (c : List GridPoint) → AreApart c → AreApart (reverse c)

@@ -48,7 +48,8 @@ pub record HasOddNumber (border : List GridSegment) (numbers : List SideClasses)
   pub only : (d : Side) (q : Place) → LiesBeside border i d q → Odd border q → d ≡ side
 
 -- the list has these numbers of the first k segments
-pub record AreOddSides (border : List GridSegment) (numbers : List SideClasses) (k : ℕ) (list : List ℕ) : Type 0 where
+pub record AreOddSides (border : List GridSegment) (numbers : List SideClasses) (k : ℕ) (list : List ℕ)
+    : Type 0 where
   pub one_each : length list ≡ k
   pub each : (i : ℕ) → i < k → HasOddNumber border numbers i (slice_index list i)
 

@@ -23,7 +23,8 @@ pub record AreBeyond (numbers : List SideClasses) (face k : ℕ) (list : List �
       ≡ (if number_at numbers i Left == face then number_at numbers i Right else number_at numbers i Left)
 
 -- the cycle goes along all segments with the class n on one side alone, with n on the right
-pub record IsRound (rim : List GridSegment) (numbers : List SideClasses) (n : ℕ) (cycle : List GridPoint) : Type 0 where
+pub record IsRound (rim : List GridSegment) (numbers : List SideClasses) (n : ℕ) (cycle : List GridPoint)
+    : Type 0 where
   pub is_cycle : IsCycle cycle
   pub begins_least : BeginsLeast cycle
   pub only : (l : Link) → Contains (links (round cycle)) l → Contains (class_links n rim numbers) (back l)

@@ -1,5 +1,6 @@
 //! A face by its rim: the border to the outside, and one to each part that it encloses.
-ghost use Rattle.std.specs.Prelude.{◌≡◌, ◌≢◌, ◌⊎◌, ℕ, ◌<◌, ◌≤◌, All, AllPairs, Contains, IfOk, IsTrue, length, slice_index};
+ghost use Rattle.std.specs.Prelude.{◌≡◌, ◌≢◌, ◌⊎◌, ℕ, ◌<◌, ◌≤◌, All, AllPairs, Contains};
+ghost use Rattle.std.specs.Prelude.{IfOk, IsTrue, length, slice_index};
 ghost use Rattle.std.specs.Prelude.{◌==◌, if◌then◌else◌};
 ghost use Rattle.grid_base.specs.Segment.{GridSegment, IsSegmentBefore, segment_of};
 ghost use Rattle.grid_base.specs.Sides.{Left, Right};
@@ -60,11 +61,7 @@ fn face_number(classes: &[SideClasses]) -> u64
 }
 
 // For each segment the number of the class beyond the face.
-fn other_numbers(
-    alloc: Global,
-    classes: &[SideClasses],
-    face: u64,
-) -> Result<Vec<u64>, NoMemory>
+fn other_numbers(alloc: Global, classes: &[SideClasses], face: u64) -> Result<Vec<u64>, NoMemory>
     ensures { IfOk result (λ v. AreBeyond classes.now face (length classes.now) v.items) }
 {
     let mut numbers = Vec::new(alloc);
@@ -138,13 +135,7 @@ fn cycle_of(
 }
 
 // Whether the class `number` is on the right on the way from `v` to `w`, where it is on one side.
-fn is_on_right(
-    rim: &[Segment],
-    classes: &[SideClasses],
-    number: u64,
-    v: Point,
-    w: Point,
-) -> bool
+fn is_on_right(rim: &[Segment], classes: &[SideClasses], number: u64, v: Point, w: Point) -> bool
     requires noded { AreNoded rim.now }
     requires ascending { AllPairs IsSegmentBefore rim.now }
     requires one_each { length classes.now ≡ length rim.now }

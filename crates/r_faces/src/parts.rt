@@ -16,11 +16,7 @@ pub(crate) struct Parts {
 }
 
 // The segments by their numbers.
-pub(crate) fn parted(
-    alloc: Global,
-    list: &[Segment],
-    numbers: &[u64],
-) -> Result<Parts, NoMemory>
+pub(crate) fn parted(alloc: Global, list: &[Segment], numbers: &[u64]) -> Result<Parts, NoMemory>
     requires one_each { length numbers.now ≡ length list.now }
     ensures keys { IfOk result (λ parts. AreKeys numbers.now parts.keys.items) }
     ensures length { IfOk result (λ parts. length parts.lists.items ≡ length parts.keys.items) }

@@ -1,5 +1,6 @@
 //! The rims of the faces of a region: for each face the segments that have it on one side.
-ghost use Rattle.std.specs.Prelude.{◌≡◌, ℕ, ◌<◌, if◌then◌else◌, All, AllPairs, Any, Contains, IfOk, length, slice_index_or};
+ghost use Rattle.std.specs.Prelude.{◌≡◌, ℕ, ◌<◌, if◌then◌else◌, All, AllPairs, Any, Contains};
+ghost use Rattle.std.specs.Prelude.{IfOk, length, slice_index_or};
 ghost use Rattle.std.specs.List.{AllZip};
 ghost use Rattle.grid_base.specs.Segment.{GridSegment, IsSegmentBefore};
 ghost use Rattle.grid_base.specs.Plane.{Place};

@@ -1,16 +1,12 @@
-use Rattle.std.proofs.Common.{◌≡◌, ℕ, ◌≢◌, List, [], ◌∷◌, length, get_or, Contains, sym, ap, subst, ◌∙◌}
+use Rattle.std.proofs.Common.{◌≡◌, List, [], ◌∷◌, length, get_or, Contains, sym, ap, subst, ◌∙◌}
 use Rattle.std.proofs.lemmas.List.Elements.{Contains-get_or, All-head}
 use Rattle.grid_base.specs.Point.{GridPoint}
 use Rattle.grid_base.specs.Segment.{GridSegment, segment_of}
-use Rattle.grid_base.specs.Plane.{Place}
 use Rattle.grid_base.specs.Border.{IsEvenBorder}
 use Rattle.rose_values.specs.Border.{AreSegmentsAscending}
 use Rattle.r_cycles.specs.Cycles.{IsCycle, CutsIntoCycles, link}
 use Rattle.plane_cells.specs.Numbered.{nowhere}
-use Rattle.plane_cells.specs.Sheared.{AreOfRealm}
 use Rattle.plane_cells.proofs.OfRealm.{of_realm}
-use Rattle.class_borders.specs.ClassLinks.{class_rim, class_links}
-use Rattle.class_borders.specs.ClassBorders.{LiesBetween}
 use Rattle.class_borders.proofs.EvenRims.{rim_part, rim_ascends, rim_is_even}
 use Rattle.class_borders.proofs.OneCycles.{along_border}
 use Rattle.r_faces.specs.Rounds.{IsRound}

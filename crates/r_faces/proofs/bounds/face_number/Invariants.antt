@@ -1,4 +1,4 @@
-use Rattle.std.proofs.Common.{◌≡◌, ◌≢◌, ℕ, ◌<◌}
+use Rattle.std.proofs.Common.{◌≢◌, ℕ, ◌<◌}
 use Rattle.grid_base.specs.Sides.{Right}
 use Rattle.plane_cells.specs.ClassNumbers.{number_at}
 use Rattle.r_faces.proofs.bounds.face_number.Given as goal

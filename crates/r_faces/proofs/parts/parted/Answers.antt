@@ -1,5 +1,4 @@
-use Rattle.std.proofs.Common.{◌≡◌, ◌↔◌, ◌<◌, ℕ, List, Contains, length, slice_index_or, sym, ap, subst, ◌∙◌, arith}
-use Rattle.grid_base.specs.Segment.{GridSegment}
+use Rattle.std.proofs.Common.{◌↔◌, ◌<◌, ℕ, List, Contains, length, slice_index_or, sym, ap, subst, ◌∙◌, arith}
 use Rattle.grid_base.proofs.Elements.{same_place}
 use Rattle.r_blocks.specs.Places.{those}
 use Rattle.r_faces.specs.Parted.{ArePlacesIn}

@@ -1,4 +1,4 @@
-use Rattle.std.proofs.Common.{◌≡◌, ℕ, ◌++◌, List, Contains, length, slice_index, sym, ap, subst, ◌∙◌, ⊎_elim, arith}
+use Rattle.std.proofs.Common.{ℕ, ◌++◌, List, Contains, length, slice_index, sym, ap, subst, ◌∙◌, ⊎_elim, arith}
 use Rattle.std.proofs.lemmas.List.Elements.{Contains-append_cases, Contains-get_or}
 use Rattle.std.proofs.lemmas.List.Kept.{AllPairs-from_increasing}
 use Rattle.grid_base.specs.Segment.{GridSegment}
@@ -30,7 +30,8 @@ returns-clause-only c = λ k d within.
     let there = (c.in_ok-parts.ensures.keys.same (slice_index keys k)).0 in_keys in
     let is = c.in_ok-parts.ensures.parts k d within ∙ ap (λ (l : List ℕ). those (slice_index keys k) l B) c.deref-3.ensures.value in
     subst (IsSomeRim B) (sym is)
-    (some_rim B N K (slice_index keys k) k_known odd (subst (λ (l : List ℕ). Contains l (slice_index keys k)) c.deref-3.ensures.value there))
+    (some_rim B N K (slice_index keys k) k_known odd
+    (subst (λ (l : List ℕ). Contains l (slice_index keys k)) c.deref-3.ensures.value there))
 
 -- the number of an interior place is one of the keys
 pub returns-clause-each : goal.returns-clause-each
