@@ -290,11 +290,14 @@ static REFUSED: [(&str, &str); 4] = [
         "no range\nno line 25\n",
     ),
     // Whatever else is wrong with these lines.
-    ("faces a
+    (
+        "faces a
 checkpoint
-", "no no-name
+",
+        "no no-name
 no not-built
-"),
+",
+    ),
 ];
 
 #[test]
