@@ -1,6 +1,7 @@
 //! That the lines of a batch are answered at the same time.
-use crate::running::world_of;
+use crate::running::place_of;
 use grid_base::NoMemory;
+use outside_world::MemoryWorld;
 use realm_store::Store;
 use rose_shell::{Gate, Status, serve_gated};
 use std::alloc::Global;
@@ -50,22 +51,32 @@ fn look_at_batch<R: Threads + Sync + Abort>(rt: &R, alloc: Global) -> Result<(),
     let mut input = String::from_str(alloc, "batch 64\n")?;
     input.push_str("realm\n".repeat(alloc, 64)?.as_str())?;
     let replies = "realm 0 0\n".repeat(alloc, 64)?;
-    let mut world = world_of(alloc, input.as_str(), b"", &[])?;
+    let mut place = place_of(alloc, input.as_str(), b"", &[])?;
     let meeting = Meeting {
         first: AtomicBool::new(false),
         last: AtomicBool::new(false),
         first_met: AtomicBool::new(false),
         last_met: AtomicBool::new(false),
     };
-    let status = match Store::start(rt, alloc, &mut world) {
-        Ok(mut store) => serve_gated(rt, alloc, &mut store, &mut world, 1_000, &meeting),
-        Err(_) => Status::DiskFault,
-    };
+    let status = serve_past(rt, alloc, &mut place.world, &meeting);
     assert_eq!(rt; status.number(), 0);
-    assert_eq!(rt; world.given(), replies.as_bytes());
+    assert!(rt; place.world.given() == replies.as_bytes());
     assert!(rt; meeting.first_met.load(Ordering::SeqCst));
     assert!(rt; meeting.last_met.load(Ordering::SeqCst));
     Ok(())
+}
+
+// Serves the lines of the input past this gate.
+fn serve_past<R: Threads + Sync>(
+    rt: &R,
+    alloc: Global,
+    world: &mut MemoryWorld,
+    meeting: &Meeting,
+) -> Status {
+    match Store::start(rt, alloc, world) {
+        Ok(mut store) => serve_gated(rt, alloc, &mut store, world, 1_000, meeting),
+        Err(_) => Status::DiskFault,
+    }
 }
 
 #[test]
