@@ -10,23 +10,28 @@ use Rattle.record_codec.specs.Spelling.{text_of}
 use Rattle.realm_insert.specs.State.{State}
 use Rattle.realm_insert.specs.Next.{Next}
 use Rattle.realm_journal.specs.declared.error.JournalError.{JournalError}
+use Rattle.realm_files.specs.Keeping.{at_gate}
+use Rattle.realm_files.specs.Writing.{place_or_first, with_gate}
+use Rattle.realm_files.specs.declared.place.Place.{Place}
 use Rattle.realm_store.specs.declared.error.CommitError.{CommitError}
 use Rattle.realm_store.specs.declared.error.CommitError.TheVariants.{Disk, NoMemory}
 use Rattle.realm_store.specs.Leading.{Leads}
 use Rattle.realm_store.specs.Keeping.{Kept, SpendableKept, AllRest, with_state}
 use Rattle.realm_store.specs.Replies.{ok_reply}
 use Rattle.realm_store.specs.Making.{IsMade, next_gate, record_of, kept_behind}
-use Rattle.realm_store.specs.Committing.{Committed, IsWritten, Keeps, at_gate}
+use Rattle.realm_store.specs.Committing.{Committed, IsWritten, Keeps}
 
 -- the next gate is where the record ends
-pub behind_is : (kept : Kept) {n place : ℕ} {p r : Record} → n ≡ place + 1 + length (text_of p) → place ≡ next_gate kept.next → p ≡ r
-    → kept_behind kept r ≡ at_gate kept.state n
+pub behind_is : (kept : Kept) {n : ℕ} {place : Place} {p r : Record} → n ≡ place.next + 1 + length (text_of p)
+    → place ≡ place_or_first kept.place → p ≡ r → kept_behind kept r ≡ at_gate kept.state (with_gate (place_or_first kept.place) n)
 behind_is kept ends place_is same =
-    ap (λ k. at_gate kept.state k) (sym (ends ∙ (λ i. place_is i + 1 + length (text_of (same i)))))
+    let is = ends ∙ (λ i. (place_is i).next + 1 + length (text_of (same i))) in
+    ap (λ k. at_gate kept.state (with_gate (place_or_first kept.place) k)) (sym is)
 
 module _ {old new : View} {start after : Kept} where
   -- what was written behind its gate was written from what is kept
-  pub written : {r : Result ℕ JournalError} → Committed old new start.has_gate start.state after.state r → IsWritten old new start after
+  pub written : {place : Place} {r : Result ℕ JournalError} → Committed old new start.has_gate start.state after.state place r
+      → IsWritten old new start after
   written committed = record {
     takes = committed.takes;
     given = committed.given;
@@ -34,13 +39,13 @@ module _ {old new : View} {start after : Kept} where
     either = committed.either;
   }
 
-  pub keeps_cut : {r : Result ℕ JournalError} (e : Result (List ℕ) CommitError) → IsErr e
-      → Committed old new start.has_gate start.state after.state r → Keeps old new start after e
+  pub keeps_cut : {place : Place} {r : Result ℕ JournalError} (e : Result (List ℕ) CommitError) → IsErr e
+      → Committed old new start.has_gate start.state after.state place r → Keeps old new start after e
   keeps_cut (Ok reply) no_error committed = absurd cc
   keeps_cut (Err e) is_error committed = record { rest = tt; written = λ _. written committed }
 
-  pub keeps : {n : ℕ} {reply : List ℕ} → after ≡ at_gate after.state n
-      → Committed old new start.has_gate start.state after.state (Ok n) → Keeps old new start after (Ok reply)
+  pub keeps : {n : ℕ} {place : Place} {reply : List ℕ} → after ≡ at_gate after.state (with_gate place n)
+      → Committed old new start.has_gate start.state after.state place (Ok n) → Keeps old new start after (Ok reply)
   keeps {n} is committed = record {
     rest = subst (λ k. AllRest k new) (sym is) committed.rest;
     written = λ _. written committed;
@@ -70,7 +75,7 @@ module _ {start : Kept} {spent : Bool} {self : SpendableKept} (is : record { kep
   }
 
   -- the change is made of what is kept
-  made_by : next_gate start.next < 2 ^ 61 → (reply : List ℕ)
+  made_by : next_gate start < 2 ^ 61 → (reply : List ℕ)
       → reply ≡ ok_reply state.changes (length steps) start.state.next_id (state.next_id - start.state.next_id)
       → IsMade c self.kept reply after
   made_by room reply says = subst (λ (s : SpendableKept). IsMade c s.kept reply after) is (record {
@@ -84,7 +89,7 @@ module _ {start : Kept} {spent : Bool} {self : SpendableKept} (is : record { kep
     reply_is = says;
   })
 
-  pub made : next_gate start.next < 2 ^ 61 → (new : Kept) (first added : ℕ) (result : Result (List ℕ) CommitError)
+  pub made : next_gate start < 2 ^ 61 → (new : Kept) (first added : ℕ) (result : Result (List ℕ) CommitError)
       → OnOk result (new ≡ after)
       → (first ≡ start.state.next_id) × (start.state.next_id + added ≡ state.next_id)
       → IfOk result (λ reply. reply ≡ ok_reply state.changes (length steps) first added)
@@ -122,7 +127,7 @@ module _ {start : Kept} {spent : Bool} {self : SpendableKept} (is : record { kep
         on_ok_both (Err e) same keeps = tt
 
     -- after a fault of the disk it is not known whether the record stands
-    pub cut_off : next_gate start.next < 2 ^ 61 → IsErrOf result Disk → Tells
+    pub cut_off : next_gate start < 2 ^ 61 → IsErrOf result Disk → Tells
         → (reply : List ℕ) × (k : Kept) × IsMade c self.kept reply k × IsWritten v w self.kept k
     cut_off room failed t =
         let reply = ok_reply state.changes (length steps) start.state.next_id (state.next_id - start.state.next_id) in

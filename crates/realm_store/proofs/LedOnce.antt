@@ -1,23 +1,18 @@
--- This file shows that from a gate on a file has one row of records that lead on.
-use Rattle.std.proofs.Common.{◌≡◌, ℕ, ◌+◌, suc, List, [], ◌∷◌, ◌++◌, length, drop, get_or}
-use Rattle.std.proofs.Common.{refl, sym, ◌∙◌, ap, subst, add-zero}
-use Rattle.std.proofs.lemmas.List.{take-append-drop, get_or-drop}
+-- This file shows that a record leads from a state to one, and that a payload opens one.
+use Rattle.std.proofs.Common.{◌≡◌, ℕ, List, sym, ◌∙◌, ap, subst}
 use Rattle.line_grammar.specs.declared.command.Change.{Change}
 use Rattle.line_grammar.specs.declared.command.Command.TheVariants as commands
 use Rattle.line_grammar.specs.Spelling.{change_text}
 use Rattle.line_grammar.specs.Spellable.{IsSpellableChange}
 use Rattle.line_grammar.proofs.Commands.{one_command}
 use Rattle.record_codec.specs.declared.record.Record.{Record}
-use Rattle.record_codec.specs.Fitting.{IsRecord}
-use Rattle.record_codec.specs.Spelling.{text_of}
-use Rattle.record_codec.proofs.RecordLemmas.{one_record}
+use Rattle.record_codec.proofs.SnapshotLemmas.{one_state as one_snapshot}
 use Rattle.realm_insert.specs.State.{State}
 use Rattle.realm_insert.specs.Next.{Next}
+use Rattle.realm_insert.specs.Snapshots.{state_of}
 use Rattle.realm_insert.proofs.SameStates.{one_state}
-use Rattle.realm_journal.specs.Gates.{open_gate, IsWrittenAt, IsOpenAt, IsClosedAt}
 use Rattle.realm_store.specs.Leading.{Leads}
-use Rattle.realm_store.specs.Records.{AreLed}
-use Rattle.realm_store.specs.Damages.{LacksRecord}
+use Rattle.realm_store.specs.Stands.{Opens}
 
 -- a line is the text of one change
 pub one_change : (c d : Change) → IsSpellableChange c → IsSpellableChange d → change_text c ≡ change_text d → c ≡ d
@@ -25,58 +20,13 @@ one_change c d is also same =
     let one : commands.Change c ≡ commands.Change d = one_command (commands.Change c) (commands.Change d) is also same in cc
 
 -- a record leads from a state to one
-leads_once : (old new other : State) (r : Record) → Leads old r new → Leads old r other → new ≡ other
+pub leads_once : (old new other : State) (r : Record) → Leads old r new → Leads old r other → new ≡ other
 leads_once old new other r one also =
     let same = one_change also.change one.change also.spellable one.spellable (sym also.line ∙ one.line) in
     one_state old new other one.change r.trace one.next (subst (λ c. Next old c r.trace other) same also.next)
 
--- what stands behind bytes that are written at a place
-pub behind_written : (at : ℕ) (bytes file : List ℕ) → IsWrittenAt at bytes file
-    → drop at file ≡ bytes ++ drop (length bytes) (drop at file)
-behind_written at bytes file written =
-    let rest = drop (length bytes) (drop at file) in
-    sym (take-append-drop (length bytes) (drop at file)) ∙ ap (λ l. l ++ rest) written
-
--- the gate before a record is open
-pub opens : (at : ℕ) (text file : List ℕ) → IsWrittenAt at (open_gate ∷ text) file → IsOpenAt at file
-opens at text file written =
-    ap (λ k. get_or file k 0) (sym (add-zero at)) ∙ sym (get_or-drop at file 0 0)
-    ∙ ap (λ l. get_or l 0 0) (behind_written at (open_gate ∷ text) file written)
-
--- one record stands behind a gate
-pub same_record : (at : ℕ) (r q : Record) (file : List ℕ) → IsRecord r → IsRecord q → IsWrittenAt at (open_gate ∷ text_of r) file
-    → IsWrittenAt at (open_gate ∷ text_of q) file → r ≡ q
-same_record at r q file is_r is_q one also =
-    let x = drop (length (open_gate ∷ text_of r)) (drop at file) in
-    let y = drop (length (open_gate ∷ text_of q)) (drop at file) in
-    let both = sym (behind_written at (open_gate ∷ text_of r) file one) ∙ behind_written at (open_gate ∷ text_of q) file also in
-    (one_record r q x y is_r is_q (ap (λ l. drop 1 l) both)).0
-
--- behind a closed gate no record stands
-pub closed_lacks : (state : State) (at : ℕ) (file : List ℕ) → IsClosedAt at file → LacksRecord state at file
-closed_lacks state at file closed = λ r after is leads written. closed (opens at (text_of r) file written)
-
--- Where no record more leads on, the row of records ends. So two rows from one place on are one.
-module _ (file : List ℕ) where
-  -- a row that has ended goes no further
-  ended : {P : Type 0} (start s : State) (at m : ℕ) (r : Record) (mid : State) → s ≡ start → m ≡ at → LacksRecord s m file
-      → IsRecord r → Leads start r mid → IsWrittenAt at (open_gate ∷ text_of r) file → P
-  ended start s at m r mid same place lacks is leads written =
-      absurd (lacks r mid is (subst (λ x. Leads x r mid) (sym same) leads)
-      (subst (λ k. IsWrittenAt k (open_gate ∷ text_of r) file) (sym place) written))
-
-  pub one_row : (rs qs : List Record) (start s t : State) (at m n : ℕ) → AreLed start rs at file s m → LacksRecord s m file
-      → AreLed start qs at file t n → LacksRecord t n file → (s ≡ t) × (m ≡ n) × (length rs ≡ length qs)
-  one_row [] [] start s t at m n one lacks also lacks_too = (one.0 ∙ sym also.0, one.1 ∙ sym also.1, refl)
-  one_row [] (q ∷ qs) start s t at m n one lacks (mid, is, leads, written, later) lacks_too =
-      ended start s at m q mid one.0 one.1 lacks is leads written
-  one_row (r ∷ rs) [] start s t at m n (mid, is, leads, written, later) lacks also lacks_too =
-      ended start t at n r mid also.0 also.1 lacks_too is leads written
-  one_row (r ∷ rs) (q ∷ qs) start s t at m n (mid, is, leads, written, later) lacks (mid', is', leads', written', later') lacks_too =
-      let same : q ≡ r = sym (same_record at r q file is is' written written') in
-      let at_one : mid' ≡ mid = leads_once start mid' mid r (subst (λ x. Leads start x mid') same leads') leads in
-      let on : AreLed mid qs (at + 1 + length (text_of r)) file t n =
-      subst (λ x. AreLed mid qs (at + 1 + length (text_of x)) file t n) same
-      (subst (λ x. AreLed x qs (at + 1 + length (text_of q)) file t n) at_one later') in
-      let (state, place, size) = one_row rs qs mid s t (at + 1 + length (text_of r)) m n later lacks on lacks_too in
-      (state, place, ap (λ k. suc k) size)
+-- a payload opens one state
+pub opens_once : (bytes : List ℕ) (s t : State) → Opens bytes s → Opens bytes t → s ≡ t
+opens_once bytes s t one also =
+    let same = one_snapshot one.snapshot also.snapshot one.is_snapshot also.is_snapshot (sym one.is_payload ∙ also.is_payload) in
+    one.state_is ∙ ap state_of same ∙ sym also.state_is

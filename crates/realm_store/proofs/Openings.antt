@@ -1,181 +1,249 @@
--- This file shows what a file stands for whose records were scanned and made again.
-use Rattle.std.proofs.Common.{◌≡◌, ℕ, ◌+◌, ◌<◌, ◌≤◌, Bool, true, false, List, [], ◌∷◌, ◌++◌, length, take, drop}
-use Rattle.std.proofs.Common.{refl, sym, ◌∙◌, ap, subst, arith, length-append, length-drop, Some}
-use Rattle.std.proofs.lemmas.List.{drop-drop, append-nil, length-take}
-use Rattle.std.specs.Prelude.{◌↔◌, IsTrue, nat_eq, Ok, Err}
-use Rattle.std.specs.List.{starts_with}
-use Rattle.std.proofs.lemmas.Bool.Decides.{Decides-eqb}
-use Rattle.std.proofs.lemmas.Slice.Eq.{slice_eq-Decides}
-use Rattle.outside_world.specs.declared.world.FileName.TheVariants.{A}
+-- This file shows what two files stand for that were read, and whose records were made again.
+use Rattle.std.proofs.Common.{◌≡◌, inl, inr, ℕ, ◌+◌, ◌<◌, ◌≤◌, Bool, true, false, List, [], ◌∷◌, ◌++◌, length, drop, Some}
+use Rattle.std.proofs.Common.{refl, sym, ◌∙◌, ap, subst, arith, length-append, length-drop}
+use Rattle.std.proofs.lemmas.List.{append-nil}
+use Rattle.std.specs.Prelude.{◌↔◌, IsTrue, Option, Result, Ok, Err, IfOk}
+use Rattle.outside_world.specs.View.{View, Moment, MayLeave}
 use Rattle.record_codec.specs.declared.record.Record.{Record}
-use Rattle.record_codec.specs.Fitting.{IsRecord}
-use Rattle.record_codec.specs.Heads.{header_text}
-use Rattle.record_codec.specs.Spelling.{text_of}
-use Rattle.realm_insert.specs.State.{State, SpendableState, empty_state, fresh_state}
-use Rattle.realm_journal.specs.Gates.{open_gate, IsWrittenAt, IsOpenAt}
-use Rattle.realm_journal.specs.Scanning.{IsScan, IsEnd, BeginsWithNone, Scans}
-use Rattle.realm_store.specs.Leading.{Leads}
-use Rattle.realm_store.specs.Records.{AreLed}
-use Rattle.realm_store.specs.Replaying.{LeadOn, LeadsNowhere, IsRest, Replayed}
-use Rattle.realm_store.specs.Damages.{LacksRecord, IsDamaged}
-use Rattle.realm_store.specs.Stands.{Counts, HasHead, first_gate, first_head}
-use Rattle.realm_store.specs.Keeping.{Kept, SpendableKept, RestsAt}
-use Rattle.realm_store.specs.Starting.{KnowsGate}
-use Rattle.realm_store.specs.Opening.{IsOpening}
-use Rattle.realm_store.specs.declared.damage.Damage.{Damage}
-use Rattle.realm_store.specs.declared.damage.Damage.TheVariants.{BadRecord}
-use Rattle.realm_store.specs.declared.error.StartError.TheVariants.{Damaged}
-use Rattle.realm_store.proofs.LedOnce.{behind_written, opens, same_record}
+use Rattle.realm_insert.specs.State.{State, SpendableState}
+use Rattle.realm_journal.specs.Reading.{OnlyAsks}
+use Rattle.realm_journal.specs.Scanning.{IsScan, Scans}
+use Rattle.realm_pages.specs.Generations.{gate_of}
+use Rattle.realm_pages.specs.Finding.{HoldsNewest, IsFound, FoundNewest, generation_found}
+use Rattle.realm_pages.specs.declared.damage.Damage.{Damage}
+use Rattle.realm_pages.specs.declared.damage.Damage.TheVariants.{BadSnapshot, BadRecord}
+use Rattle.realm_pages.specs.declared.found.Found.{Found}
+use Rattle.realm_pages.specs.declared.error.PagesError.{PagesError}
+use Rattle.realm_pages.specs.declared.error.PagesError.TheVariants as pages
+use Rattle.realm_pages.proofs.Asks.{asks_then}
+use Rattle.realm_files.specs.Rows.{AreRecords, StopsAt}
+use Rattle.realm_files.specs.Damages.{EndsBadly}
+use Rattle.realm_files.specs.Stands.{Files, numbered}
+use Rattle.realm_files.specs.Keeping.{KnowsGate}
+use Rattle.realm_files.specs.Syncing.{Synced}
+use Rattle.realm_files.specs.Writing.{with_gate}
+use Rattle.realm_files.specs.declared.place.Place.{Place}
+use Rattle.realm_files.proofs.Pairs.{same_files}
+use Rattle.realm_files.proofs.NewestFronts.{holds_reach}
+use Rattle.realm_files.proofs.Scans.{led, scan_within, ends_badly}
+use Rattle.realm_files.proofs.Syncs.{opened, all_rest}
+use Rattle.realm_store.specs.Stands.{meaning, Opens}
+use Rattle.realm_store.specs.Keeping.{Kept, SpendableKept, RestsAt, AllRest}
+use Rattle.realm_store.specs.Replaying.{LeadOn, IsRest, Replayed}
+use Rattle.realm_store.specs.Damages.{IsDamaged}
+use Rattle.realm_store.specs.Opening.{LeadsTo, IsBadRow, OpensRow, Opened}
+use Rattle.realm_store.specs.Starting.{Started}
+use Rattle.realm_store.specs.StartErrors.{newest_error}
+use Rattle.realm_store.specs.declared.error.StartError.{StartError}
+use Rattle.realm_store.specs.declared.error.StartError.TheVariants.{Disk, Damaged, NoMemory}
 
--- the bytes behind the first gate begin with the head
-pub head_by : (file needle part : List ℕ) (test : Bool) → part ≡ drop 1 file → needle ≡ header_text first_head
-    → test ≡ starts_with nat_eq part needle → IsTrue test ↔ HasHead file
-head_by file needle part test is_part is_head value =
-    let head = header_text first_head in
-    let of_head : test ≡ starts_with nat_eq part head = subst (λ n. test ≡ starts_with nat_eq part n) is_head value in
-    let of_file : test ≡ starts_with nat_eq (drop 1 file) head = subst (λ p. test ≡ starts_with nat_eq p head) is_part of_head in
-    let decides = slice_eq-Decides Decides-eqb head (take (length head) (drop 1 file)) test of_file in
-    (λ yes. sym (decides.0 yes), λ has. decides.1 (sym has))
+-- ---- the records of one file
 
--- an engine that was new made these records again
-pub made_again : {records seen : List Record} {count : ℕ} {new engine : SpendableState} → new ≡ fresh_state → seen ≡ records
-    → Replayed new.state seen count engine → Replayed empty_state records count engine
-made_again {records} {seen} {count} {new} {engine} fresh same made =
-    subst (λ l. Replayed empty_state l count engine) same (subst (λ e. Replayed e.state seen count engine) fresh made)
+-- all records lead on, so the engine has the state behind them
+all_led : (start reached : State) (engine : SpendableState) (count : ℕ) (before left : List Record) → count ≡ length before
+    → length (before ++ left) ≤ count → LeadOn start before reached → IsRest reached left engine
+    → LeadOn start (before ++ left) engine.state
+all_led start reached engine count before [] is most lead rest =
+    subst (λ l. LeadOn start l engine.state) (sym (append-nil before)) (subst (λ s. LeadOn start before s) (sym rest.1) lead)
+all_led start reached engine count before (r ∷ left) is most lead rest = absurd (omega (arith, is, most, length-append before (r ∷ left)))
 
--- records that lead on, each where it stands
-led : (file : List ℕ) (rs : List Record) (start end : State) (at place : ℕ) → IsScan file at rs place → LeadOn start rs end
-    → AreLed start rs at file end place
-led file [] start end at place is same = (same, is)
-led file (r ∷ rs) start end at place (is, written, later) (mid, leads, on) =
-    (mid, is, leads, written, led file rs mid end (at + 1 + length (text_of r)) place later on)
+-- or the row stops
+stops_at : (reached : State) (engine : SpendableState) (count : ℕ) (bad : Bool) (before left : List Record) → count ≡ length before
+    → (length (before ++ left) ≤ count → bad ≡ true) → IsRest reached left engine → StopsAt meaning reached left bad
+stops_at reached engine count bad before [] is bad_then rest =
+    let most : length (before ++ []) ≤ count = omega (arith, is, length-append before []) in
+    bad_then most
+stops_at reached engine count bad before (r ∷ left) is bad_then rest = rest
 
--- a scan of some records and then of others
-scan_split : (file : List ℕ) (rs qs : List Record) (at end : ℕ) → IsScan file at (rs ++ qs) end
-    → (place : ℕ) × IsScan file at rs place × IsScan file place qs end
-scan_split file [] qs at end scan = (at, refl, scan)
-scan_split file (r ∷ rs) qs at end (is, written, later) =
-    let (place, before, behind) = scan_split file rs qs (at + 1 + length (text_of r)) end later in
-    (place, (is, written, before), behind)
+bad_unless : (b test : Bool) → (b ≡ false → IsTrue test) → test ≡ false → b ≡ true
+bad_unless true test shown failed = refl
+bad_unless false test shown failed = let yes : test ≡ true = shown refl in absurd cc
 
--- a scan stays within the file
-scan_within : (file : List ℕ) (rs : List Record) (at end : ℕ) → IsScan file at rs end → at ≤ length file → end ≤ length file
-scan_within file [] at end is within = omega (arith, is, within)
-scan_within file (r ∷ rs) at end (is, written, later) within =
-    let text = open_gate ∷ text_of r in
-    let next : at + 1 + length (text_of r) ≤ length file =
-    omega (arith, ap length written, length-take (length text) (drop at file), length-drop at file, within) in
-    scan_within file rs (at + 1 + length (text_of r)) end later next
+-- a row of records that was scanned from this place on, and made again
+module _ (file bytes : List ℕ) (start : State) (place : Place) (records seen : List Record) (count end : ℕ) (bad : Bool)
+    (engine : SpendableState) (bytes_are : bytes ≡ drop place.next file) (within : place.next ≤ length file)
+    (scan : Scans file place.next records end bad) (same : seen ≡ records) (again : Replayed start seen count engine) where
+  made : Replayed start records count engine
+  made = subst (λ l. Replayed start l count engine) same again
 
--- where the bytes behind a gate begin with no record, none leads on there
-none_lacks : (file : List ℕ) (state : State) (at : ℕ) → BeginsWithNone (drop (at + 1) file) → LacksRecord state at file
-none_lacks file state at none r after is leads written =
-    let rest = drop (length (open_gate ∷ text_of r)) (drop at file) in
-    let behind : drop (at + 1) file ≡ text_of r ++ rest =
-    sym (drop-drop 1 at file) ∙ ap (λ l. drop 1 l) (behind_written at (open_gate ∷ text_of r) file written) in
-    none r is (rest, behind)
-
--- nor where the record that stands there leads nowhere
-nowhere_lacks : (file : List ℕ) (state : State) (at : ℕ) (r : Record) → IsRecord r → IsWrittenAt at (open_gate ∷ text_of r) file
-    → LeadsNowhere state r → LacksRecord state at file
-nowhere_lacks file state at r is written nowhere q after is' leads written' =
-    nowhere after (subst (λ x. Leads state x after) (sym (same_record at r q file is is' written written')) leads)
-
-module _ (file : List ℕ) (start : State) (count at end : ℕ) (bad : Bool) (engine : SpendableState) where
-  -- all records lead on, so the engine has the state behind them
-  all_led : (before left : List Record) (reached : State) → count ≡ length before → length (before ++ left) ≤ count
-      → IsScan file at (before ++ left) end → LeadOn start before reached → IsRest reached left engine
-      → (engine.spent ≡ false) × AreLed start (before ++ left) at file engine.state end
-  all_led before [] reached is most scan lead rest =
-      let all : LeadOn start (before ++ []) engine.state =
-      subst (λ l. LeadOn start l engine.state) (sym (append-nil before)) (subst (λ s. LeadOn start before s) (sym rest.1) lead) in
-      (rest.0, led file (before ++ []) start engine.state at end scan all)
-  all_led before (r ∷ left) reached is most scan lead rest = absurd (omega (arith, is, most, length-append before (r ∷ left)))
-
-  -- or one does not, or no record stands at an open gate
-  cut_off : (before left : List Record) (reached : State) → count ≡ length before → (length (before ++ left) ≤ count → bad ≡ true)
-      → IsScan file at (before ++ left) end → IsEnd file end bad → LeadOn start before reached → IsRest reached left engine
-      → (place : ℕ) × AreLed start before at file reached place × IsOpenAt place file × LacksRecord reached place file
-  cut_off before [] reached is bad_then scan ends lead rest =
-      let (place, first, same) = scan_split file before [] at end scan in
-      let most : length (before ++ []) ≤ count = omega (arith, is, length-append before []) in
-      let (opened, none) = ends.is_bad (bad_then most) in (
-        place,
-        led file before start reached at place first lead,
-        subst (λ k. IsOpenAt k file) same opened,
-        subst (λ k. LacksRecord reached k file) same (none_lacks file reached end none),
-      )
-  cut_off before (r ∷ left) reached is bad_then scan ends lead rest =
-      let (place, first, (is_record, written, later)) = scan_split file before (r ∷ left) at end scan in (
-        place,
-        led file before start reached at place first lead,
-        opens place (text_of r) file written,
-        nowhere_lacks file reached place r is_record written rest,
-      )
-
--- a store keeps what the file stands for,
-opening_ok : (file : List ℕ) (store : SpendableKept) (kept : Kept) → store.kept ≡ kept → store.spent ≡ false → RestsAt kept file
-    → KnowsGate kept file → IsOpening file (Ok store)
-opening_ok file store kept is ready rests knows = record {
-  ready = ready;
-  stands = (subst (λ k. RestsAt k file) (sym is) rests, subst (λ k. KnowsGate k file) (sym is) knows);
-  damaged = λ d no. absurd cc;
-  no_fault = λ no. cc;
-}
-
--- or the file has this damage
-opening_damaged : (file : List ℕ) (d : Damage) → IsDamaged d file → IsOpening file (Err (Damaged d))
-opening_damaged file d is = record {
-  ready = tt;
-  stands = tt;
-  damaged = λ e same. let one : d ≡ e = cc in subst (λ x. IsDamaged x file) one is;
-  no_fault = λ no. cc;
-}
-
--- a file with its head, of which the records were scanned and made again
-module _ {file : List ℕ} {records : List Record} {count end : ℕ} {bad : Bool} {engine : SpendableState} (long : 4096 ≤ length file)
-    (counts : Counts file) (head : HasHead file) (scan : Scans file first_gate records end bad)
-    (made : Replayed empty_state records count engine) where
   -- the scan in the order of the records that were made again
-  scanned : IsScan file first_gate (made.before ++ made.left) end
-  scanned = subst (λ l. IsScan file first_gate l end) made.in_order scan.records
+  scanned : IsScan file place.next (made.before ++ made.left) end
+  scanned = subst (λ l. IsScan file place.next l end) made.in_order scan.records
 
-  pub opened_all : (store : SpendableKept) (has_gate : Bool) → (length records ≤ count) × (bad ≡ false)
-      → (IsTrue has_gate ↔ (end < length file)) → store.kept ≡ record { state = engine.state; next = Some end; has_gate = has_gate }
-      → store.spent ≡ false → IsOpening file (Ok store)
-  opened_all store has_gate all gate is ready =
+  pub row_leads : (store : SpendableKept) (next : Place) (has_gate : Bool) → (length records ≤ count) × (bad ≡ false)
+      → (IsTrue has_gate ↔ (end < place.next + length bytes)) → next ≡ with_gate place end
+      → store.kept ≡ record { state = engine.state; place = Some next; has_gate = has_gate } → OpensRow file start place (Ok store)
+  row_leads store next has_gate all gate is_next is =
       let most = subst (λ l. length l ≤ count) made.in_order all.0 in
-      let rows = all_led file empty_state count first_gate end bad engine made.before made.left made.reached made.count_is
-      most scanned made.lead made.rest in
-      opening_ok file store (record { state = engine.state; next = Some end; has_gate = has_gate }) is ready
-      (record {
-        stands = record {
-          counts = counts;
-          has_head = head;
-          records = made.before ++ made.left;
-          lead = (rows.1, scan.ends.closed all.1);
-        };
-        reach = (scan_within file records first_gate end scan.records long, gate.0);
-      })
-      (λ next same within. let one : next ≡ end = cc in gate.1 (subst (λ k. k < length file) one within))
+      let lead = all_led start made.reached engine count made.before made.left made.count_is most made.lead made.rest in
+      let rows = led meaning file (made.before ++ made.left) start engine.state place.next end scanned lead in
+      let size : place.next + length bytes ≡ length file = omega (arith, ap length bytes_are, length-drop place.next file, within) in
+      let kept : Kept = record { state = engine.state; place = Some (with_gate place end); has_gate = has_gate } in
+      let kept_is : store.kept ≡ kept =
+      is ∙ (λ i. record { state = engine.state; place = Some (is_next i); has_gate = has_gate }) in
+      let leads : LeadsTo file start place kept = record {
+        records = made.before ++ made.left;
+        next = end;
+        lead = (rows, scan.ends.closed all.1);
+        place_is = refl;
+        within = scan_within file records place.next end scan.records within;
+        gate = (λ has. subst (λ n. end < n) size (gate.0 has), λ lt. gate.1 (subst (λ n. end < n) (sym size) lt));
+      } in
+      record { leads = subst (λ k. LeadsTo file start place k) (sym kept_is) leads; damaged = λ d no. absurd cc }
 
-  pub opened_cut : (number : ℕ) (test : Bool) → (IsTrue test ↔ ((length records ≤ count) × (bad ≡ false))) → test ≡ false
-      → number ≡ count + 1 → IsOpening file (Err (Damaged (BadRecord A number)))
-  opened_cut number test told failed is =
+  pub row_is_bad : (number : ℕ) (test : Bool) → (IsTrue test ↔ ((length records ≤ count) × (bad ≡ false))) → test ≡ false
+      → number ≡ count + 1 → OpensRow file start place (Err (Damaged (BadRecord place.file number)))
+  row_is_bad number test told failed is =
       let bad_then = λ (most : length (made.before ++ made.left) ≤ count).
-      bad_unless bad (λ good. told.1 (subst (λ l. length l ≤ count) (sym made.in_order) most, good)) in
-      let (place, first, opened, lacks) = cut_off file empty_state count first_gate end bad engine made.before made.left
-      made.reached made.count_is bad_then scanned scan.ends made.lead made.rest in
-      opening_damaged file (BadRecord A number) (
-        counts,
-        head,
-        (
-          made.before,
-          is ∙ ap (λ k. k + 1) made.count_is,
-          record { state = made.reached; place = place; led = first; is_open = opened; lacks = lacks },
-        ),
+      bad_unless bad test (λ good. told.1 (subst (λ l. length l ≤ count) (sym made.in_order) most, good)) failed in
+      let stops = stops_at made.reached engine count bad made.before made.left made.count_is bad_then made.rest in
+      let bad_row : IsBadRow file start place (BadRecord place.file number) = record {
+        records = made.before;
+        ends = ends_badly meaning file start place.next end bad made.before made.left made.reached scanned scan.ends made.lead stops;
+        is = ap (λ n. BadRecord place.file n) (is ∙ ap (λ k. k + 1) made.count_is);
+      } in
+      record {
+        leads = tt;
+        damaged = λ d same. let one : BadRecord place.file number ≡ d = cc in subst (λ x. IsBadRow file start place x) one bad_row;
+      }
+
+-- ---- both files
+
+pub opened_damaged : {old new : View} {damage : Damage} → OnlyAsks old new → IsDamaged damage old.reads
+    → Opened old new (Err (Damaged damage))
+opened_damaged {old} {damage = damage} asks is = record {
+  asks = asks;
+  stands = tt;
+  damaged = λ d same. let one : damage ≡ d = cc in subst (λ x. IsDamaged x old.reads) one is;
+}
+
+-- a fault of the disk and want of memory are no damage
+disk_undamaged : (d : Damage) → Disk ≡ Damaged d → ⊥
+disk_undamaged d is = cc
+
+memory_undamaged : (d : Damage) → NoMemory ≡ Damaged d → ⊥
+memory_undamaged d is = cc
+
+opened_cut : {old new : View} (e : StartError) → OnlyAsks old new → ((d : Damage) → e ≡ Damaged d → ⊥) → Opened old new (Err e)
+opened_cut e asks never = record {
+  asks = asks;
+  stands = tt;
+  damaged = λ d is. let one : e ≡ Damaged d = cc in absurd (never d one);
+}
+
+-- the newest is at fault
+pub newest_unfound : {old new : View} (e : PagesError) → FoundNewest old new (Err e) → Opened old new (Err (newest_error e))
+newest_unfound pages.Disk found = opened_cut Disk found.asks disk_undamaged
+newest_unfound pages.NoMemory found = opened_cut NoMemory found.asks memory_undamaged
+newest_unfound (pages.Damaged damage) found = opened_damaged found.asks (inl (found.damaged damage refl))
+
+-- the payload is that of no state
+pub payload_bad : {old new : View} {found : Found} {damage : Damage} → OnlyAsks old new → IsFound old.reads found
+    → (damage ≡ BadSnapshot found.file) × ((state : State) → Opens found.payload.items state → ⊥) → IsDamaged damage old.reads
+payload_bad {found = found} asks is bad = inr (inl (record {
+  file = found.file;
+  generation = generation_found found;
+  newest = is.holds;
+  none = bad.1;
+  is = bad.0;
+}))
+
+pub payload_unopened : {old new : View} {found : Found} {bytes : List ℕ} {e : StartError} → OnlyAsks old new → IsFound old.reads found
+    → bytes ≡ found.payload.items
+    → ((d : Damage) → e ≡ Damaged d → (d ≡ BadSnapshot found.file) × ((state : State) → Opens bytes state → ⊥))
+    → Opened old new (Err e)
+payload_unopened {found = found} {e = e} asks is same damaged = record {
+  asks = asks;
+  stands = tt;
+  damaged = λ d told.
+      let one : e ≡ Damaged d = cc in
+      let (file, none) = damaged d one in
+      payload_bad asks is (file, λ state opens. none state (subst (λ l. Opens l state) (sym same) opens));
+}
+
+module _ {old new : View} {payload : List ℕ} {start : State} {place : Place} (asks : OnlyAsks old new)
+    (newest : HoldsNewest old.reads place.file (numbered place.generation payload))
+    (gate : place.next ≡ gate_of (numbered place.generation payload)) (opens : Opens payload start) where
+  -- the place is within its file
+  pub reaches : place.next ≤ length (old.reads place.file)
+  reaches = omega (arith, gate, holds_reach (numbered place.generation payload) (old.reads place.file) newest.holds)
+
+  row_rests : {kept : Kept} → LeadsTo (old.reads place.file) start place kept → RestsAt kept old.reads × KnowsGate kept old.reads
+  row_rests {kept} leads =
+      let there = with_gate place leads.next in
+      let kept_is : kept ≡ record { state = kept.state; place = Some there; has_gate = kept.has_gate } =
+      λ i. record { state = kept.state; place = leads.place_is i; has_gate = kept.has_gate } in
+      let at_place : RestsAt (record { state = kept.state; place = Some there; has_gate = kept.has_gate }) old.reads = record {
+        stands = record {
+          payload = payload;
+          newest = newest;
+          first = start;
+          opens = opens;
+          records = leads.records;
+          lead = subst (λ at. AreRecords meaning start leads.records at (old.reads place.file) kept.state leads.next) gate leads.lead;
+        };
+        reach = (leads.within, λ has. leads.gate.0 has);
+      } in (
+        subst (λ k. RestsAt k old.reads) (sym kept_is) at_place,
+        λ next is lt.
+            let same : next ≡ there = cc in
+            leads.gate.1 (subst (λ (p : Place). p.next < length (old.reads p.file)) same lt),
       )
-    where
-      bad_unless : (b : Bool) → (b ≡ false → IsTrue test) → b ≡ true
-      bad_unless true shown = refl
-      bad_unless false shown = let yes : test ≡ true = shown refl in absurd cc
+
+  -- what is opened of its row is opened of both files
+  pub row_opened : (r : Result SpendableKept StartError) → OpensRow (old.reads place.file) start place r → Opened old new r
+  row_opened (Ok store) row = record { asks = asks; stands = row_rests row.leads; damaged = λ d no. absurd cc }
+  row_opened (Err e) row = record {
+    asks = asks;
+    stands = tt;
+    damaged = λ d is.
+        let bad = row.damaged d is in
+        inr (inr (record {
+          file = place.file;
+          generation = numbered place.generation payload;
+          newest = newest;
+          first = start;
+          opens = opens;
+          records = bad.records;
+          ends = subst (λ at. EndsBadly meaning start bad.records at (old.reads place.file)) gate bad.ends;
+          is = bad.is;
+        }));
+  }
+
+-- calls that only ask before change nothing of it
+pub opened_behind : {old mid new : View} {r : Result SpendableKept StartError} → OnlyAsks old mid → Opened mid new r → Opened old new r
+opened_behind {old} {mid} {r = r} asks opened =
+    let same : mid.reads ≡ old.reads = same_files asks.files.reads in
+    record {
+      asks = asks_then asks opened.asks;
+      stands = subst (λ (f : Files). IfOk r (λ store. RestsAt store.kept f × KnowsGate store.kept f)) same opened.stands;
+      damaged = λ d is. subst (λ f. IsDamaged d f) same (opened.damaged d is);
+    }
+
+-- the newest was found, and opened then
+pub found_behind : {old mid new : View} {found : Found} {f : Result (Option Found) PagesError} {r : Result SpendableKept StartError}
+    → FoundNewest old mid f → f ≡ Ok (Some found) → (IsFound mid.reads found → Opened mid new r) → Opened old new r
+found_behind {found = found} one is then =
+    let same = same_files one.asks.files.reads in
+    opened_behind one.asks (then (subst (λ f. IsFound f found) (sym same) (one.found found is)))
+
+-- ---- the start of a store
+
+module _ {old mid new : View} {x : Unit {0}} (synced : Synced old mid (Ok x)) (only : (a : Moment) → mid.left_since mid.moment a → MayLeave mid a)
+    (r : Result SpendableKept StartError) (files : Opened mid new r) where
+  -- they were, and then read
+  pub started : Started old new r
+  started =
+      let all = opened_behind synced.asks files in
+      record {
+        asks = all.asks;
+        opened = λ _. opened synced files.asks only;
+        stands = all.stands;
+        damaged = all.damaged;
+      }
+
+-- whatever a crash may leave is what was read
+pub rests_read : {T : Type 0} {old mid new : View} {x : Unit {0}} (r : Result SpendableKept StartError)
+    → (T → Synced old mid (Ok x) × Opened mid new r) → IfOk r (λ store. T → AllRest store.kept new)
+rests_read (Ok store) told = λ t. let (synced, files) = told t in all_rest meaning synced files.asks files.stands.0
+rests_read (Err e) told = tt

@@ -1,8 +1,6 @@
 -- what a record makes of a state
 pub mod Leading
--- records in a file
-pub mod Records
--- what file A stands for
+-- what the two files stand for
 pub mod Stands
 -- files that stand for no state
 pub mod Damages
@@ -16,11 +14,13 @@ pub mod Making
 pub mod NextGates
 -- what the writing of a change does
 pub mod Committing
+-- what a checkpoint makes of what is kept
+pub mod Renewing
 -- what the start of a store tells
 pub mod Starting
 -- records whose changes are made again
 pub mod Replaying
--- file A when a store is started
+-- what is opened of the files when a store is started
 pub mod Opening
--- why a file that can't be read starts no store
+-- why files that can't be read start no store
 pub mod StartErrors

@@ -5,7 +5,9 @@ use Rattle.line_grammar.specs.Spelling.{change_text}
 use Rattle.line_grammar.specs.Spellable.{IsSpellableChange}
 use Rattle.record_codec.specs.declared.record.Record.{Record}
 use Rattle.realm_insert.specs.State.{State, SpendableState}
+use Rattle.realm_files.specs.Rows as rows
 use Rattle.realm_store.specs.Leading.{Leads}
+use Rattle.realm_store.specs.Stands.{meaning}
 
 -- the line is the text of the change
 pub record IsReplayable (line : List ℕ) (change : Change) : Type 0 where
@@ -14,12 +16,11 @@ pub record IsReplayable (line : List ℕ) (change : Change) : Type 0 where
 
 -- each of these records leads on, from the first state to the second
 abbrev pub LeadOn : State → List Record → State → Type 0
-LeadOn start [] end = end ≡ start
-LeadOn start (r ∷ rs) end = (mid : State) × Leads start r mid × LeadOn mid rs end
+LeadOn = rows.LeadOn meaning
 
 -- the record leads from the state to none
 abbrev pub LeadsNowhere : State → Record → Type 0
-LeadsNowhere state r = (after : State) → Leads state r after → ⊥
+LeadsNowhere = rows.LeadsNowhere meaning
 
 -- the record led the engine from the state to its own; or it leads from it to none
 pub record Remade (state : State) (r : Record) (leads : Bool) (engine : SpendableState) : Type 0 where

@@ -7,32 +7,35 @@ ghost use Rattle.line_grammar.specs.Spellable.{IsSpellableChange};
 ghost use Rattle.record_codec.specs.Fitting.{IsRecord};
 ghost use Rattle.record_codec.specs.Spelling.{text_of};
 ghost use Rattle.realm_insert.specs.State.{State};
+ghost use Rattle.realm_files.specs.Writing.{place_or_first};
 ghost use Rattle.realm_store.specs.Leading.{Leads};
 ghost use Rattle.realm_store.specs.Keeping.{Kept, AllRest};
-ghost use Rattle.realm_store.specs.Making.{next_gate, record_of};
+ghost use Rattle.realm_store.specs.Making.{record_of};
 ghost use Rattle.realm_store.specs.Replies.{ok_reply};
 ghost use Rattle.realm_store.specs.NextGates.{place_of, IsGateFor};
 ghost use Rattle.realm_store.specs.Committing.{Committed};
 
 use crate::replies::accept;
-use crate::writing::{FIRST_GATE, first_block, write_at_end, write_first, write_record};
+use crate::writing::{FIRST, write_at_end, write_first, write_record};
 use grid_base::{NoMemory, Reply};
 use line_grammar::{Change, write_change};
 use outside_world::Outside;
+use realm_files::Place;
 use realm_insert::Applied;
-use realm_journal::{Block, JournalError, Prepared, prepare};
+use realm_journal::{JournalError, Prepared, prepare};
+use realm_pages::{PreparedPages, prepare_pages};
 use record_codec::Record;
 use std::alloc::Global;
 
 /// The gate behind which a record is to be written.
 #[derive(Drop)]
 pub(crate) enum Gate {
-    /// It comes with the head of a first generation, which is put on the file before.
-    First { head: Block },
-    /// Its byte is missing at the end of the file, and is added before.
-    Missing { at: u64 },
+    /// It comes with a first generation, which is put on file A before.
+    First { pages: PreparedPages },
+    /// Its byte is missing at the end of the newest file, and is added before.
+    Missing { place: Place },
     /// It is there.
-    Waiting { at: u64 },
+    Waiting { place: Place },
 }
 
 /// What a commit writes, and the reply to it.
@@ -44,19 +47,19 @@ pub(crate) struct Ready {
 }
 
 /// The place of the next gate, where it stands or will stand.
-pub(crate) fn next_gate(next: Option<u64>) -> u64
-    ensures { result ≡ next_gate next }
+pub(crate) fn place_or_first(place: Option<Place>) -> Place
+    ensures { result ≡ place_or_first place }
 {
-    match next {
-        None => FIRST_GATE,
-        Some(at) => at,
+    match place {
+        None => FIRST,
+        Some(place) => place,
     }
 }
 
 /// Takes all the memory of a commit: for the record of the change with this number, its reply, and what comes before it.
 pub(crate) fn make_ready(
     alloc: Global,
-    next: Option<u64>,
+    place: Option<Place>,
     has_gate: bool,
     number: u64,
     c: &Change,
@@ -65,8 +68,8 @@ pub(crate) fn make_ready(
     requires from_one { 0 < number }
     requires spellable { IsSpellableChange c.now }
     requires short { length (change_text c.now) ≤ 2 ^ 20 }
-    ensures gate { IfOk result (λ ready. IsGateFor ready.gate next has_gate
-        × (place_of ready.gate ≡ next_gate next)) }
+    ensures gate { IfOk result (λ ready. IsGateFor ready.gate place has_gate
+        × (place_of ready.gate ≡ place_or_first place)) }
     ensures record { IfOk result (λ ready. (ready.record ≡ record_of c.now applied.trace number)
         × IsRecord ready.record) }
     ensures reply { IfOk result (λ ready. ready.reply
@@ -75,7 +78,7 @@ pub(crate) fn make_ready(
     let reply = accept(alloc, number, &applied)?;
     let line = write_change(alloc, c)?;
     let record = prepare(alloc, &Record::new(number, line, applied.trace))?;
-    let gate = gate_for(alloc, next, has_gate)?;
+    let gate = gate_for(alloc, place, has_gate)?;
     Ok(Ready {
         gate,
         record,
@@ -83,16 +86,17 @@ pub(crate) fn make_ready(
     })
 }
 
-// The gate of the next record, with the head that comes before it where there is none.
-fn gate_for(alloc: Global, next: Option<u64>, has_gate: bool) -> Result<Gate, NoMemory>
-    ensures { IfOk result (λ gate. IsGateFor gate next has_gate × (place_of gate ≡ next_gate next)) }
+// The gate of the next record, with the generation that comes before it where there is none.
+fn gate_for(alloc: Global, place: Option<Place>, has_gate: bool) -> Result<Gate, NoMemory>
+    ensures { IfOk result (λ gate. IsGateFor gate place has_gate
+        × (place_of gate ≡ place_or_first place)) }
 {
-    match next {
+    match place {
         None => Ok(Gate::First {
-            head: first_block(alloc)?,
+            pages: prepare_pages(alloc, 1, &[])?,
         }),
-        Some(at) if has_gate => Ok(Gate::Waiting { at }),
-        Some(at) => Ok(Gate::Missing { at }),
+        Some(place) if has_gate => Ok(Gate::Waiting { place }),
+        Some(place) => Ok(Gate::Missing { place }),
     }
 }
 
@@ -102,21 +106,22 @@ pub(crate) fn write_behind<W: Outside>(
     gate: &Gate,
     p: &Prepared,
 ) -> Result<u64, JournalError>
-    requires room { place_of gate.now < 2 ^ 61 }
+    requires room { (place_of gate.now).next < 2 ^ 61 }
     requires is_record { IsRecord p.now }
-    requires rest { (kept : Kept) × IsGateFor gate.now kept.next kept.has_gate
+    requires rest { (kept : Kept) × IsGateFor gate.now kept.place kept.has_gate
         × (W.tells world.old → AllRest kept (W.view world.old)) }
-    ensures place { IfOk result (λ next. next ≡ place_of gate.now + 1 + length (text_of p.now)) }
+    ensures place { IfOk result (λ next. next ≡ (place_of gate.now).next + 1 + length (text_of p.now)) }
     ensures told { W.tells world.new → (kept : Kept) (after : State)
-        → IsGateFor gate.now kept.next kept.has_gate → AllRest kept (W.view world.old)
+        → IsGateFor gate.now kept.place kept.has_gate → AllRest kept (W.view world.old)
         → Leads kept.state p.now after
-        → Committed (W.view world.old) (W.view world.new) kept.has_gate kept.state after result }
+        → Committed (W.view world.old) (W.view world.new) kept.has_gate kept.state after
+        (place_or_first kept.place) result }
     ensures disk_fault { OnErr result (Rose (W.disk_faults world.old) (W.disk_faults world.new)) }
     ensures goes_on { GoesOn ⟦<W as Outside>⟧ world.old world.new }
 {
     match gate {
-        Gate::First { head } => write_first(world, head, p),
-        Gate::Missing { at } => write_at_end(world, *at, p),
-        Gate::Waiting { at } => write_record(world, *at, p),
+        Gate::First { pages } => write_first(world, pages, p),
+        Gate::Missing { place } => write_at_end(world, place, p),
+        Gate::Waiting { place } => write_record(world, place, p),
     }
 }

@@ -1,13 +1,15 @@
-//! Why a store isn't started, and why a change isn't committed.
+//! Why a store isn't started, why a change isn't committed, and why no checkpoint is made.
 ghost use Rattle.std.specs.Prelude.{◌≡◌};
+ghost use Rattle.realm_store.specs.declared.error.CheckpointError.TheVariants.{Disk as Unrenewed, NoMemory as NoCheckpoint};
 ghost use Rattle.realm_store.specs.declared.error.CommitError.TheVariants.{Disk as Unwritten, NoMemory as NoCommit};
-ghost use Rattle.realm_store.specs.declared.error.StartError.TheVariants.{NoMemory as NoRoom};
-ghost use Rattle.realm_store.specs.StartErrors.{start_error};
+ghost use Rattle.realm_store.specs.declared.error.StartError.TheVariants.{Disk as Unread, NoMemory as NoRoom};
+ghost use Rattle.realm_store.specs.StartErrors.{start_error, newest_error};
 
-use crate::damage::Damage;
 use grid_base::NoMemory;
+use outside_world::Failed;
 use realm_insert::Refusal;
 use realm_journal::{JournalError, ScanError};
+use realm_pages::{Damage, PagesError};
 
 /// Why a store isn't started. Nothing was written.
 #[derive(Clone, Copy, Debug, PartialEq, Eq)]
@@ -28,6 +30,14 @@ impl From<NoMemory> for StartError {
     }
 }
 
+impl From<Failed> for StartError {
+    ghost from_gives = { λ _ e. e ≡ Unread };
+
+    fn from(_: Failed) -> StartError {
+        StartError::Disk
+    }
+}
+
 impl From<ScanError> for StartError {
     ghost from_gives = { λ why e. e ≡ start_error why };
 
@@ -35,6 +45,18 @@ impl From<ScanError> for StartError {
         match why {
             ScanError::Disk => StartError::Disk,
             ScanError::NoMemory => StartError::NoMemory,
+        }
+    }
+}
+
+impl From<PagesError> for StartError {
+    ghost from_gives = { λ why e. e ≡ newest_error why };
+
+    fn from(why: PagesError) -> StartError {
+        match why {
+            PagesError::Disk => StartError::Disk,
+            PagesError::Damaged(damage) => StartError::Damaged(damage),
+            PagesError::NoMemory => StartError::NoMemory,
         }
     }
 }
@@ -63,5 +85,32 @@ impl From<JournalError> for CommitError {
 
     fn from(_: JournalError) -> CommitError {
         CommitError::Disk
+    }
+}
+
+/// Why no checkpoint is made. In each case the files stand for the state all the time.
+#[derive(Clone, Copy, Debug, PartialEq, Eq)]
+pub enum CheckpointError {
+    /// There is no greater generation. The store and the files are unchanged.
+    Generations,
+    /// The disk failed. The store is spent.
+    Disk,
+    /// Memory ran out before anything was written. The store is spent.
+    NoMemory,
+}
+
+impl From<NoMemory> for CheckpointError {
+    ghost from_gives = { λ _ e. e ≡ NoCheckpoint };
+
+    fn from(_: NoMemory) -> CheckpointError {
+        CheckpointError::NoMemory
+    }
+}
+
+impl From<JournalError> for CheckpointError {
+    ghost from_gives = { λ _ e. e ≡ Unrenewed };
+
+    fn from(_: JournalError) -> CheckpointError {
+        CheckpointError::Disk
     }
 }

@@ -1,15 +1,24 @@
 //! Laws of what files stand for, for crates above: functions with nothing to do, whose contracts are the laws.
 ghost use Rattle.std.specs.Prelude.{◌≡◌, ℕ, List, Option};
 ghost use Rattle.realm_insert.specs.State.{State};
-ghost use Rattle.realm_store.specs.Stands.{StandsAt, StandsFor};
+ghost use Rattle.realm_pages.specs.declared.damage.Damage.{Damage};
+ghost use Rattle.realm_files.specs.Alone.{StoodAt, alone, place_alone};
+ghost use Rattle.realm_files.specs.Stands.{Files};
+ghost use Rattle.realm_files.specs.declared.place.Place.{Place as Seen};
+ghost use Rattle.realm_store.specs.Stands.{meaning, StandsAt, StandsFor};
 ghost use Rattle.realm_store.specs.Damages.{IsDamaged};
-ghost use Rattle.realm_store.specs.declared.damage.Damage.{Damage};
 
-/// A file stands for one state with one place, or has one damage.
+/// Files stand for one state with one place, or have one damage.
 pub fn one_reading()
-    ensures one_state { (file : List ℕ) (s t : State) (m n : Option ℕ)
-        → StandsAt file s m → StandsAt file t n → (s ≡ t) × (m ≡ n) }
-    ensures none_damaged { (d : Damage) (file : List ℕ) (state : State)
-        → IsDamaged d file → StandsFor file state → ⊥ }
-    ensures one_damage { (d e : Damage) (file : List ℕ) → IsDamaged d file → IsDamaged e file → d ≡ e }
+    ensures one_state { (files : Files) (s t : State) (p q : Option Seen)
+        → StandsAt files s p → StandsAt files t q → (s ≡ t) × (p ≡ q) }
+    ensures none_damaged { (d : Damage) (files : Files) (state : State)
+        → IsDamaged d files → StandsFor files state → ⊥ }
+    ensures one_damage { (d e : Damage) (files : Files) → IsDamaged d files → IsDamaged e files → d ≡ e }
+{}
+
+/// What file A stood for before there was a second file, it stands for beside an empty file B.
+pub fn stands_alone()
+    ensures { (file : List ℕ) (state : State) (next : Option ℕ) → StoodAt meaning file state next
+        → StandsAt (alone file) state (place_alone next) }
 {}

@@ -1,89 +1,145 @@
-//! Reads file A when a store is started, and makes the changes of its records again.
-ghost use Rattle.std.specs.Prelude.{◌≡◌, ◌≤◌, ◌<◌, ◌↔◌, ◌^◌, false, length, IsTrue, IsErrOf};
+//! Opens the newest of two files when a store is started: the state of its payload, and the changes of its records.
+ghost use Rattle.std.specs.Prelude.{◌≡◌, ◌≤◌, ◌<◌, ◌↔◌, ◌+◌, ◌^◌, ℕ, List, false, length, drop, Err, IfOk, IsTrue, IsErrOf};
 ghost use Rattle.outside_world.specs.Counts.{Rose};
 ghost use Rattle.outside_world.specs.GoesOn.{GoesOn};
-ghost use Rattle.realm_store.specs.Opening.{IsRead, IsOpening};
-ghost use Rattle.realm_store.specs.Stands.{Counts, HasHead};
+ghost use Rattle.realm_insert.specs.State.{State};
+ghost use Rattle.realm_pages.specs.Generations.{gate_of};
+ghost use Rattle.realm_pages.specs.Finding.{HoldsNewest, IsFound};
+ghost use Rattle.realm_pages.specs.declared.damage.Damage.{Damage as Seen};
+ghost use Rattle.realm_pages.specs.declared.damage.Damage.TheVariants.{BadSnapshot};
+ghost use Rattle.realm_files.specs.Stands.{numbered};
+ghost use Rattle.realm_store.specs.declared.error.StartError.TheVariants.{Damaged};
+ghost use Rattle.realm_store.specs.Stands.{Opens};
+ghost use Rattle.realm_store.specs.Opening.{OpensRow, Opened};
 
-use crate::damage::Damage;
 use crate::error::StartError;
 use crate::replaying::replay_all;
-use crate::store::Store;
-use crate::writing::FIRST;
+use crate::store::{NO_PLACE, Store};
 use outside_world::{FileName, Outside};
-use realm_insert::Engine;
-use realm_journal::{OPEN, Scan, ScanError, read_from, scan_bytes};
-use record_codec::encode_header;
+use realm_files::Place;
+use realm_insert::{Engine, SnapshotError};
+use realm_journal::{Scan, read_from, scan_bytes};
+use realm_pages::{Damage, Found, newest};
+use record_codec::decode_snapshot;
 use std::alloc::Global;
 use std::thread::Threads;
 
-/// Syncs file A, so that a crash leaves it as it is read, and reads it whole.
-pub(crate) fn read_synced<W: Outside>(alloc: Global, world: &mut W) -> Result<Vec<u8>, ScanError>
-    ensures told { W.tells world.new → IsRead (W.view world.old) (W.view world.new) result }
-    ensures disk_fault { IsErrOf result ScanError.Disk
+/// The store of what the files read as.
+pub(crate) fn open_newest<R: Threads + Sync, W: Outside>(
+    rt: &R,
+    alloc: Global,
+    world: &mut W,
+) -> Result<Store, StartError>
+    ensures ready { IfOk result (λ store. store.spent ≡ false) }
+    ensures told { W.tells world.new → Opened (W.view world.old) (W.view world.new) result }
+    ensures disk_fault { IsErrOf result StartError.Disk
         → Rose (W.disk_faults world.old) (W.disk_faults world.new) }
     ensures goes_on { GoesOn ⟦<W as Outside>⟧ world.old world.new }
 {
-    world.sync(FileName::A)?;
-    read_from(alloc, world, FileName::A, 0)
+    match newest(alloc, world)? {
+        None => Ok(Store::of(alloc, Engine::new(alloc), None, true)),
+        Some(found) => open_found(rt, alloc, world, &found),
+    }
 }
 
-/// The store of a file with these bytes.
-pub(crate) fn open_bytes<R: Threads + Sync>(
+// The store of a newest file that was found.
+fn open_found<R: Threads + Sync, W: Outside>(
     rt: &R,
     alloc: Global,
-    file: &[u8],
+    world: &mut W,
+    found: &Found,
 ) -> Result<Store, StartError>
-    requires size { length file.now < 2 ^ 63 }
-    ensures { IsOpening file.now result }
+    ensures ready { IfOk result (λ store. store.spent ≡ false) }
+    ensures told { W.tells world.new → IsFound (W.view world.old).reads found.now
+        → Opened (W.view world.old) (W.view world.new) result }
+    ensures disk_fault { IsErrOf result StartError.Disk
+        → Rose (W.disk_faults world.old) (W.disk_faults world.new) }
+    ensures goes_on { GoesOn ⟦<W as Outside>⟧ world.old world.new }
 {
-    if !counts(file) {
-        return Ok(Store::of(alloc, Engine::new(alloc), None, true));
+    let engine = open_payload(alloc, found.file, &found.payload)?;
+    let place = Place {
+        file: found.file,
+        generation: found.generation,
+        next: found.end,
+    };
+    open_records(rt, alloc, world, place, engine)
+}
+
+// The engine of the state that this payload of a file keeps.
+fn open_payload(alloc: Global, file: FileName, payload: &[u8]) -> Result<Engine, StartError>
+    ensures ready { IfOk result (λ engine. engine.spent ≡ false) }
+    ensures opens { IfOk result (λ engine. Opens payload.now engine.state) }
+    ensures damaged { (d : Seen) → result ≡ Err (Damaged d)
+        → (d ≡ BadSnapshot file) × ((state : State) → Opens payload.now state → ⊥) }
+    ensures no_fault { IsErrOf result StartError.Disk → ⊥ }
+{
+    match decode_snapshot(alloc, payload)? {
+        None => Err(StartError::Damaged(Damage::BadSnapshot { file })),
+        Some(snapshot) => match Engine::from_snapshot(alloc, snapshot) {
+            Ok(engine) => Ok(engine),
+            Err(SnapshotError::Invalid) => Err(StartError::Damaged(Damage::BadSnapshot { file })),
+            Err(SnapshotError::NoMemory) => Err(StartError::NoMemory),
+        },
     }
-    if !has_head(file) {
-        return Err(StartError::Damaged(Damage::BadPage {
-            file: FileName::A,
-            page: 0,
-        }));
+}
+
+// The store of this place, behind whose gate the records are still to be read. A payload that leaves no room for
+// records is longer than any memory.
+fn open_records<R: Threads + Sync, W: Outside>(
+    rt: &R,
+    alloc: Global,
+    world: &mut W,
+    place: Place,
+    engine: Engine,
+) -> Result<Store, StartError>
+    requires ready { engine.spent ≡ false }
+    ensures ready { IfOk result (λ store. store.spent ≡ false) }
+    ensures told { W.tells world.new → (payload : List ℕ)
+        → HoldsNewest (W.view world.old).reads place.file (numbered place.generation payload)
+        → place.next ≡ gate_of (numbered place.generation payload) → Opens payload engine.state
+        → Opened (W.view world.old) (W.view world.new) result }
+    ensures disk_fault { IsErrOf result StartError.Disk
+        → Rose (W.disk_faults world.old) (W.disk_faults world.new) }
+    ensures goes_on { GoesOn ⟦<W as Outside>⟧ world.old world.new }
+{
+    if place.next >= NO_PLACE {
+        return Err(StartError::NoMemory);
     }
-    open_records(rt, alloc, file)
+    let bytes = read_from(alloc, world, place.file, place.next)?;
+    open_bytes(rt, alloc, &bytes, place, engine)
 }
 
-// Whether the first gate is open, and something stands behind it.
-fn counts(file: &[u8]) -> bool
-    ensures { IsTrue result ↔ Counts file.now }
+// The store of this place, whose file has these bytes from there on.
+fn open_bytes<R: Threads + Sync>(
+    rt: &R,
+    alloc: Global,
+    bytes: &[u8],
+    place: Place,
+    engine: Engine,
+) -> Result<Store, StartError>
+    requires ready { engine.spent ≡ false }
+    requires room { place.next < 2 ^ 61 }
+    requires size { length bytes.now < 2 ^ 63 }
+    ensures ready { IfOk result (λ store. store.spent ≡ false) }
+    ensures row { (file : List ℕ) → bytes.now ≡ drop place.next file → place.next ≤ length file
+        → OpensRow file engine.state place result }
+    ensures no_fault { IsErrOf result StartError.Disk → ⊥ }
 {
-    file.len() >= 2 && file[0] == OPEN
-}
-
-// Whether the head of a first generation stands behind the first gate.
-fn has_head(file: &[u8]) -> bool
-    requires more { 1 ≤ length file.now }
-    ensures head { IsTrue result ↔ HasHead file.now }
-    ensures long { IsTrue result → 4096 ≤ length file.now }
-{
-    file[1..].starts_with(&encode_header(&FIRST))
-}
-
-// The store of a file that counts and has its head.
-fn open_records<R: Threads + Sync>(rt: &R, alloc: Global, file: &[u8]) -> Result<Store, StartError>
-    requires size { length file.now < 2 ^ 63 }
-    requires long { 4096 ≤ length file.now }
-    requires counts { Counts file.now }
-    requires has_head { HasHead file.now }
-    ensures { IsOpening file.now result }
-{
-    let scan = scan_bytes(alloc, &file[4_096..], 4_096)?;
-    let mut engine = Engine::new(alloc);
+    let scan = scan_bytes(alloc, bytes, place.next)?;
+    let mut engine = engine;
     let count = replay_all(rt, alloc, &mut engine, &scan.list)?;
     if !all_lead(&scan, count) {
         return Err(StartError::Damaged(Damage::BadRecord {
-            file: FileName::A,
+            file: place.file,
             number: count as u64 + 1,
         }));
     }
-    let has_gate = is_within(file, scan.end);
-    Ok(Store::of(alloc, engine, Some(scan.end), has_gate))
+    let has_gate = is_within(bytes, place.next, scan.end);
+    let next = Place {
+        next: scan.end,
+        ..place
+    };
+    Ok(Store::of(alloc, engine, Some(next), has_gate))
 }
 
 // Whether all records lead on, up to a closed gate, where so many do.
@@ -93,9 +149,11 @@ fn all_lead(scan: &Scan, count: usize) -> bool
     scan.list.len() <= count && !scan.bad
 }
 
-// Whether the file has a byte at this place.
-fn is_within(file: &[u8], at: u64) -> bool
-    ensures { IsTrue result ↔ (at < length file.now) }
+// Whether a file that has these bytes from a place on has a byte at this one.
+fn is_within(bytes: &[u8], at: u64, place: u64) -> bool
+    requires room { at < 2 ^ 61 }
+    requires size { length bytes.now < 2 ^ 63 }
+    ensures { IsTrue result ↔ (place < at + length bytes.now) }
 {
-    at < file.len() as u64
+    place < at + bytes.len() as u64
 }

@@ -6,33 +6,41 @@ ghost use Rattle.line_grammar.specs.Spelling.{change_text};
 ghost use Rattle.line_grammar.specs.Spellable.{IsSpellableChange};
 ghost use Rattle.realm_insert.specs.declared.refusal.Refusal.{Refusal as Word};
 ghost use Rattle.realm_insert.specs.State.{State};
+ghost use Rattle.realm_files.specs.Writing.{generation_of};
 ghost use Rattle.realm_store.specs.Leading.{Leads};
 ghost use Rattle.realm_store.specs.Keeping.{Kept, AllRest, with_state};
 ghost use Rattle.realm_store.specs.Replies.{ok_reply};
 ghost use Rattle.realm_store.specs.Making.{next_gate, record_of, kept_behind, IsMade, IsFull, IsRefusedFor};
-ghost use Rattle.realm_store.specs.Committing.{IsWritten, Keeps};
+ghost use Rattle.realm_store.specs.Committing.{IsWritten, Keeps, Stays};
+ghost use Rattle.realm_store.specs.Renewing.{IsRenewed, HasLastGeneration};
 ghost use Rattle.realm_store.specs.Starting.{Started};
 
-use crate::committing::{make_ready, next_gate, write_behind};
-use crate::error::{CommitError, StartError};
-use crate::opening::{open_bytes, read_synced};
+use crate::committing::{make_ready, place_or_first, write_behind};
+use crate::error::{CheckpointError, CommitError, StartError};
+use crate::opening::open_newest;
+use crate::renewing::{generation_of, next_file, prepare_state};
+use crate::writing::put_next;
 use grid_base::{NoMemory, Reply};
 use line_grammar::Change;
 use outside_world::Outside;
+use realm_files::{Place, sync_both};
 use realm_insert::{Applied, ChangeError, Engine, Refusal};
 use std::alloc::Global;
 use std::marker::Model;
 use std::thread::Threads;
 
-// No record is begun at this place, 2^61, nor behind it.
-const NO_PLACE: u64 = 2_305_843_009_213_693_952;
+/// No record is begun at this place, 2^61, nor behind it.
+pub(crate) const NO_PLACE: u64 = 2_305_843_009_213_693_952;
 
-/// The state, and where its next record will stand in file A. Between two calls the file stands for the state.
+// No generation has a greater number than this, 2^63.
+const LAST_GENERATION: u64 = 9_223_372_036_854_775_808;
+
+/// The state, and where its next record will stand. Between two calls the files stand for the state.
 #[derive(Drop)]
 pub struct Store {
     alloc: Global,
     engine: Engine,
-    next: Option<u64>,
+    place: Option<Place>,
     has_gate: bool,
     spent: bool,
 }
@@ -44,7 +52,7 @@ impl Model for Store {
     ghost Value = { SpendableKept };
 
     ghost view = { λ s. record {
-      kept = record { state = s.engine.state; next = s.next; has_gate = s.has_gate };
+      kept = record { state = s.engine.state; place = s.place; has_gate = s.has_gate };
       spent = s.spent;
     } };
 
@@ -52,7 +60,7 @@ impl Model for Store {
 }
 
 impl Store {
-    /// Opens the files and reads what they stand for. Nothing is written.
+    /// Syncs both files and reads what they stand for. Nothing is written.
     pub fn start<R: Threads + Sync, W: Outside>(
         rt: &R,
         alloc: Global,
@@ -65,20 +73,20 @@ impl Store {
             → Rose (W.disk_faults world.old) (W.disk_faults world.new) }
         ensures goes_on { GoesOn ⟦<W as Outside>⟧ world.old world.new }
     {
-        let bytes = read_synced(alloc, world)?;
-        open_bytes(rt, alloc, &bytes)
+        sync_both(world)?;
+        open_newest(rt, alloc, world)
     }
 
     // A store that isn't spent.
-    pub(crate) fn of(alloc: Global, engine: Engine, next: Option<u64>, has_gate: bool) -> Store
+    pub(crate) fn of(alloc: Global, engine: Engine, place: Option<Place>, has_gate: bool) -> Store
         requires ready { engine.spent ≡ false }
-        ensures kept { result.kept ≡ record { state = engine.state; next = next; has_gate = has_gate } }
+        ensures kept { result.kept ≡ record { state = engine.state; place = place; has_gate = has_gate } }
         ensures ready { result.spent ≡ false }
     {
         Store {
             alloc,
             engine,
-            next,
+            place,
             has_gate,
             spent: false,
         }
@@ -127,7 +135,7 @@ impl Store {
             × IsWritten (W.view world.old) (W.view world.new) self.old.kept after }
         ensures goes_on { GoesOn ⟦<W as Outside>⟧ world.old world.new }
     {
-        if next_gate(self.next) >= NO_PLACE {
+        if place_or_first(self.place).next >= NO_PLACE {
             return Err(self.refuse_full(rt, c));
         }
         match self.engine.change(rt, c) {
@@ -171,7 +179,7 @@ impl Store {
         requires from_one { 0 < self.old.kept.state.changes }
         requires spellable { IsSpellableChange c.now }
         requires short { length (change_text c.now) ≤ 2 ^ 20 }
-        requires room { next_gate self.old.kept.next < 2 ^ 61 }
+        requires room { next_gate self.old.kept < 2 ^ 61 }
         requires rest { (before : State)
             × (W.tells world.old → AllRest (with_state before self.old.kept) (W.view world.old)) }
         ensures kept { OnOk result (self.new.kept ≡ kept_behind self.old.kept
@@ -193,11 +201,69 @@ impl Store {
     {
         self.spent = true;
         let number = self.engine.changes();
-        let ready = make_ready(self.alloc, self.next, self.has_gate, number, c, applied)?;
+        let ready = make_ready(self.alloc, self.place, self.has_gate, number, c, applied)?;
         let next = write_behind(world, &ready.gate, &ready.record)?;
-        self.next = Some(next);
+        self.place = Some(Place {
+            next,
+            ..place_or_first(self.place)
+        });
         self.has_gate = true;
         self.spent = false;
         Ok(ready.reply)
+    }
+
+    /// Writes the state to the file that isn't the newest, as the next generation, so that this file is the newest then
+    /// and has no record. At each moment the files stand for the state.
+    pub fn checkpoint<W: Outside>(&mut self, world: &mut W) -> Result<(), CheckpointError>
+        requires ready { self.old.spent ≡ false }
+        requires rest { W.tells world.old → AllRest self.old.kept (W.view world.old) }
+        ensures renewed { OnOk result (IsRenewed self.old.kept self.new.kept) }
+        ensures generations { IsErrOf result CheckpointError.Generations ↔ HasLastGeneration self.old.kept }
+        ensures unchanged { IsErrOf result CheckpointError.Generations
+            → (self.new ≡ self.old) × (world.new ≡ world.old) }
+        ensures untouched { IsErrOf result CheckpointError.NoMemory → world.new ≡ world.old }
+        ensures spent { (self.new.spent ≡ true)
+            ↔ ((result ≡ Err CheckpointError.Disk) ⊎ (result ≡ Err CheckpointError.NoMemory)) }
+        ensures disk_fault { IsErrOf result CheckpointError.Disk
+            → Rose (W.disk_faults world.old) (W.disk_faults world.new) }
+        ensures stays { W.tells world.new → Stays (W.view world.old) (W.view world.new) self.old.kept.state }
+        ensures rest { OnOk result (W.tells world.new → AllRest self.new.kept (W.view world.new)) }
+        ensures goes_on { GoesOn ⟦<W as Outside>⟧ world.old world.new }
+    {
+        if generation_of(self.place) >= LAST_GENERATION {
+            return Err(CheckpointError::Generations);
+        }
+        self.renew(world)
+    }
+
+    // Writes the state as the next generation.
+    fn renew<W: Outside>(&mut self, world: &mut W) -> Result<(), CheckpointError>
+        requires ready { self.old.spent ≡ false }
+        requires greater { generation_of self.old.kept.place < 2 ^ 63 }
+        requires rest { W.tells world.old → AllRest self.old.kept (W.view world.old) }
+        ensures renewed { OnOk result (IsRenewed self.old.kept self.new.kept) }
+        ensures not_last { IsErrOf result CheckpointError.Generations → ⊥ }
+        ensures untouched { IsErrOf result CheckpointError.NoMemory → world.new ≡ world.old }
+        ensures spent { (self.new.spent ≡ true)
+            ↔ ((result ≡ Err CheckpointError.Disk) ⊎ (result ≡ Err CheckpointError.NoMemory)) }
+        ensures disk_fault { IsErrOf result CheckpointError.Disk
+            → Rose (W.disk_faults world.old) (W.disk_faults world.new) }
+        ensures stays { W.tells world.new → Stays (W.view world.old) (W.view world.new) self.old.kept.state }
+        ensures rest { OnOk result (W.tells world.new → AllRest self.new.kept (W.view world.new)) }
+        ensures goes_on { GoesOn ⟦<W as Outside>⟧ world.old world.new }
+    {
+        self.spent = true;
+        let file = next_file(self.place);
+        let generation = generation_of(self.place) + 1;
+        let pages = prepare_state(self.alloc, &self.engine, generation)?;
+        let next = put_next(world, file, &pages)?;
+        self.place = Some(Place {
+            file,
+            generation,
+            next,
+        });
+        self.has_gate = true;
+        self.spent = false;
+        Ok(())
     }
 }

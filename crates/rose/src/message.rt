@@ -18,14 +18,44 @@ pub(crate) fn say<R: Eprint>(rt: &R, status: Status) {
 // Says where the files are damaged.
 fn say_damage<R: Eprint>(rt: &R, damage: Damage) {
     match damage {
+        Damage::Digest {
+            file,
+            page,
+            kept,
+            found,
+        } => say_digest(rt, file, page, &kept, &found),
         Damage::BadPage { file, page } => {
             let letter = letter_of(file);
             let _ = eprintln!(rt; "rose: damaged: file {letter} page {page}");
+        }
+        Damage::BadSnapshot { file } => {
+            let letter = letter_of(file);
+            let _ = eprintln!(rt; "rose: damaged: file {letter} snapshot");
+        }
+        Damage::Twins { generation } => {
+            let _ = eprintln!(rt; "rose: damaged: twins {generation}");
         }
         Damage::BadRecord { file, number } => {
             let letter = letter_of(file);
             let _ = eprintln!(rt; "rose: damaged: file {letter} record {number}");
         }
+    }
+}
+
+// Says of which page the digest differs, and both digests.
+fn say_digest<R: Eprint>(rt: &R, file: FileName, page: u64, kept: &[u8], found: &[u8]) {
+    let letter = letter_of(file);
+    let _ = eprint!(rt; "rose: damaged: file {letter} page {page} kept ");
+    say_bytes(rt, kept);
+    let _ = eprint!(rt; " found ");
+    say_bytes(rt, found);
+    let _ = eprintln!(rt; "");
+}
+
+// Says bytes, with two digits of base 16 for each.
+fn say_bytes<R: Eprint>(rt: &R, bytes: &[u8]) {
+    for byte in bytes {
+        let _ = eprint!(rt; "{byte:02x}");
     }
 }
 

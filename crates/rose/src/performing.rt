@@ -3,9 +3,8 @@ ghost use Rattle.std.specs.Prelude.{◌≡◌, ◌↔◌, IfOk, IsErrOf, map, st
 ghost use Rattle.std.specs.Process.{exit_status};
 ghost use Rattle.outside_world.specs.Counts.{Rose};
 ghost use Rattle.outside_world.specs.GoesOn.{GoesOn};
-ghost use Rattle.outside_world.specs.declared.world.FileName.TheVariants.{A};
 ghost use Rattle.realm_store.specs.Damages.{IsDamaged};
-ghost use Rattle.realm_store.specs.declared.damage.Damage.{Damage};
+ghost use Rattle.realm_pages.specs.declared.damage.Damage.{Damage};
 ghost use Rattle.command_words.specs.Written.{IsWritten, IsNoCommand};
 ghost use Rattle.command_words.specs.declared.word.Word.{Word};
 ghost use Rattle.rose_shell.specs.Telling.{HasDone};
@@ -38,7 +37,7 @@ pub(crate) fn perform<R: Threads + Sync, W: Outside>(
     ensures disk_fault { result ≡ Status.DiskFault
         → Rose (W.disk_faults world.old) (W.disk_faults world.new) }
     ensures damaged { (d : Damage) → result ≡ Status.Damaged d → W.tells world.new
-        → IsDamaged d ((W.view world.old).reads A) }
+        → IsDamaged d (W.view world.old).reads }
     ensures goes_on { GoesOn ⟦<W as Outside>⟧ world.old world.new }
 {
     match words {

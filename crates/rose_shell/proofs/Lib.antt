@@ -38,9 +38,11 @@ mod Exits
 mod Prefixes
 -- sessions of the store
 mod Sessions
--- a session that begins after file A was read
+-- a session that begins after the files were read
 mod Openings
 -- how a run ends that counts no fault
 mod Rises
+-- what is told where a store isn't started
+mod Unstarted
 -- lines that are given after nothing but questions of the files
 mod Tellings

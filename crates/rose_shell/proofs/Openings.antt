@@ -1,18 +1,20 @@
--- This file shows that a session that begins after file A was read is one from before.
+-- This file shows that a session that begins after the files were read is one from before.
 use Rattle.std.proofs.Common.{◌≡◌, inl, ⊎_elim, ℕ, ◌≤◌, false, List, ◌++◌, sym, ◌∙◌, ap, subst, arith}
 use Rattle.std.specs.Prelude.{◌^◌}
-use Rattle.outside_world.specs.declared.world.FileName.TheVariants.{A}
 use Rattle.outside_world.specs.View.{View, Moment, MayLeave}
 use Rattle.outside_world.specs.Since.{LeavesOnly}
 use Rattle.outside_world.proofs.Moments.{only_wider, only_then}
 use Rattle.realm_journal.specs.Reading.{OnlyAsks}
 use Rattle.realm_store.specs.Stands.{StandsFor}
 use Rattle.realm_store.specs.Keeping.{Kept, SpendableKept, RestsAt}
-use Rattle.realm_store.specs.Starting.{KnowsGate, IsOpened}
+use Rattle.realm_files.specs.Stands.{Files}
+use Rattle.realm_files.specs.Keeping.{KnowsGate}
+use Rattle.realm_files.specs.Syncing.{IsOpened}
+use Rattle.realm_files.proofs.Pairs.{same_files}
 use Rattle.rose_shell.specs.declared.status.Status.{Status}
 use Rattle.rose_shell.specs.Desk.{Terms}
 use Rattle.rose_shell.specs.Session.{Turn, replies, IsMoment, IsCutOff, Served}
-use Rattle.rose_shell.specs.Running.{kept_of, is_accepted, StandsInA, IsCrashOf, HasServed, HasBegun, ready_store}
+use Rattle.rose_shell.specs.Running.{kept_of, is_accepted, StandForKept, IsCrashOf, HasServed, HasBegun, ready_store}
 use Rattle.rose_shell.proofs.Prefixes.{start_is_prefix}
 
 -- what a crash could leave at the call counts as left before it
@@ -80,8 +82,8 @@ module _ {old mid : View} (now : (t : ℕ) (m : Moment) → t ≤ old.moment →
     }
 
   module _ {new : View} {start : Kept} {end : SpendableKept} {status : Status} (opened : IsOpened old mid)
-      (rests : RestsAt start (old.reads A)) (knows : KnowsGate start (old.reads A)) where
-    -- from the moment on from which a crash leaves file A as it was read, each crash is one of the session
+      (rests : RestsAt start old.reads) (knows : KnowsGate start old.reads) where
+    -- from the moment on from which a crash leaves the files as they were read, each crash is one of the session
     has_begun : HasServed mid new (ready_store start) end (2 ^ 40) status → HasBegun old new status
     unfolding served_from
     has_begun served =
@@ -105,15 +107,15 @@ module _ {old mid : View} (now : (t : ℕ) (m : Moment) → t ≤ old.moment →
           settled = λ has m since.
               ⊎_elim
               (λ before. let is = opened.settled m before in
-              start_is_prefix kept_of is_accepted StandsInA first turns old.given m is.0
-              (subst (λ (file : List ℕ). StandsFor file start.state) (sym is.1) (start.next, rests.stands)))
+              start_is_prefix kept_of is_accepted StandForKept first turns old.given m is.0
+              (subst (λ (files : Files). StandsFor files start.state) (sym (same_files is.1)) (start.place, rests.stands)))
               (λ during. subst (λ (g : List ℕ). IsCrashOf first turns g m) asks.given during)
               ((served.prefix has).nothing_else opened.since m opened.by_now since);
         }
 
   -- the store that was started isn't spent
   pub begun_by : {new : View} {first end : SpendableKept} {status : Status} → first.spent ≡ false → IsOpened old mid
-      → RestsAt first.kept (old.reads A) → KnowsGate first.kept (old.reads A) → HasServed mid new first end (2 ^ 40) status
+      → RestsAt first.kept old.reads → KnowsGate first.kept old.reads → HasServed mid new first end (2 ^ 40) status
       → HasBegun old new status
   begun_by {new} {first} {end} {status} ready opened rests knows served =
       has_begun opened rests knows

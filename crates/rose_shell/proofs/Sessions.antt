@@ -7,7 +7,6 @@ use Rattle.std.proofs.lemmas.Bool.Decides.{nat_tests}
 use Rattle.std.proofs.lemmas.List.Elements.{All-nil, All-cons}
 use Rattle.grid_base.specs.Drawing.{IsDrawnRealm}
 use Rattle.grid_base.proofs.RealmLaw.{drawn_realm_by}
-use Rattle.outside_world.specs.declared.world.FileName.TheVariants.{A, B}
 use Rattle.outside_world.specs.View.{View, Moment}
 use Rattle.outside_world.specs.Since.{LeavesOnly}
 use Rattle.outside_world.proofs.Moments.{only_wider}
@@ -19,9 +18,8 @@ use Rattle.rose_shell.specs.Lines.{longest_line}
 use Rattle.rose_shell.specs.Desk.{Stands}
 use Rattle.rose_shell.specs.Session.{Turn, Treats, IsSingle, IsBatch, IsRun, IsMoment, Served}
 use Rattle.rose_shell.specs.Prefixes.{IsCounted}
-use Rattle.rose_shell.specs.Running.{StoreTerms, kept_of, is_accepted, StandsInA, IsCrashOf, HasServed}
+use Rattle.rose_shell.specs.Running.{StoreTerms, kept_of, is_accepted, StandForKept, IsCrashOf, HasServed}
 use Rattle.rose_shell.proofs.Steps.{IsOneStep, line_steps}
-use Rattle.rose_shell.proofs.Stores.{rests_in_a}
 use Rattle.rose_shell.proofs.Prefixes.{moment_is_prefix}
 
 -- whichever of two answers a test chooses
@@ -87,21 +85,21 @@ step_gate : (old : Kept) (reply : List ℕ) (new : Kept) → IsOneStep old reply
 step_gate old reply new (inl same) has = ap (λ (k : Kept). k.has_gate) same ∙ has
 step_gate old reply new (inr accepted) has = accepted.has_gate
 
--- so file A stands for the state at each moment of the run
-abbrev InA : Stands SpendableKept
-InA s files = StandsFor (files A) s.kept.state
+-- so the files stand for the state at each moment of the run
+abbrev StandForState : Stands SpendableKept
+StandForState s files = StandsFor files s.kept.state
 
-moment_in_a : (start : SpendableKept) (turns : List (Turn SpendableKept)) (given : List ℕ) (m : Moment)
+moment_stands : (start : SpendableKept) (turns : List (Turn SpendableKept)) (given : List ℕ) (m : Moment)
     → IsRun StoreTerms start turns → start.kept.has_gate ≡ true → IsMoment StoreTerms.stands start turns given m
-    → IsMoment InA start turns given m
-moment_in_a start [] given m run has is = (is.0, is.1 has)
-moment_in_a start (turn ∷ turns) given m run has (inl before) = inl (before.0, before.1 has)
-moment_in_a start (turn ∷ turns) given m run has (inr (inl (sent, unsent, split, is, stand))) =
+    → IsMoment StandForState start turns given m
+moment_stands start [] given m run has is = (is.0, is.1 has)
+moment_stands start (turn ∷ turns) given m run has (inl before) = inl (before.0, before.1 has)
+moment_stands start (turn ∷ turns) given m run has (inr (inl (sent, unsent, split, is, stand))) =
     let step = turn_steps start turn run.0 in
     inr (inl (sent, unsent, split, is, stand (step_gate start.kept turn.reply turn.after.kept step has)))
-moment_in_a start (turn ∷ turns) given m run has (inr (inr later)) =
+moment_stands start (turn ∷ turns) given m run has (inr (inr later)) =
     let step = turn_steps start turn run.0 in
-    inr (inr (moment_in_a turn.after turns (given ++ turn.reply) m run.1
+    inr (inr (moment_stands turn.after turns (given ++ turn.reply) m run.1
     (step_gate start.kept turn.reply turn.after.kept step has) later))
 
 -- and each crash leaves the state after a prefix of the changes
@@ -109,23 +107,23 @@ run_prefix : (old new : View) (start : SpendableKept) (turns : List (Turn Spenda
     → LeavesOnly old new (IsMoment StoreTerms.stands start turns old.given) → start.kept.has_gate ≡ true
     → LeavesOnly old new (IsCrashOf start turns old.given)
 run_prefix old new start turns run crash has =
-    only_wider crash (λ m is. moment_is_prefix kept_of is_accepted StandsInA InA
-    (λ s files stands. stands) start turns old.given m (moment_in_a start turns old.given m run has is)
+    only_wider crash (λ m is. moment_is_prefix kept_of is_accepted StandForKept StandForState
+    (λ s files stands. stands) start turns old.given m (moment_stands start turns old.given m run has is)
     (run_counted start turns run))
 
 -- what a store has served that begins with a realm
 pub has_served : (old new : View) (start end : SpendableKept) (budget : ℕ) (status : Status) → IsDrawnRealm start.kept.state.drawing
-    → new.image B (new.reads B) → Served StoreTerms old new start end budget status → HasServed old new start end budget status
-has_served old new start end budget status realm other served = record {
+    → Served StoreTerms old new start end budget status → HasServed old new start end budget status
+has_served old new start end budget status realm served = record {
   session = served;
   realms = run_realms start served.turns served.is_run realm;
   counted = run_counted start served.turns served.is_run;
   prefix = run_prefix old new start served.turns served.is_run served.crash;
-  rest = λ no_fault. rests_in_a other (served.rest no_fault);
+  rest = λ no_fault. (served.rest no_fault).each;
 }
 
 -- a store that can go on is at rest
-pub rests_in_the_end : {old new : View} {start end : SpendableKept} {budget : ℕ} {status : Status} → new.image B (new.reads B)
+pub rests_in_the_end : {old new : View} {start end : SpendableKept} {budget : ℕ} {status : Status}
     → Served StoreTerms old new start end budget status → status ≢ NoMemory → status ≢ DiskFault → AllRest end.kept new
-rests_in_the_end {new = new} other served no_memory no_fault =
-    subst (λ (s : SpendableKept). AllRest s.kept new) (sym (served.ends no_memory no_fault)) (rests_in_a other (served.rest no_fault))
+rests_in_the_end {new = new} served no_memory no_fault =
+    subst (λ (s : SpendableKept). AllRest s.kept new) (sym (served.ends no_memory no_fault)) (served.rest no_fault).each

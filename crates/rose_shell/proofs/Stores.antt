@@ -1,15 +1,13 @@
 -- This file shows that a store keeps its terms at the desk.
-use Rattle.std.proofs.Common.{◌≡◌, ◌⊎◌, inl, inr, ⊎_elim, ℕ, List, Bool, true, false, refl}
+use Rattle.std.proofs.Common.{◌≡◌, ◌⊎◌, inl, inr, ⊎_elim, ℕ, List, Bool, true, false, refl, sym, subst}
 use Rattle.std.specs.Prelude.{◌≢◌, Result, Ok, Err}
-use Rattle.outside_world.specs.declared.world.FileName.{FileName}
-use Rattle.outside_world.specs.declared.world.FileName.TheVariants.{A, B}
 use Rattle.outside_world.specs.View.{View}
 use Rattle.outside_world.proofs.Moments.{only_nothing, only_wider, none_taken}
 use Rattle.line_grammar.specs.Spelling.{change_text}
 use Rattle.line_grammar.specs.Spellable.{IsSpellableChange}
 use Rattle.line_grammar.specs.declared.command.Change.{Change}
 use Rattle.line_grammar.specs.declared.command.Command.TheVariants as commands
-use Rattle.realm_store.specs.Keeping.{Kept, SpendableKept, AllRest as RestsInA}
+use Rattle.realm_store.specs.Keeping.{Kept, SpendableKept, AllRest as FilesRest}
 use Rattle.realm_store.specs.Making.{IsMade}
 use Rattle.realm_store.specs.Committing.{IsWritten}
 use Rattle.rose_shell.specs.declared.desk.Stop.{Stop}
@@ -17,24 +15,12 @@ use Rattle.rose_shell.specs.declared.desk.Stop.TheVariants.{Disk, NoMemory}
 use Rattle.rose_shell.specs.Desk.{AllRest, Answered}
 use Rattle.rose_shell.specs.Running.{StoreTerms, ready_store}
 
--- what the store keeps of file A is all that the desk asks of both files,
-pub rests_at_desk : {v : View} {s : SpendableKept} → RestsInA s.kept v → AllRest StoreTerms v s
-rests_at_desk rest = record { each = λ files may. rest (files A) (may A) }
-
--- and the desk says as much of file A, as file B is left as something
-abbrev two_files : List ℕ → List ℕ → FileName → List ℕ
-two_files a b A = a
-two_files a b B = b
-
-two_left : (v : View) (a b : List ℕ) → v.image A a → v.image B b → (f : FileName) → v.image f (two_files a b f)
-two_left v a b one other A = one
-two_left v a b one other B = other
-
-pub rests_in_a : {v : View} {s : SpendableKept} → v.image B (v.reads B) → AllRest StoreTerms v s → RestsInA s.kept v
-rests_in_a {v} other rest = λ c image. rest.each (two_files c (v.reads B)) (two_left v c (v.reads B) image other)
+-- what the store keeps of the files is what the desk asks of them
+pub rests_at_desk : {v : View} {s : SpendableKept} → FilesRest s.kept v → AllRest StoreTerms v s
+rests_at_desk rest = record { each = rest }
 
 -- an answer that comes of no call on the world and leaves the store as it was
-pub still_answered : {v : View} {s : SpendableKept} {line : List ℕ} (r : Result (List ℕ) Stop) → r ≢ Err Disk → RestsInA s.kept v
+pub still_answered : {v : View} {s : SpendableKept} {line : List ℕ} (r : Result (List ℕ) Stop) → r ≢ Err Disk → FilesRest s.kept v
     → Answered StoreTerms v v s s line r
 still_answered (Ok reply) never rest = record {
   takes = none_taken;
@@ -55,7 +41,7 @@ still_answered (Err NoMemory) never rest = record {
 still_answered (Err Disk) never rest = absurd (never refl)
 
 -- memory ran out before anything was written, whatever has become of the store
-pub store_stopped : {v : View} {start end : SpendableKept} {line : List ℕ} → RestsInA start.kept v
+pub store_stopped : {v : View} {start end : SpendableKept} {line : List ℕ} → FilesRest start.kept v
     → Answered StoreTerms v v start end line (Err NoMemory)
 store_stopped rest = record {
   takes = none_taken;
@@ -66,14 +52,27 @@ store_stopped rest = record {
   disk = λ is. absurd (cc);
 }
 
--- of two states file A stands for one, where the gate is there
+-- the same where the world and the store are as they were,
+pub still_same : {old new : View} {start end : SpendableKept} {line : List ℕ} (r : Result (List ℕ) Stop) → new ≡ old → end ≡ start
+    → r ≢ Err Disk → FilesRest start.kept old → Answered StoreTerms old new start end line r
+still_same {old} {new} {start} {end} {line} r still same never rest =
+    subst (λ (v : View). Answered StoreTerms old v start end line r) (sym still)
+    (subst (λ (s : SpendableKept). Answered StoreTerms old old start s line r) (sym same) (still_answered r never rest))
+
+-- and where the world is, and memory ran out
+pub still_stopped : {old new : View} {start end : SpendableKept} {line : List ℕ} → new ≡ old → FilesRest start.kept old
+    → Answered StoreTerms old new start end line (Err NoMemory)
+still_stopped {old} {new} {start} {end} {line} still rest =
+    subst (λ (v : View). Answered StoreTerms old v start end line (Err NoMemory)) (sym still) (store_stopped rest)
+
+-- of two states the files stand for one, where the gate is there
 either_stands : (has : Bool) (P Q E : Type 0) → (has ≡ true → P ⊎ Q) → (has ≡ true → P) ⊎ (E → Q)
 either_stands true P Q E two = ⊎_elim (λ p. inl (λ _. p)) (λ q. inr (λ _. q)) (two refl)
 either_stands false P Q E two = inl (λ is. absurd (cc))
 
 -- a change was made, and is stable
 pub change_written : {old new : View} {start end : SpendableKept} {line reply : List ℕ} → IsWritten old new start.kept end.kept
-    → RestsInA end.kept new → Answered StoreTerms old new start end line (Ok reply)
+    → FilesRest end.kept new → Answered StoreTerms old new start end line (Ok reply)
 change_written {start = start} written rest = record {
   takes = written.takes;
   given = written.given;
@@ -103,6 +102,6 @@ change_cut_off {start = start} {reply = reply} {after} c spellable ready made wr
     };
     may_write = (c, (spellable, refl));
     crash = only_wider written.crash (λ m is. (is.0, either_stands start.kept.has_gate _ _ _ is.1));
-    either = λ files image. either_stands start.kept.has_gate _ _ _ (λ has. written.either has (files A) (image A));
+    either = λ files image. either_stands start.kept.has_gate _ _ _ (λ has. written.either has files image);
   };
 }

@@ -1,12 +1,11 @@
 -- What is promised of the word `run`, and of `serve`: each line is answered by the table of lines, each state on the way is a
--- realm, and each crash leaves a file A that stands for the state after the changes answered so far, or
--- after one more.
+-- realm, and each crash leaves files that stand for the state after the changes answered so far, or after one
+-- more.
 use Rattle.std.specs.Prelude.{◌≡◌, ◌≢◌, ◌⊎◌, ◌≤◌, ◌^◌, ℕ, Bool, true, false}
 use Rattle.std.specs.Prelude.{List, All, nat_lt}
 use Rattle.outside_world.specs.View.{View, Moment}
 use Rattle.outside_world.specs.Since.{LeavesOnly}
 use Rattle.outside_world.specs.declared.world.FileName.{FileName}
-use Rattle.outside_world.specs.declared.world.FileName.TheVariants.{A}
 use Rattle.grid_base.specs.Drawing.{IsDrawnRealm}
 use Rattle.line_grammar.specs.Lines.{Says}
 use Rattle.line_grammar.specs.declared.command.Change.{Change}
@@ -14,9 +13,9 @@ use Rattle.line_grammar.specs.declared.command.Command.TheVariants as commands
 use Rattle.realm_journal.specs.Reading.{OnlyAsks}
 use Rattle.realm_store.specs.Stands.{StandsFor}
 use Rattle.realm_store.specs.Keeping.{Kept, SpendableKept, RestsAt, AllRest}
-use Rattle.realm_store.specs.Starting.{KnowsGate}
+use Rattle.realm_files.specs.Keeping.{KnowsGate}
 use Rattle.realm_store.specs.Damages.{IsDamaged}
-use Rattle.realm_store.specs.declared.damage.Damage.{Damage}
+use Rattle.realm_pages.specs.declared.damage.Damage.{Damage}
 use Rattle.query_batch.specs.Answers.{TellsLine}
 use Rattle.rose_shell.specs.Answers.{StoreAnswers}
 use Rattle.rose_shell.specs.Desk.{Terms}
@@ -29,16 +28,16 @@ use Rattle.rose_shell.specs.declared.status.Status.TheVariants.{DiskFault, Damag
 abbrev pub IsChangeLine : List ℕ → Type 0
 IsChangeLine line = (c : Change) × Says line (commands.Change c)
 
--- What the store goes by at the desk: only a change writes, and to file A alone. Where the byte of the next
--- gate is missing, nothing is said of what file A stands for in a crash, until a change has added it.
+-- What the store goes by at the desk: only a change writes. Where the byte of the next gate is missing, nothing
+-- is said of what the files stand for in a crash, until a change has added it.
 abbrev pub StoreTerms : Terms SpendableKept
 StoreTerms = record {
   answers = StoreAnswers;
   tells = λ s line reply. TellsLine s.kept.state line reply;
   writes = λ s line. IsChangeLine line;
-  stands = λ s files. s.kept.has_gate ≡ true → StandsFor (files A) s.kept.state;
-  rests = λ s files. RestsAt s.kept (files A);
-  rest_stands = λ s files rests has. (s.kept.next, rests.stands);
+  stands = λ s files. s.kept.has_gate ≡ true → StandsFor files s.kept.state;
+  rests = λ s files. RestsAt s.kept files;
+  rest_stands = λ s files rests has. (s.kept.place, rests.stands);
 }
 
 -- what a store keeps
@@ -49,14 +48,14 @@ kept_of s = s.kept
 abbrev pub is_accepted : SpendableKept → Turn SpendableKept → Bool
 is_accepted start turn = nat_lt start.kept.state.changes turn.after.kept.state.changes
 
--- file A stands for what is kept
-abbrev pub StandsInA : Kept → (FileName → List ℕ) → Type 0
-StandsInA kept files = StandsFor (files A) kept.state
+-- the files stand for what is kept
+abbrev pub StandForKept : Kept → (FileName → List ℕ) → Type 0
+StandForKept kept files = StandsFor files kept.state
 
--- a crash of this session at which k accepted changes had replies that had begun: file A stands for the
+-- a crash of this session at which k accepted changes had replies that had begun: the files stand for the
 -- state after k accepted changes, or after k + 1
 abbrev pub IsCrashOf : SpendableKept → List (Turn SpendableKept) → List ℕ → Moment → Type 0
-IsCrashOf start turns given m = IsPrefixMoment kept_of is_accepted StandsInA start turns given m
+IsCrashOf start turns given m = IsPrefixMoment kept_of is_accepted StandForKept start turns given m
 
 -- The store has served the world. After each line its drawing is a realm. Each turn was an accepted change
 -- with a reply, or has left what is kept as it was. Where the byte of the next gate was there at the start,
@@ -70,23 +69,23 @@ pub record HasServed (old new : View) (start end : SpendableKept) (budget : ℕ)
   pub prefix : start.kept.has_gate ≡ true → LeavesOnly old new (IsCrashOf start session.turns old.given)
   pub rest : status ≢ DiskFault → AllRest (end_of start session.turns).kept new
 
--- File A was synced and read, and nothing else happened: the disk failed meanwhile, memory ran out, or the
--- file is damaged as is told.
+-- Both files were synced and read, and nothing else happened: the disk failed meanwhile, memory ran out, or the
+-- files are damaged as is told.
 pub record IsNotBegun (old new : View) (status : Status) : Type 0 where
   pub asks : OnlyAsks old new
   pub cause : (status ≡ DiskFault) ⊎ ((status ≡ NoMemory)
-      ⊎ ((d : Damage) × (status ≡ Damaged d) × IsDamaged d (old.reads A)))
+      ⊎ ((d : Damage) × (status ≡ Damaged d) × IsDamaged d old.reads))
 
 -- a store that keeps this and isn't spent
 abbrev pub ready_store : Kept → SpendableKept
 ready_store kept = record { kept = kept; spent = false }
 
--- What file A stands for at the call is what is served from, with the budget of a run. From some moment on
+-- What the files stand for at the call is what is served from, with the budget of a run. From some moment on
 -- each crash is one of this session; before it, a crash leaves what it could at the call.
 pub record HasBegun (old new : View) (status : Status) : Type 0 where
   pub start : Kept
-  pub rests : RestsAt start (old.reads A)
-  pub knows : KnowsGate start (old.reads A)
+  pub rests : RestsAt start old.reads
+  pub knows : KnowsGate start old.reads
   pub end : SpendableKept
   pub served : HasServed old new (ready_store start) end (2 ^ 40) status
   pub since : ℕ

@@ -1,7 +1,6 @@
 -- What is done with a command. `check` and `gen` give a few lines, take none and write no file.
 use Rattle.std.specs.Prelude.{◌≡◌, ◌⊎◌, ◌≤◌, ◌^◌, ℕ, List, [], length}
 use Rattle.outside_world.specs.View.{View}
-use Rattle.outside_world.specs.declared.world.FileName.TheVariants.{A}
 use Rattle.command_words.specs.declared.word.Word.{Word}
 use Rattle.command_words.specs.declared.word.Word.TheVariants.{Run, Check, Gen}
 use Rattle.state_counts.specs.Counts.{TellsCounts}
@@ -20,12 +19,12 @@ pub record GivesLines (old new : View) (lines : List ℕ) (status : Status) : Ty
   pub some : GaveSome old new lines unsent
   pub ends : ((status ≡ Done) × (unsent ≡ [])) ⊎ (status ≡ SinkFault)
 
--- file A was synced and read, and the lines that tell how much it stands for were given; or nothing was given, since the
--- disk failed, memory ran out or the file is damaged as is told
+-- both files were synced and read, and the lines that tell how much they stand for were given; or nothing was given, since
+-- the disk failed, memory ran out or the files are damaged as is told
 abbrev pub HasChecked : View → View → Status → Type 0
 HasChecked old new status =
     IsNotBegun old new status
-    ⊎ ((state : State) × (lines : List ℕ) × StandsFor (old.reads A) state × TellsCounts state lines
+    ⊎ ((state : State) × (lines : List ℕ) × StandsFor old.reads state × TellsCounts state lines
     × GivesLines old new lines status)
 
 -- the lines that tell of the map were given, or nothing happened since memory ran out
@@ -40,8 +39,8 @@ HasDone Run old new status = HasRun old new status
 HasDone Check old new status = HasChecked old new status
 HasDone (Gen count start) old new status = HasGenerated count start old new status
 
--- what the command asks of the world besides: a file A that stands for a state, and an input within the budget
+-- what the command asks of the world besides: files that stand for a state, and an input within the budget
 abbrev pub CanBeDone : Word → View → Type 0
-CanBeDone Run v = (length v.left ≤ 2 ^ 40) × ((state : State) × StandsFor (v.reads A) state)
-CanBeDone Check v = (state : State) × StandsFor (v.reads A) state
+CanBeDone Run v = (length v.left ≤ 2 ^ 40) × ((state : State) × StandsFor v.reads state)
+CanBeDone Check v = (state : State) × StandsFor v.reads state
 CanBeDone (Gen count start) v = Unit {0}

@@ -2,14 +2,13 @@
 ghost use Rattle.std.specs.Prelude.{◌≡◌, ◌≢◌, ◌≤◌, ◌^◌, ◌⊎◌, ◌↔◌, false, length, map, string_bytes};
 ghost use Rattle.outside_world.specs.Counts.{Rose};
 ghost use Rattle.outside_world.specs.GoesOn.{GoesOn};
-ghost use Rattle.outside_world.specs.declared.world.FileName.TheVariants.{A};
 ghost use Rattle.command_words.specs.Written.{IsWritten, IsNoCommand, IsAllowed};
 ghost use Rattle.command_words.specs.declared.word.Word.{Word as Command};
 ghost use Rattle.realm_insert.specs.State.{State};
 ghost use Rattle.realm_store.specs.Stands.{StandsFor};
 ghost use Rattle.realm_store.specs.Keeping.{AllRest};
 ghost use Rattle.realm_store.specs.Damages.{IsDamaged};
-ghost use Rattle.realm_store.specs.declared.damage.Damage.{Damage};
+ghost use Rattle.realm_pages.specs.declared.damage.Damage.{Damage};
 ghost use Rattle.rose_shell.specs.Running.{HasServed, HasRun};
 ghost use Rattle.rose_shell.specs.Telling.{HasDone, CanBeDone};
 
@@ -27,7 +26,7 @@ use std::thread::Threads;
 const MOST_BYTES: u64 = 1_099_511_627_776;
 
 /// Does what these words ask for, the arguments after the program's name. `run` reads lines to the end of the
-/// input, from what file A stands for on, and answers each. `check` tells how much file A stands for, and `gen` of a
+/// input, from what the files stand for on, and answers each. `check` tells how much the files stand for, and `gen` of a
 /// map that nobody wrote. Want of memory may end each at any place: what was given then is the replies to the first
 /// lines, each whole, or nothing.
 pub fn run<R: Threads + Sync, W: Outside>(
@@ -45,10 +44,10 @@ pub fn run<R: Threads + Sync, W: Outside>(
     ensures disk_fault { result ≡ Status.DiskFault
         → Rose (W.disk_faults world.old) (W.disk_faults world.new) }
     ensures damaged { (d : Damage) → result ≡ Status.Damaged d → W.tells world.new
-        → IsDamaged d ((W.view world.old).reads A) }
+        → IsDamaged d (W.view world.old).reads }
     ensures told { (command : Command) → IsWritten (map string_bytes words.now) command
         → W.tells world.new → HasDone command (W.view world.old) (W.view world.new) result }
-    // Where no call fails, file A stands for a state and the input ends within the budget, as far as the command
+    // Where no call fails, the files stand for a state and the input ends within the budget, as far as the command
     // asks for them, nothing but memory can be wanting.
     ensures complete { (command : Command) → IsWritten (map string_bytes words.now) command
         → W.tells world.new
@@ -82,7 +81,7 @@ fn do_command<R: Threads + Sync, W: Outside>(
     ensures disk_fault { result ≡ Status.DiskFault
         → Rose (W.disk_faults world.old) (W.disk_faults world.new) }
     ensures damaged { (d : Damage) → result ≡ Status.Damaged d → W.tells world.new
-        → IsDamaged d ((W.view world.old).reads A) }
+        → IsDamaged d (W.view world.old).reads }
     ensures told { W.tells world.new → HasDone word (W.view world.old) (W.view world.new) result }
     ensures complete { W.tells world.new
         → ¬ (Rose (W.source_faults world.old) (W.source_faults world.new))
@@ -99,7 +98,7 @@ fn do_command<R: Threads + Sync, W: Outside>(
     }
 }
 
-// Reads what file A stands for, and answers each line of the input from there on.
+// Reads what the files stand for, and answers each line of the input from there on.
 fn start_and_serve<R: Threads + Sync, W: Outside>(rt: &R, alloc: Global, world: &mut W) -> Status
     ensures never_usage { result ≢ Status.Usage }
     ensures source_fault { result ≡ Status.SourceFault
@@ -109,14 +108,14 @@ fn start_and_serve<R: Threads + Sync, W: Outside>(rt: &R, alloc: Global, world: 
     ensures disk_fault { result ≡ Status.DiskFault
         → Rose (W.disk_faults world.old) (W.disk_faults world.new) }
     ensures damaged { (d : Damage) → result ≡ Status.Damaged d → W.tells world.new
-        → IsDamaged d ((W.view world.old).reads A) }
+        → IsDamaged d (W.view world.old).reads }
     ensures told { W.tells world.new → HasRun (W.view world.old) (W.view world.new) result }
     ensures complete { W.tells world.new
         → ¬ (Rose (W.source_faults world.old) (W.source_faults world.new))
         → ¬ (Rose (W.sink_faults world.old) (W.sink_faults world.new))
         → ¬ (Rose (W.disk_faults world.old) (W.disk_faults world.new))
         → length (W.view world.old).left ≤ 2 ^ 40
-        → (state : State) → StandsFor ((W.view world.old).reads A) state
+        → (state : State) → StandsFor (W.view world.old).reads state
         → (result ≡ Status.Done) ⊎ (result ≡ Status.NoMemory) }
     ensures goes_on { GoesOn ⟦<W as Outside>⟧ world.old world.new }
 {

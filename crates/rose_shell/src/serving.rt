@@ -3,7 +3,7 @@ ghost use Rattle.std.specs.Prelude.{◌≡◌, ◌≢◌, ◌≤◌, ◌<◌, le
 ghost use Rattle.outside_world.specs.Counts.{Rose};
 ghost use Rattle.outside_world.specs.GoesOn.{GoesOn};
 ghost use Rattle.outside_world.specs.Calls.{Took};
-ghost use Rattle.realm_store.specs.declared.damage.Damage.{Damage};
+ghost use Rattle.realm_pages.specs.declared.damage.Damage.{Damage};
 ghost use Rattle.rose_shell.specs.Desk.{AllRest};
 ghost use Rattle.rose_shell.specs.Session.{Served};
 ghost use Rattle.rose_shell.specs.Loop.{status_at};

@@ -2,11 +2,10 @@
 ghost use Rattle.std.specs.Prelude.{◌≡◌, ◌≢◌, ◌≤◌, ◌⊎◌};
 ghost use Rattle.outside_world.specs.Counts.{Rose};
 ghost use Rattle.outside_world.specs.GoesOn.{GoesOn};
-ghost use Rattle.outside_world.specs.declared.world.FileName.TheVariants.{A};
 ghost use Rattle.realm_insert.specs.State.{State};
 ghost use Rattle.realm_store.specs.Stands.{StandsFor};
 ghost use Rattle.realm_store.specs.Damages.{IsDamaged};
-ghost use Rattle.realm_store.specs.declared.damage.Damage.{Damage};
+ghost use Rattle.realm_pages.specs.declared.damage.Damage.{Damage};
 ghost use Rattle.rose_shell.specs.Telling.{GivesLines, HasChecked, HasGenerated};
 
 use crate::giving::give_all;
@@ -19,7 +18,7 @@ use state_counts::count_state;
 use std::alloc::Global;
 use std::thread::Threads;
 
-/// Reads what file A stands for, and gives the lines that tell how much it is.
+/// Reads what the files stand for, and gives the lines that tell how much it is.
 pub(crate) fn tell_store<R: Threads + Sync, W: Outside>(
     rt: &R,
     alloc: Global,
@@ -32,12 +31,12 @@ pub(crate) fn tell_store<R: Threads + Sync, W: Outside>(
     ensures disk_fault { result ≡ Status.DiskFault
         → Rose (W.disk_faults world.old) (W.disk_faults world.new) }
     ensures damaged { (d : Damage) → result ≡ Status.Damaged d → W.tells world.new
-        → IsDamaged d ((W.view world.old).reads A) }
+        → IsDamaged d (W.view world.old).reads }
     ensures told { W.tells world.new → HasChecked (W.view world.old) (W.view world.new) result }
     ensures complete { W.tells world.new
         → ¬ (Rose (W.sink_faults world.old) (W.sink_faults world.new))
         → ¬ (Rose (W.disk_faults world.old) (W.disk_faults world.new))
-        → (state : State) → StandsFor ((W.view world.old).reads A) state
+        → (state : State) → StandsFor (W.view world.old).reads state
         → (result ≡ Status.Done) ⊎ (result ≡ Status.NoMemory) }
     ensures goes_on { GoesOn ⟦<W as Outside>⟧ world.old world.new }
 {

@@ -19,7 +19,7 @@ fn look_at_leave<R: Threads + Sync + Abort>(
     within: (u64, u64),
 ) -> Result<(), NoMemory> {
     let file = left(world, moment, leave)?;
-    let (status, changes) = told(rt, alloc, &file);
+    let (status, changes) = told(rt, alloc, &file, b"");
     assert_eq!(rt; status, 0, "at {moment} and {leave:?}");
     assert!(rt;
         within.0 <= changes && changes <= within.1,
@@ -28,11 +28,9 @@ fn look_at_leave<R: Threads + Sync + Abort>(
     Ok(())
 }
 
-// The first change on an empty file: the call that fails, and how many changes each crash leaves then. Three calls come
-// before: two of the start, and a take. Then three shut the first gate, four append the head, and four the record.
+// The first change on an empty file: the call that fails, and how many changes each crash leaves then. Five calls come
+// before: four of the start, and a take. Then three shut the first gate, four append the head, and four the record.
 static FIRST: [(u64, [u64; 4]); 11] = [
-    (4, [0, 0, 0, 0]),
-    (5, [0, 0, 0, 0]),
     (6, [0, 0, 0, 0]),
     (7, [0, 0, 0, 0]),
     (8, [0, 0, 0, 0]),
@@ -40,8 +38,10 @@ static FIRST: [(u64, [u64; 4]); 11] = [
     (10, [0, 0, 0, 0]),
     (11, [0, 0, 0, 0]),
     (12, [0, 0, 0, 0]),
-    (13, [0, 0, 0, 1]),
-    (14, [0, 1, 0, 1]),
+    (13, [0, 0, 0, 0]),
+    (14, [0, 0, 0, 0]),
+    (15, [0, 0, 0, 1]),
+    (16, [0, 1, 0, 1]),
 ];
 
 // These changes are found then.
@@ -110,11 +110,11 @@ fn fail_after<R: Threads + Sync + Abort>(
     Ok(calls)
 }
 
-// At each call in turn, and where none fails. Two calls are made at the start, and two take; eleven write the first change,
+// At each call in turn, and where none fails. Four calls are made at the start, and two take; eleven write the first change,
 // and four each other; and each reply is given by one.
 #[test]
 fn no_crash_and_no_fault_loses_a_change(rt: HostRuntime) {
-    for call in 0..=61 {
+    for call in 0..=63 {
         assert!(rt; fail_after(&rt, rt.alloc(), call).is_ok(), "no memory");
     }
 }

@@ -118,13 +118,15 @@ fn a_line_has_a_mebibyte_at_most(rt: HostRuntime) {
     }
 }
 
-// Of a session with the one line `realm`: the call that fails, the budget, the status and the replies. The start makes two
-// calls, a take is the third, and the give of the reply the fourth.
-static FAULTS: [(u64, u64, u8, &str); 7] = [
+// Of a session with the one line `realm`: the call that fails, the budget, the status and the replies. The start makes four
+// calls, a sync and a read of each file; a take is the fifth, and the give of the reply the sixth.
+static FAULTS: [(u64, u64, u8, &str); 9] = [
     (1, 1_000, 4, ""),
-    (3, 1_000, 2, ""),
-    (4, 1_000, 3, ""),
-    (5, 1_000, 2, "realm 0 0\n"),
+    (2, 1_000, 4, ""),
+    (4, 1_000, 4, ""),
+    (5, 1_000, 2, ""),
+    (6, 1_000, 3, ""),
+    (7, 1_000, 2, "realm 0 0\n"),
     (9, 0, 7, ""),
     (9, 5, 7, ""),
     (9, 6, 0, "realm 0 0\n"),

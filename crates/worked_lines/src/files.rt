@@ -90,8 +90,9 @@ static WHOLE: [(&[u8], u8, u64); 5] = [
 ];
 
 // The same of a file of this generation, with records of these numbers and these bytes behind them.
-static RECORDS: [(u8, &[u8], &[u8], u8, u64); 7] = [
-    (2, b"", b"", 5, 0),
+static RECORDS: [(u8, &[u8], &[u8], u8, u64); 8] = [
+    (0, b"", b"", 5, 0),
+    (2, b"", b"", 0, 0),
     (1, b"", b"", 0, 0),
     (1, b"\x01", b"", 0, 1),
     (1, b"\x01", b"\0\xa5", 0, 1),
@@ -108,7 +109,7 @@ fn look_at_file<R: Threads + Sync + Abort>(
     status: u8,
     number: u64,
 ) -> Result<(), NoMemory> {
-    let found = told(rt, alloc, file);
+    let found = told(rt, alloc, file, b"");
     assert_eq!(rt; found, (status, number), "{file:?}");
     let _ = look(rt, alloc, "", file, "", status)?;
     Ok(())
@@ -143,6 +144,44 @@ fn files_stand_for_states_or_are_damaged(rt: HostRuntime) {
             behind,
             *status,
             *number,
+        );
+        assert!(rt; done.is_ok(), "no memory");
+    }
+}
+
+// Generations and numbers of records of file A and of file B, and what is told of the two.
+static PAIRS: [(u8, &[u8], u8, &[u8], u8, u64); 5] = [
+    (1, b"\x01\x02", 2, b"\x01", 0, 1),
+    (3, b"\x01\x02", 2, b"\x01", 0, 2),
+    (2, b"\x01", 2, b"\x01", 5, 2),
+    // The older file isn't read behind its head.
+    (1, b"\x02", 2, b"", 0, 0),
+    (1, b"\x01", 0, b"", 5, 0),
+];
+
+// A start tells this of the two files.
+fn look_at_pair<R: Threads + Sync + Abort>(
+    rt: &R,
+    alloc: Global,
+    a: (u8, &[u8]),
+    b: (u8, &[u8]),
+    wanted: (u8, u64),
+) -> Result<(), NoMemory> {
+    let first = file_of(alloc, a.0, a.1, b"\0")?;
+    let second = file_of(alloc, b.0, b.1, b"\0")?;
+    assert_eq!(rt; told(rt, alloc, &first, &second), wanted, "{a:?} and {b:?}");
+    Ok(())
+}
+
+#[test]
+fn the_newest_of_two_files_stands(rt: HostRuntime) {
+    for (a, numbers_a, b, numbers_b, status, number) in PAIRS.iter() {
+        let done = look_at_pair(
+            &rt,
+            rt.alloc(),
+            (*a, numbers_a),
+            (*b, numbers_b),
+            (*status, *number),
         );
         assert!(rt; done.is_ok(), "no memory");
     }

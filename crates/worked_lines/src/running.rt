@@ -19,17 +19,29 @@ impl Drop for Place {
     }
 }
 
-/// A world with this input and file A, in which the calls of these numbers fail.
+/// A world with this input and file A and an empty file B, in which the calls of these numbers fail.
 pub(crate) fn place_of(
     alloc: Global,
     input: &str,
     file: &[u8],
     failing: &[u64],
 ) -> Result<Place, NoMemory> {
+    place_of_two(alloc, input, file, b"", failing)
+}
+
+/// A world with this input and these two files, in which the calls of these numbers fail.
+pub(crate) fn place_of_two(
+    alloc: Global,
+    input: &str,
+    a: &[u8],
+    b: &[u8],
+    failing: &[u64],
+) -> Result<Place, NoMemory> {
     let input = Vec::from_slice(alloc, input.as_bytes())?;
-    let file = Vec::from_slice(alloc, file)?;
+    let a = Vec::from_slice(alloc, a)?;
+    let b = Vec::from_slice(alloc, b)?;
     let failing = Vec::from_slice(alloc, failing)?;
-    let world = MemoryWorld::new(alloc, input, file, Vec::new(alloc), failing)?;
+    let world = MemoryWorld::new(alloc, input, a, b, failing)?;
     Ok(Place { world })
 }
 
@@ -89,10 +101,10 @@ pub(crate) fn look<R: Threads + Sync + Abort>(
     Ok(place)
 }
 
-/// What a start tells of a file A with these bytes: 0 and the number of its changes; or 5 and the number of the record or
-/// the page that is damaged; or the number of another status.
-pub(crate) fn told<R: Threads + Sync>(rt: &R, alloc: Global, file: &[u8]) -> (u8, u64) {
-    match place_of(alloc, "", file, &[]) {
+/// What a start tells of two files with these bytes: 0 and the number of changes; or 5 and the number of the record or
+/// the page that is damaged, or of the generation that both have; or the number of another status.
+pub(crate) fn told<R: Threads + Sync>(rt: &R, alloc: Global, a: &[u8], b: &[u8]) -> (u8, u64) {
+    match place_of_two(alloc, "", a, b, &[]) {
         Ok(mut place) => told_by(rt, alloc, &mut place.world),
         Err(_) => (6, 0),
     }
@@ -104,6 +116,8 @@ fn told_by<R: Threads + Sync>(rt: &R, alloc: Global, world: &mut MemoryWorld) ->
         Ok(store) => (0, store.state().changes()),
         Err(StartError::Damaged(Damage::BadPage { page, .. })) => (5, page),
         Err(StartError::Damaged(Damage::BadRecord { number, .. })) => (5, number),
+        Err(StartError::Damaged(Damage::Twins { generation })) => (5, generation),
+        Err(StartError::Damaged(_)) => (5, 0),
         Err(StartError::Disk) => (4, 0),
         Err(StartError::NoMemory) => (6, 0),
     }

@@ -2,15 +2,16 @@ use Rattle.std.proofs.Common.{◌≡◌, ◌∙◌, inl, refl, sym, ap, subst, E
 use Rattle.realm_insert.specs.State.{SpendableState}
 use Rattle.realm_insert.specs.Refusals.{IsRefusedBy}
 use Rattle.realm_insert.specs.declared.refusal.Refusal.{Refusal as Word}
+use Rattle.realm_files.specs.declared.place.Place.{Place}
 use Rattle.realm_store.specs.declared.error.CommitError.TheVariants.{Refused}
 use Rattle.realm_store.specs.Keeping.{SpendableKept, AllRest}
 use Rattle.realm_store.proofs.Commits.{made, rests, is_written, cut_off}
 use Rattle.realm_store.proofs.store.Store.commit.Goals as goal
 
 -- the file is full
-pub returns-then-next_gate-ge-NO_PLACE-clause-refused :
-    goal.returns-then-next_gate-ge-NO_PLACE-clause-refused
-returns-then-next_gate-ge-NO_PLACE-clause-refused g c = λ word same.
+pub returns-then-place_or_first-ge-NO_PLACE-clause-refused :
+    goal.returns-then-place_or_first-ge-NO_PLACE-clause-refused
+returns-then-place_or_first-ge-NO_PLACE-clause-refused g c = λ word same.
     let is : c.refuse_full.result ≡ Refused word = cc in
     let (why, stays) = c.refuse_full.ensures.refused word is in
     (why, stays, refl)
@@ -25,7 +26,7 @@ keep-requires-clause-rest g c = (
 -- the steps are those of the engine, and the next gate isn't too far
 pub returns-in-Ok-clause-made : goal.returns-in-Ok-clause-made
 returns-in-Ok-clause-made g c =
-    made c.self.view_is c.in-Ok.ensures.next (omega (arith, c.next_gate.ensures, c.if-next_gate-ge-NO_PLACE.false))
+    made c.self.view_is c.in-Ok.ensures.next (omega (arith, ap (λ (p : Place). p.next) c.place_or_first.ensures, c.if-place_or_first-ge-NO_PLACE.false))
     c.keep.new.self.kept c.in-Ok.applied.first c.in-Ok.applied.added c.keep.result c.keep.ensures.kept c.in-Ok.ensures.numbers
     c.keep.ensures.reply
 
@@ -46,7 +47,7 @@ pub returns-in-Ok-clause-cut_off : goal.returns-in-Ok-clause-cut_off
 returns-in-Ok-clause-cut_off g c =
     cut_off c.self.view_is c.in-Ok.ensures.next c.requires.spellable (g.W.Outside.view c.args.world.now)
     (g.W.Outside.view c.keep.new.world) (λ t. c.requires.rest (c.keep.ensures.goes_on.tells t)) c.keep.result c.keep.ensures.told
-    (omega (arith, c.next_gate.ensures, c.if-next_gate-ge-NO_PLACE.false))
+    (omega (arith, ap (λ (p : Place). p.next) c.place_or_first.ensures, c.if-place_or_first-ge-NO_PLACE.false))
 
 -- the engine refuses the change, and is as it was
 pub returns-in-Err-Refused-clause-refused : goal.returns-in-Err-Refused-clause-refused
@@ -56,7 +57,7 @@ returns-in-Err-Refused-clause-refused g c = λ word same.
     let here = subst (λ (s : SpendableKept). IsRefusedBy c.args.c.now s.kept.state c.in-Err-Refused.word) c.self.view_is why in (
       inl (subst (λ (w : Word). IsRefusedBy c.args.c.now c.args.self.now.kept.state w) is here),
       ap (λ (e : SpendableState). record {
-        kept = record { state = e.state; next = c.self.inside.next; has_gate = c.self.inside.has_gate };
+        kept = record { state = e.state; place = c.self.inside.place; has_gate = c.self.inside.has_gate };
         spent = c.self.inside.spent;
       }) stays ∙ c.self.view_is,
       refl,

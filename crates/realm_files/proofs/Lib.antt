@@ -1,0 +1,22 @@
+-- files given as functions of their names
+pub mod Pairs
+-- records depend on what stands before the next gate
+pub mod Fronts
+-- and so does the newest file
+pub mod NewestFronts
+-- what files stand for while a record is appended
+pub mod Appends
+-- what they stand for while a missing gate is added
+pub mod MissingGates
+-- what they stand for while the next generation is put on the other
+pub mod Renewals
+-- from a gate on a file has one row of records
+pub mod LedOnce
+-- and two files have one reading
+pub mod OneReading
+-- records that were scanned, where they lead
+pub mod Scans
+-- files that were synced and read
+pub mod Syncs
+-- what file A stood for alone
+pub mod Alones

@@ -1,0 +1,9 @@
+-- What payloads and records mean, for states of any kind.
+use Rattle.std.specs.Prelude.{ℕ, List}
+use Rattle.record_codec.specs.declared.record.Record.{Record}
+
+-- the state of files of which none counts, the states that a payload opens, and where a record leads from a state
+pub record Meaning (S : Type 0) : Type 1 where
+  pub empty : S
+  pub opens : List ℕ → S → Type 0
+  pub leads : S → Record → S → Type 0

@@ -1,0 +1,10 @@
+//! Where the next record will stand.
+use outside_world::FileName;
+
+/// The newest file, the number of its generation, and the place of its next gate.
+#[derive(Clone, Copy, Debug, PartialEq, Eq)]
+pub struct Place {
+    pub file: FileName,
+    pub generation: u64,
+    pub next: u64,
+}
