@@ -1,6 +1,8 @@
 #!/usr/bin/env python3
 """Compares what `rose run` answers of small random values with a count by the definitions. See README.md."""
 import argparse
+import collections
+import functools
 import itertools
 import os
 import random
@@ -55,6 +57,32 @@ class Plane:
                 yield i, k, None
                 yield i, k, s
             yield i, len(strip), None
+
+    @functools.cached_property
+    def within(self):
+        """For each place the segment that it is inside of, if any: each one is inside of a strip, or upright on a wall."""
+        table = []
+        for x, wall in zip(self.columns, self.walls):
+            upright = [s for s in self.segments if s[0][0] == x == s[1][0]]
+            table += [next((s for s in upright if s[0][1] < y < s[1][1]), None) for y in wall]
+        return table + [s for _, _, s in self.strip_places()]
+
+    @functools.cached_property
+    def sides(self):
+        """For each segment the place on its left and the place on its right, from its lesser end to its greater one."""
+        walls = sum(len(wall) for wall in self.walls)
+        places = {(i, k): number for number, (i, k, s) in enumerate(self.strip_places(), walls) if s is None}
+        found = {}
+        for s in self.segments:
+            (x, y), (u, v) = s
+            j = self.columns.index(x)
+            if x == u:
+                middle = Fraction(y + v, 2)
+                found[s] = tuple(places[i, sum(height(t, x) < middle for t in self.strips[i])] for i in (j, j + 1))
+            else:
+                k = self.strips[j + 1].index(s)
+                found[s] = places[j + 1, k + 1], places[j + 1, k]
+        return found
 
 
 def around(rows):
@@ -193,22 +221,7 @@ def abs_area(a):
 
 def border_of(plane, has):
     """The segments of the drawing that have the region of these places on one side alone."""
-    places = dict(zip([("wall", j, k) for j, wall in enumerate(plane.walls) for k in range(len(wall))]
-                      + list(plane.strip_places()), itertools.count()))
-    found = set()
-    for s in plane.segments:
-        if s[0][0] == s[1][0]:
-            j = plane.columns.index(s[0][0])
-            middle = Fraction(s[0][1] + s[1][1], 2)
-            sides = [sum(height(t, s[0][0]) < middle for t in plane.strips[side]) for side in (j, j + 1)]
-            two = [places[side, below, None] for side, below in zip((j, j + 1), sides)]
-        else:
-            i = plane.columns.index(s[0][0]) + 1
-            k = plane.strips[i].index(s)
-            two = [places[i, k, None], places[i, k + 1, None]]
-        if has(two[0]) != has(two[1]):
-            found.add(s)
-    return found
+    return {s for s, (left, right) in plane.sides.items() if has(left) != has(right)}
 
 
 def made(plane, op, a, b):
@@ -228,7 +241,7 @@ def made(plane, op, a, b):
         return "P", (a.vertices & b.vertices) - {p for s in a.content & b.content for p in s}
     if op == "intersection" and kinds == "RL":
         sides = range(len(a.on))
-        within = {s: all(a.has(i) for i in sides if place_on(plane, i) == s) for s in b.content}
+        within = {s: all(a.has(i) for i in sides if plane.within[i] == s) for s in b.content}
         return "L", {s for s in b.content if within[s]}
     if kinds not in ("PP", "LL", "RR") or op not in ("intersection", "plus", "minus"):
         return None
@@ -237,28 +250,6 @@ def made(plane, op, a, b):
     test = {"intersection": lambda i: a.odd[i] and b.odd[i], "plus": lambda i: a.odd[i] or b.odd[i],
             "minus": lambda i: a.odd[i] and not b.odd[i]}[op]
     return "R", border_of(plane, test)
-
-
-def place_on(plane, i):
-    """The segment that the place is inside of, if any: each segment is inside of a strip, or upright on a wall."""
-    if plane_key(plane) not in place_on.known:
-        place_on.known.clear()
-        table = []
-        for j, wall in enumerate(plane.walls):
-            x = plane.columns[j]
-            upright = [s for s in plane.segments if s[0][0] == x == s[1][0]]
-            for y in wall:
-                table.append(next((s for s in upright if s[0][1] < y < s[1][1]), None))
-        table += [s for _, _, s in plane.strip_places()]
-        place_on.known[plane_key(plane)] = table
-    return place_on.known[plane_key(plane)][i]
-
-
-place_on.known = {}
-
-
-def plane_key(plane):
-    return id(plane)
 
 
 # ---- drawings
