@@ -1,6 +1,8 @@
 #!/usr/bin/env python3
 """Compares what `rose run` answers of small random values with a count by the definitions. See README.md."""
 import argparse
+import collections
+import functools
 import itertools
 import os
 import random
@@ -55,6 +57,32 @@ class Plane:
                 yield i, k, None
                 yield i, k, s
             yield i, len(strip), None
+
+    @functools.cached_property
+    def within(self):
+        """For each place the segment that it is inside of, if any: each one is inside of a strip, or upright on a wall."""
+        table = []
+        for x, wall in zip(self.columns, self.walls):
+            upright = [s for s in self.segments if s[0][0] == x == s[1][0]]
+            table += [next((s for s in upright if s[0][1] < y < s[1][1]), None) for y in wall]
+        return table + [s for _, _, s in self.strip_places()]
+
+    @functools.cached_property
+    def sides(self):
+        """For each segment the place on its left and the place on its right, from its lesser end to its greater one."""
+        walls = sum(len(wall) for wall in self.walls)
+        places = {(i, k): number for number, (i, k, s) in enumerate(self.strip_places(), walls) if s is None}
+        found = {}
+        for s in self.segments:
+            (x, y), (u, v) = s
+            j = self.columns.index(x)
+            if x == u:
+                middle = Fraction(y + v, 2)
+                found[s] = tuple(places[i, sum(height(t, x) < middle for t in self.strips[i])] for i in (j, j + 1))
+            else:
+                k = self.strips[j + 1].index(s)
+                found[s] = places[j + 1, k + 1], places[j + 1, k]
+        return found
 
 
 def around(rows):
@@ -193,22 +221,7 @@ def abs_area(a):
 
 def border_of(plane, has):
     """The segments of the drawing that have the region of these places on one side alone."""
-    places = dict(zip([("wall", j, k) for j, wall in enumerate(plane.walls) for k in range(len(wall))]
-                      + list(plane.strip_places()), itertools.count()))
-    found = set()
-    for s in plane.segments:
-        if s[0][0] == s[1][0]:
-            j = plane.columns.index(s[0][0])
-            middle = Fraction(s[0][1] + s[1][1], 2)
-            sides = [sum(height(t, s[0][0]) < middle for t in plane.strips[side]) for side in (j, j + 1)]
-            two = [places[side, below, None] for side, below in zip((j, j + 1), sides)]
-        else:
-            i = plane.columns.index(s[0][0]) + 1
-            k = plane.strips[i].index(s)
-            two = [places[i, k, None], places[i, k + 1, None]]
-        if has(two[0]) != has(two[1]):
-            found.add(s)
-    return found
+    return {s for s, (left, right) in plane.sides.items() if has(left) != has(right)}
 
 
 def made(plane, op, a, b):
@@ -228,7 +241,7 @@ def made(plane, op, a, b):
         return "P", (a.vertices & b.vertices) - {p for s in a.content & b.content for p in s}
     if op == "intersection" and kinds == "RL":
         sides = range(len(a.on))
-        within = {s: all(a.has(i) for i in sides if place_on(plane, i) == s) for s in b.content}
+        within = {s: all(a.has(i) for i in sides if plane.within[i] == s) for s in b.content}
         return "L", {s for s in b.content if within[s]}
     if kinds not in ("PP", "LL", "RR") or op not in ("intersection", "plus", "minus"):
         return None
@@ -239,26 +252,55 @@ def made(plane, op, a, b):
     return "R", border_of(plane, test)
 
 
-def place_on(plane, i):
-    """The segment that the place is inside of, if any: each segment is inside of a strip, or upright on a wall."""
-    if plane_key(plane) not in place_on.known:
-        place_on.known.clear()
-        table = []
-        for j, wall in enumerate(plane.walls):
-            x = plane.columns[j]
-            upright = [s for s in plane.segments if s[0][0] == x == s[1][0]]
-            for y in wall:
-                table.append(next((s for s in upright if s[0][1] < y < s[1][1]), None))
-        table += [s for _, _, s in plane.strip_places()]
-        place_on.known[plane_key(plane)] = table
-    return place_on.known[plane_key(plane)][i]
+# ---- faces
+def cycle(plane, segments, has):
+    """The vertices of the one simple cycle that the segments form, the least first, with these places on the left."""
+    after = dict(s if has(plane.sides[s][0]) else s[::-1] for s in segments)
+    assert len(after) == len(segments) and set(after) == set(after.values()), "a vertex doesn't end two of the segments"
+    found = [min(after)]
+    while after[found[-1]] != found[0]:
+        found.append(after[found[-1]])
+    assert len(found) == len(segments), "the segments form more than one cycle"
+    return found
 
 
-place_on.known = {}
+def faces(plane, a):
+    """Each face of the region: its outer cycle, its holes, and how many other faces lie within these."""
+    interior = {i: a.root(a.cell[i]) for i in range(len(a.on)) if a.interior(i)}
+    found = []
+    for face in set(interior.values()):
+        own = {i for i, root in interior.items() if root == face}
+        rim = {s: set(plane.sides[s]) - own for s in a.content if set(plane.sides[s]) & own}
+        without = Value("L", plane, rim)
+        classes = {i: without.root(node) for i, node in enumerate(without.cell) if not without.on[i] and i not in own}
+        assert {classes[i] for places in rim.values() for i in places} == set(classes.values()), "a class that has no border to the face"
+        assert len({without.root(without.cell[i]) for i in own} - set(classes.values())) == 1, "the face is no class of its rim"
+        borders = {c: cycle(plane, [s for s, (i,) in rim.items() if classes[i] == c], own.__contains__) for c in set(classes.values())}
+        outer = borders.pop(without.outer)
+        shut = {root for i, root in interior.items() if i not in own and classes[i] != without.outer}
+        found.append((outer, sorted(borders.values()), len(shut)))
+    return sorted(found)
 
 
-def plane_key(plane):
-    return id(plane)
+def lines_of(found):
+    """The reply to `faces`."""
+    rows = [f"faces {len(found)}"]
+    for outer, holes, _ in found:
+        rows += [f"{word} {text([it])}" for word, it in [("outer", outer)] + [("hole", hole) for hole in holes]]
+    return rows
+
+
+def shapes(found):
+    """What the faces of one region show, to be counted."""
+    cycles = [it for outer, holes, _ in found for it in [outer] + holes]
+    several = [holes for _, holes, _ in found if len(holes) > 1]
+    corners = [(p, q, r) for it in cycles for p, q, r in zip(it, it[1:] + it[:1], it[2:] + it[:2])]
+    straight = [(q[0] - p[0]) * (r[1] - q[1]) == (q[1] - p[1]) * (r[0] - q[0]) for p, q, r in corners]
+    return {
+        "faces": len(found), "holes": len(cycles) - len(found), "faces with several": len(several),
+        "faces in holes of others": sum(shut for _, _, shut in found), "vertices of cycles": len(corners),
+        "of them where an earlier cycle is": len(corners) - len({q for _, q, _ in corners}), "of them straight on": sum(straight),
+    }
 
 
 # ---- drawings
@@ -322,6 +364,19 @@ def on_paper(draw):
     return found + draw.sample([("P", []), ("L", []), ("R", [])], 1)
 
 
+def nested(draw):
+    """Regions that are rings of one squared paper in one another, from each of which some triangles are taken or left out."""
+    cells = draw.choice([5, 6, 7])
+    _, _, triangles = paper(draw, cells)
+    noise = draw.choice([0.02, 0.08, 0.2])
+
+    def ring(triangle):
+        x, y = min(p for p, _ in triangle), min(q for _, q in triangle)
+        return min(x, y, cells - 1 - x, cells - 1 - y)
+
+    return [("R", [t for t in triangles if (ring(t) % 2 == first) != (draw.random() < noise)]) for first in (0, 0, 1)]
+
+
 def crossing(draw):
     """Values whose segments cross, so that they are redrawn: points, lines and polygons."""
     side = draw.choice([8, 15, 40])
@@ -367,15 +422,20 @@ class Asked:
         with tempfile.TemporaryDirectory() as folder:
             run = subprocess.run([program, "run"], input="".join(f"{line}\n" for line in self.lines).encode(), cwd=folder,
                                  stdout=subprocess.PIPE, check=True)
-        rest = iter(run.stdout.decode().splitlines())
+        rest = collections.deque(run.stdout.decode().splitlines())
         return [self.reply(rest) for _ in self.lines]
 
     @staticmethod
     def reply(rest):
-        head = next(rest).split(" ")
+        head = rest.popleft().split(" ")
+        if head[0] == "faces":
+            rows = [" ".join(head)]
+            while rest and rest[0].split(" ")[0] in ("outer", "hole"):
+                rows.append(rest.popleft())
+            return rows
         if head[0] not in KINDS:
             return " ".join(head)
-        rows = [tuple(map(int, next(rest).split(" "))) for _ in range(int(head[1]))]
+        rows = [tuple(map(int, rest.popleft().split(" "))) for _ in range(int(head[1]))]
         kind = KINDS[head[0]]
         return kind, rows if kind == "P" else [(row[:2], row[2:]) for row in rows]
 
@@ -383,6 +443,7 @@ class Asked:
 def questions(names, values, plane):
     """Each question about the values with the reply that the definitions give."""
     for name, a in zip(names, values):
+        yield f"faces {name}", faces(plane, a) if a.kind == "R" else None
         for op in ONE:
             yield f"eval {op} {name}", made(plane, op, a, None)
         for number in NUMBERS:
@@ -403,13 +464,27 @@ def wanted(line, answer):
     word = line.split(" ")[0]
     if answer is (False if word == "num" else None):
         return "no types"
+    if word == "faces":
+        return lines_of(answer)
     if word == "num":
         return "num none" if answer is None else f"num {answer}"
     return str(answer).lower() if word == "ask" else (answer[0], sorted(answer[1]))
 
 
+def heading(line, values, reply):
+    """What the reply is counted under, and as what."""
+    words = line.split(" ")
+    if reply == "no types":
+        return "refused for their kinds", "all"
+    first = 1 if words[0] == "faces" else 2
+    key = " ".join(words[:first] + [WORDS[values[int(name[1:])].kind] for name in words[first:]])
+    if words[0] == "faces":
+        return key, "none" if len(reply) == 1 else "with holes" if any(row.startswith("hole") for row in reply) else "without holes"
+    return key, reply if words[0] == "ask" else "none" if reply == "num none" else "some" if reply[1] else "empty"
+
+
 def compare(program, draw, drawing):
-    """How many replies were compared and of how many kinds; the first that differs ends the run."""
+    """How many replies of each kind were compared, and what the faces show; the first reply that differs ends the run."""
     drawn = drawing(draw)
     names = [f"v{k}" for k in range(len(drawn))]
     told = Asked()
@@ -418,7 +493,7 @@ def compare(program, draw, drawing):
     for name in names:
         told.ask(f"show {name}")
     shown = told.replies(program)[len(names):]
-    if drawing is on_paper:
+    if drawing is not crossing:
         for (kind, content), (_, rows) in zip(drawn, shown):
             sides = [e for t in content for e in edges_of(t)] if kind == "R" else content
             expect = sorted({e for e in sides if kind != "R" or sides.count(e) % 2 == 1})
@@ -430,21 +505,16 @@ def compare(program, draw, drawing):
     again = Asked()
     for line in told.lines[:len(names)] + [line for line, _ in asked]:
         again.ask(line)
-    counts = {}
+    counts, shown = {}, collections.Counter()
     for (line, answer), reply in zip(asked, again.replies(program)[len(names):]):
         if reply != wanted(line, answer):
             drawn = "\n".join(told.lines[:len(names)])
             raise SystemExit(f"{drawn}\n{line}\ngot  {reply}\nwant {wanted(line, answer)}")
-        kinds = " ".join(WORDS[values[int(name[1:])].kind] for name in line.split(" ")[2:])
-        key = f"{' '.join(line.split(' ')[:2])} {kinds}"
-        if reply == "no types":
-            key = "refused for their kinds"
-        seen = counts.setdefault(key, {})
-        what = reply if line[0] == "a" else "none" if reply == "num none" else "some" if reply[1] else "empty"
-        if reply == "no types":
-            what = "all"
-        seen[what] = seen.get(what, 0) + 1
-    return counts
+        key, what = heading(line, values, reply)
+        counts.setdefault(key, collections.Counter())[what] += 1
+        if key == "faces regions":
+            shown.update(shapes(answer))
+    return counts, shown
 
 
 def main():
@@ -452,17 +522,20 @@ def main():
     parser.add_argument("program")
     parser.add_argument("--papers", type=int, default=100, help="drawings without crossings")
     parser.add_argument("--crossings", type=int, default=50, help="drawings whose segments cross")
+    parser.add_argument("--nested", type=int, default=50, help="drawings of rings in one another, without crossings")
     parser.add_argument("--seed", type=int, default=1)
     given = parser.parse_args()
     program = os.path.abspath(given.program)
-    total = {}
-    for k in range(given.papers + given.crossings):
-        draw = random.Random(given.seed * 1000003 + k)
-        for key, seen in compare(program, draw, on_paper if k < given.papers else crossing).items():
-            for what, number in seen.items():
-                total.setdefault(key, {})[what] = total.get(key, {}).get(what, 0) + number
+    total, shown = {}, collections.Counter()
+    drawings = [on_paper] * given.papers + [crossing] * given.crossings + [nested] * given.nested
+    for k, drawing in enumerate(drawings):
+        counts, more = compare(program, random.Random(given.seed * 1000003 + k), drawing)
+        shown.update(more)
+        for key, seen in counts.items():
+            total.setdefault(key, collections.Counter()).update(seen)
     for key in sorted(total):
         print(f"{key:48} {', '.join(f'{what} {number}' for what, number in sorted(total[key].items()))}")
+    print(f"{'what the faces show':48} {', '.join(f'{what} {number}' for what, number in shown.items())}")
     print(sum(sum(seen.values()) for seen in total.values()), "replies, all as counted")
 
 
