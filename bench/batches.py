@@ -5,9 +5,11 @@
 
 A map of so many segments (5,000 where none are told) is drawn once, in a folder that is thrown away. Then the same 64 queries are
 asked of it, first as 64 lines and then behind the line `batch 64`. Both must give the same bytes. What is told is the time of
-each run less that of a run without a query, since every run reads the map from its file first.
+each run less that of a run without a query, since every run reads the map from its file first: the seconds that passed, and those
+that processors worked, which other work on the machine disturbs less.
 """
 import os
+import resource
 import subprocess
 import sys
 import tempfile
@@ -31,10 +33,16 @@ def segments(count):
         yield f"segment {x} {y} {u} {v}\n"
 
 
+def worked():
+    used = resource.getrusage(resource.RUSAGE_CHILDREN)
+    return used.ru_utime + used.ru_stime
+
+
 def run(program, folder, lines):
-    began = time.monotonic()
+    """What was answered, and the seconds that passed and that processors worked."""
+    began, before = time.monotonic(), worked()
     done = subprocess.run([program, "run"], cwd=folder, input=lines.encode(), stdout=subprocess.PIPE, check=True)
-    return done.stdout, time.monotonic() - began
+    return done.stdout, (time.monotonic() - began, worked() - before)
 
 
 def main():
@@ -48,9 +56,10 @@ def main():
     if alone != together:
         sys.exit("the batch gives other bytes than its lines one by one")
     print(f"segments {count}, queries {QUERIES}, bytes {len(alone)}")
-    print(f"start      {started:8.2f} s")
-    print(f"one by one {one_by_one - started:8.2f} s")
-    print(f"batch      {batch - started:8.2f} s")
+    print("             passed   worked")
+    print(f"start      {started[0]:8.2f} {started[1]:8.2f}")
+    for name, taken in (("one by one", one_by_one), ("batch", batch)):
+        print(f"{name:10} {taken[0] - started[0]:8.2f} {taken[1] - started[1]:8.2f}")
 
 
 if __name__ == "__main__":

@@ -296,10 +296,12 @@ def shapes(found):
     several = [holes for _, holes, _ in found if len(holes) > 1]
     corners = [(p, q, r) for it in cycles for p, q, r in zip(it, it[1:] + it[:1], it[2:] + it[:2])]
     straight = [(q[0] - p[0]) * (r[1] - q[1]) == (q[1] - p[1]) * (r[0] - q[0]) for p, q, r in corners]
+    cycles_at = collections.Counter(q for _, q, _ in corners)
     return {
-        "faces": len(found), "holes": len(cycles) - len(found), "faces with several": len(several),
-        "faces in holes of others": sum(shut for _, _, shut in found), "vertices of cycles": len(corners),
-        "of them where an earlier cycle is": len(corners) - len({q for _, q, _ in corners}), "of them straight on": sum(straight),
+        "faces": len(found), "holes": len(cycles) - len(found), "faces with several holes": len(several),
+        "faces in holes of others": sum(shut for _, _, shut in found), "vertices": len(cycles_at),
+        "vertices of several cycles": sum(number > 1 for number in cycles_at.values()),
+        "vertices at which a cycle goes straight on": sum(straight),
     }
 
 
@@ -535,7 +537,8 @@ def main():
             total.setdefault(key, collections.Counter()).update(seen)
     for key in sorted(total):
         print(f"{key:48} {', '.join(f'{what} {number}' for what, number in sorted(total[key].items()))}")
-    print(f"{'what the faces show':48} {', '.join(f'{what} {number}' for what, number in shown.items())}")
+    for what, number in shown.items():
+        print(f"{what:48} {number}")
     print(sum(sum(seen.values()) for seen in total.values()), "replies, all as counted")
 
 
