@@ -1,10 +1,10 @@
 -- This file shows what a checkpoint makes of what is kept, and what it leaves of the files.
-use Rattle.std.proofs.Common.{◌≡◌, ◌+◌, ℕ, Bool, true, List, [], Some, None, refl, sym, ◌∙◌, ap, subst}
-use Rattle.std.specs.Prelude.{Result, Ok, Err, IfOk, OnOk}
+use Rattle.std.proofs.Common.{◌≡◌, ℕ, Bool, [], None, refl, sym, ◌∙◌, ap, subst}
+use Rattle.std.specs.Prelude.{Result, Ok}
 use Rattle.outside_world.specs.declared.world.FileName.{FileName}
 use Rattle.outside_world.specs.declared.world.FileName.TheVariants.{A}
 use Rattle.outside_world.specs.View.{View}
-use Rattle.realm_insert.specs.State.{State, empty_state}
+use Rattle.realm_insert.specs.State.{empty_state}
 use Rattle.realm_journal.specs.declared.error.JournalError.{JournalError}
 use Rattle.realm_pages.specs.Generations.{Generation, gate_of}
 use Rattle.realm_files.specs.Stands.{numbered}

@@ -1,7 +1,7 @@
 -- This file shows that a payload without bytes opens the empty state.
-use Rattle.std.proofs.Common.{◌≡◌, ℕ, ◌≤◌, ◌<◌, ◌≢◌, List, [], refl, arith}
+use Rattle.std.proofs.Common.{◌≤◌, ◌<◌, [], refl, arith}
 use Rattle.std.proofs.lemmas.List.Elements.{All-nil}
-use Rattle.grid_base.specs.Drawing.{Drawing, HasViolation, HasLink}
+use Rattle.grid_base.specs.Drawing.{HasViolation, HasLink}
 use Rattle.grid_base.specs.Realm.{PointInside, TwoCross}
 use Rattle.grid_base.specs.declared.original.Original.{Original}
 use Rattle.grid_base.proofs.RealmLaw.{drawn_realm_by}
@@ -13,7 +13,7 @@ use Rattle.realm_drawing.proofs.Elements.{Any-nil}
 use Rattle.value_geometry.specs.Parts.{HasParts}
 use Rattle.realm_insert.specs.State.{empty_state}
 use Rattle.state_check.specs.Tabled.{AreAscending}
-use Rattle.realm_insert.specs.Snapshots.{state_of, IsValidState}
+use Rattle.realm_insert.specs.Snapshots.{IsValidState}
 use Rattle.realm_store.specs.Stands.{Opens}
 
 -- nothing is drawn, so nothing is violated

@@ -1,13 +1,11 @@
 -- This file shows that a record leads from a state to one, and that a payload opens one.
-use Rattle.std.proofs.Common.{◌≡◌, ℕ, List, [], sym, ◌∙◌, ap, subst, refl}
+use Rattle.std.proofs.Common.{◌≡◌, ℕ, List, sym, ◌∙◌, ap, subst}
 use Rattle.line_grammar.specs.declared.command.Change.{Change}
 use Rattle.line_grammar.specs.declared.command.Command.TheVariants as commands
 use Rattle.line_grammar.specs.Spelling.{change_text}
 use Rattle.line_grammar.specs.Spellable.{IsSpellableChange}
 use Rattle.line_grammar.proofs.Commands.{one_command}
 use Rattle.record_codec.specs.declared.record.Record.{Record}
-use Rattle.record_codec.specs.declared.snapshot.Snapshot.{Snapshot}
-use Rattle.record_codec.specs.Payload.{IsSnapshot, payload}
 use Rattle.record_codec.proofs.SnapshotLemmas.{one_state as one_snapshot}
 use Rattle.realm_insert.specs.State.{State}
 use Rattle.realm_insert.specs.Next.{Next}

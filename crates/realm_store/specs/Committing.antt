@@ -1,5 +1,5 @@
 -- What the writing of a change does to the files, and what a crash may leave meanwhile.
-use Rattle.std.specs.Prelude.{◌≡◌, ◌≢◌, ℕ, Bool, List, Result, Err, OnOk}
+use Rattle.std.specs.Prelude.{◌≢◌, ℕ, Bool, List, Result, Err, OnOk}
 use Rattle.outside_world.specs.View.{View}
 use Rattle.realm_journal.specs.declared.error.JournalError.{JournalError}
 use Rattle.realm_insert.specs.State.{State}

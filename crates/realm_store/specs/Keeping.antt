@@ -1,5 +1,5 @@
 -- What a store keeps of the files between two changes.
-use Rattle.std.specs.Prelude.{ℕ, Bool, true, false, List, Option, Some, None}
+use Rattle.std.specs.Prelude.{Bool, true, false, Some, None}
 use Rattle.outside_world.specs.View.{View}
 use Rattle.realm_insert.specs.State.{State, empty_state}
 use Rattle.realm_files.specs.Stands.{Files}

@@ -1,5 +1,5 @@
 -- What a change makes of what is kept of the files, and what it is answered.
-use Rattle.std.specs.Prelude.{◌≡◌, ◌⊎◌, ◌+◌, ◌-◌, ◌<◌, ◌≤◌, ◌^◌, ℕ, true, List, length, Option, Some, None}
+use Rattle.std.specs.Prelude.{◌≡◌, ◌⊎◌, ◌+◌, ◌-◌, ◌<◌, ◌≤◌, ◌^◌, ℕ, true, List, length, Some}
 use Rattle.grid_base.specs.declared.kinds.Step.{Step}
 use Rattle.line_grammar.specs.declared.command.Change.{Change}
 use Rattle.line_grammar.specs.Spelling.{change_text}

@@ -1,5 +1,5 @@
 -- The gate behind which the next record is to be written.
-use Rattle.std.specs.Prelude.{◌≡◌, ℕ, Bool, true, false, List, [], Option, Some, None}
+use Rattle.std.specs.Prelude.{◌≡◌, Bool, true, false, [], Option, Some, None}
 use Rattle.realm_files.specs.declared.place.Place.{Place}
 use Rattle.realm_files.specs.Stands.{numbered}
 use Rattle.realm_files.specs.Writing.{first_place}

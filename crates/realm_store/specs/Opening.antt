@@ -1,5 +1,5 @@
 -- What is opened of the files when a store is started.
-use Rattle.std.specs.Prelude.{◌≡◌, ◌≢◌, ◌↔◌, ◌+◌, ◌<◌, ◌≤◌, ℕ, true, false, List, length, Some, Result, Err, IfOk}
+use Rattle.std.specs.Prelude.{◌≡◌, ◌↔◌, ◌+◌, ◌<◌, ◌≤◌, ℕ, true, List, length, Some, Result, Err, IfOk}
 use Rattle.outside_world.specs.View.{View}
 use Rattle.record_codec.specs.declared.record.Record.{Record}
 use Rattle.realm_journal.specs.Reading.{OnlyAsks}
@@ -15,7 +15,7 @@ use Rattle.realm_store.specs.Stands.{meaning}
 use Rattle.realm_store.specs.Keeping.{Kept, SpendableKept, RestsAt}
 use Rattle.realm_store.specs.Damages.{IsDamaged}
 use Rattle.realm_store.specs.declared.error.StartError.{StartError}
-use Rattle.realm_store.specs.declared.error.StartError.TheVariants.{Disk, Damaged}
+use Rattle.realm_store.specs.declared.error.StartError.TheVariants.{Damaged}
 
 -- the records of this file, from the gate of the place on, lead from the state to what is kept
 pub record LeadsTo (file : List ℕ) (start : State) (place : Place) (kept : Kept) : Type 0 where

@@ -1,5 +1,5 @@
 -- What the start of a store tells, and what a crash may leave meanwhile.
-use Rattle.std.specs.Prelude.{◌≡◌, ◌≢◌, ℕ, List, Result, Err, IfOk}
+use Rattle.std.specs.Prelude.{◌≡◌, ◌≢◌, Result, Err, IfOk}
 use Rattle.outside_world.specs.View.{View}
 use Rattle.realm_journal.specs.Reading.{OnlyAsks}
 use Rattle.realm_pages.specs.declared.damage.Damage.{Damage}

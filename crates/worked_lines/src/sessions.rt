@@ -245,6 +245,51 @@ fn values_are_asked_about(rt: HostRuntime) {
     compare(&rt, rt.alloc(), &ASKED);
 }
 
+static OUTLINED: [(&str, &str); 7] = [
+    // A square with a square hole.
+    (
+        "regions a 0 0 10 0 10 10 0 10 ; 4 4 6 4 6 6 4 6\nfaces a\n",
+        "ok 1 steps 0 first 1 new 8\nfaces 1\nouter 0 0 10 0 10 10 0 10\nhole 4 4 4 6 6 6 6 4\n",
+    ),
+    // A hole that touches the outer cycle in a corner.
+    (
+        "regions a 0 0 10 0 10 10 0 10 ; 0 0 4 2 2 4\nfaces a\n",
+        "ok 1 steps 0 first 1 new 7\nfaces 1\nouter 0 0 10 0 10 10 0 10\nhole 0 0 2 4 4 2\n",
+    ),
+    // Two holes that touch in a corner.
+    (
+        "regions a 0 0 9 0 9 9 0 9 ; 4 4 6 4 6 6 4 6 ; 2 2 4 2 4 4 2 4\nfaces a\n",
+        "ok 1 steps 0 first 1 new 12\nfaces 1\nouter 0 0 9 0 9 9 0 9\n\
+         hole 2 2 2 4 4 4 4 2\nhole 4 4 4 6 6 6 6 4\n",
+    ),
+    // An island in a hole.
+    (
+        "regions a 5 5 7 5 7 7 5 7 ; 0 0 12 0 12 12 0 12 ; 3 3 9 3 9 9 3 9\nfaces a\n",
+        "ok 1 steps 0 first 1 new 12\nfaces 2\nouter 0 0 12 0 12 12 0 12\n\
+         hole 3 3 3 9 9 9 9 3\nouter 5 5 7 5 7 7 5 7\n",
+    ),
+    // Two squares with a corner in common.
+    (
+        "regions a 2 2 4 2 4 4 2 4 ; 0 0 2 0 2 2 0 2\nfaces a\n",
+        "ok 1 steps 0 first 1 new 8\nfaces 2\nouter 0 0 2 0 2 2 0 2\nouter 2 2 4 2 4 4 2 4\n",
+    ),
+    // A vertex where the border goes straight on.
+    (
+        "regions a 0 0 4 0 4 4 0 4\npoint 2 0\nfaces a\n",
+        "ok 1 steps 0 first 1 new 4\nok 2 steps 1 first 5 new 0\nfaces 1\nouter 0 0 2 0 4 0 4 4 0 4\n",
+    ),
+    // Nothing, no region, and no value.
+    (
+        "regions e\nlines l 0 0 4 0\nfaces e\nfaces l\nfaces m\n",
+        "ok 1 steps 0 first 1 new 0\nok 2 steps 0 first 1 new 1\nfaces 0\nno types\nno no-name\n",
+    ),
+];
+
+#[test]
+fn faces_are_outlined(rt: HostRuntime) {
+    compare(&rt, rt.alloc(), &OUTLINED);
+}
+
 static CAUSES: [(&str, &str); 6] = [
     (
         "point 268435455 268435455\npoint 268435456 0\nsegment 5 5 5 5\nlines l 1 1\n",
@@ -290,14 +335,7 @@ static REFUSED: [(&str, &str); 4] = [
         "no range\nno line 25\n",
     ),
     // Whatever else is wrong with these lines.
-    (
-        "faces a
-checkpoint
-",
-        "no no-name
-no not-built
-",
-    ),
+    ("faces a\ncheckpoint\n", "no no-name\nno not-built\n"),
 ];
 
 #[test]
