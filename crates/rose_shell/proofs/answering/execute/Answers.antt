@@ -18,6 +18,18 @@ returns-in-Change-clause-answer g c =
     })
     c.answer_change.ensures.answer
 
+-- and what a checkpoint is answered
+pub returns-in-Checkpoint-clause-answer : goal.returns-in-Checkpoint-clause-answer
+returns-in-Checkpoint-clause-answer g c =
+    IfOk-weaker c.answer_checkpoint.result _ _
+    (λ reply is. record {
+      was_ready = is.was_ready;
+      is_ready = is.is_ready;
+      outcome = subst (λ (command : Command). AnswersCommand command c.args.store.now.kept reply c.answer_checkpoint.new.store.kept)
+          (sym c.in-Checkpoint.is) is.outcome;
+    })
+    c.answer_checkpoint.ensures.answer
+
 -- a batch that is read is out of range
 pub returns-in-Batch-clause-answer : goal.returns-in-Batch-clause-answer
 returns-in-Batch-clause-answer g c =
