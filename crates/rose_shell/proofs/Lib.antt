@@ -44,5 +44,7 @@ mod Sessions
 mod Openings
 -- how a run ends that counts no fault
 mod Rises
+-- what is told where a store isn't started
+mod Unstarted
 -- lines that are given after nothing but questions of the files
 mod Tellings

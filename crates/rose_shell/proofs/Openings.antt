@@ -1,5 +1,5 @@
 -- This file shows that a session that begins after the files were read is one from before.
-use Rattle.std.proofs.Common.{◌≡◌, ◌⊎◌, inl, inr, ⊎_elim, ℕ, ◌≤◌, false, List, ◌++◌, sym, ◌∙◌, ap, subst, arith}
+use Rattle.std.proofs.Common.{◌≡◌, inl, ⊎_elim, ℕ, ◌≤◌, false, List, ◌++◌, sym, ◌∙◌, ap, subst, arith}
 use Rattle.std.specs.Prelude.{◌^◌}
 use Rattle.outside_world.specs.View.{View, Moment, MayLeave}
 use Rattle.outside_world.specs.Since.{LeavesOnly}

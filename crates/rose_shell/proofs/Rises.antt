@@ -1,5 +1,5 @@
 -- This file shows how a run ends that counts no fault.
-use Rattle.std.proofs.Common.{◌≡◌, ◌⊎◌, inl, inr, ⊎_elim, ℕ, ◌≤◌, refl, ◌∙◌, arith}
+use Rattle.std.proofs.Common.{◌≡◌, ◌⊎◌, inl, inr, ℕ, ◌≤◌, refl, arith}
 use Rattle.outside_world.specs.Counts.{Rose}
 use Rattle.realm_pages.specs.declared.damage.Damage.{Damage}
 use Rattle.realm_store.specs.declared.error.StartError.{StartError}

@@ -8,7 +8,7 @@ use Rattle.line_grammar.specs.declared.command.Change.{Change}
 use Rattle.realm_store.specs.Keeping.{Kept}
 use Rattle.realm_store.specs.Making.{IsMade}
 use Rattle.realm_store.specs.Replies.{ok_reply}
-use Rattle.rose_shell.specs.Answers.{RefusesChange, AnswersChange, AnswersCommand, AnswersLine}
+use Rattle.rose_shell.specs.Answers.{RefusesChange, AnswersCommand, AnswersLine}
 use Rattle.rose_shell.proofs.Traces.{settled_by}
 
 -- of a change that was accepted

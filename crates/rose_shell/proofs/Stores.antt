@@ -1,5 +1,5 @@
 -- This file shows that a store keeps its terms at the desk.
-use Rattle.std.proofs.Common.{◌≡◌, ◌⊎◌, inl, inr, ⊎_elim, ℕ, List, Bool, true, false, refl}
+use Rattle.std.proofs.Common.{◌≡◌, ◌⊎◌, inl, inr, ⊎_elim, ℕ, List, Bool, true, false, refl, sym, subst}
 use Rattle.std.specs.Prelude.{◌≢◌, Result, Ok, Err}
 use Rattle.outside_world.specs.View.{View}
 use Rattle.outside_world.proofs.Moments.{only_nothing, only_wider, none_taken}
@@ -51,6 +51,19 @@ store_stopped rest = record {
   memory = λ _. (rests_at_desk rest, only_nothing);
   disk = λ is. absurd (cc);
 }
+
+-- the same where the world and the store are as they were,
+pub still_same : {old new : View} {start end : SpendableKept} {line : List ℕ} (r : Result (List ℕ) Stop) → new ≡ old → end ≡ start
+    → r ≢ Err Disk → FilesRest start.kept old → Answered StoreTerms old new start end line r
+still_same {old} {new} {start} {end} {line} r still same never rest =
+    subst (λ (v : View). Answered StoreTerms old v start end line r) (sym still)
+    (subst (λ (s : SpendableKept). Answered StoreTerms old old start s line r) (sym same) (still_answered r never rest))
+
+-- and where the world is, and memory ran out
+pub still_stopped : {old new : View} {start end : SpendableKept} {line : List ℕ} → new ≡ old → FilesRest start.kept old
+    → Answered StoreTerms old new start end line (Err NoMemory)
+still_stopped {old} {new} {start} {end} {line} still rest =
+    subst (λ (v : View). Answered StoreTerms old v start end line (Err NoMemory)) (sym still) (store_stopped rest)
 
 -- of two states the files stand for one, where the gate is there
 either_stands : (has : Bool) (P Q E : Type 0) → (has ≡ true → P ⊎ Q) → (has ≡ true → P) ⊎ (E → Q)

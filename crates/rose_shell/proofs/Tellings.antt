@@ -1,5 +1,5 @@
 -- This file shows that lines which are given after nothing but questions of the files are given from before.
-use Rattle.std.proofs.Common.{◌≡◌, ℕ, List, [], ◌++◌, refl, sym, ◌∙◌, ap}
+use Rattle.std.proofs.Common.{ℕ, List, [], ◌++◌, refl, sym, ◌∙◌, ap}
 use Rattle.std.proofs.lemmas.List.{append-nil}
 use Rattle.outside_world.specs.View.{View}
 use Rattle.outside_world.proofs.Moments.{only_nothing, only_wider, only_then, none_taken, none_taken_then}

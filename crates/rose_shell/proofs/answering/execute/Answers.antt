@@ -4,6 +4,7 @@ use Rattle.line_grammar.specs.declared.command.Command.{Command}
 use Rattle.rose_shell.specs.Answers.{AnswersCommand}
 use Rattle.rose_shell.proofs.ChangeAnswers.{still_ok}
 use Rattle.rose_shell.proofs.RefusedBatches.{out_of_range, refused_batch}
+use Rattle.rose_shell.proofs.Stores.{still_answered}
 use Rattle.rose_shell.proofs.answering.execute.Goals as goal
 
 -- what a change is answered, its command is
@@ -38,3 +39,12 @@ returns-in-Batch-clause-answer g c =
     still_ok _ c.refuse.result c.or_stop-in-Batch.result _ _
     (λ reply said. refused_batch c.args.command.now _ c.in-Batch.is c.requires.ready out reply said)
     c.or_stop-in-Batch.ensures.same c.refuse.ensures
+
+-- no other command touches the files
+pub returns-in-Query-clause-told : goal.returns-in-Query-clause-told
+returns-in-Query-clause-told g c = λ tells.
+    still_answered c.or_stop.result c.or_stop.ensures.never_disk (c.requires.rest tells)
+
+pub returns-in-Batch-clause-told : goal.returns-in-Batch-clause-told
+returns-in-Batch-clause-told g c = λ tells.
+    still_answered c.or_stop-in-Batch.result c.or_stop-in-Batch.ensures.never_disk (c.requires.rest tells)

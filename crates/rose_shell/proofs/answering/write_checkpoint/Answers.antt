@@ -1,6 +1,7 @@
 use Rattle.std.proofs.Common.{ap, Err, inl, inr}
 use Rattle.rose_shell.proofs.ChangeAnswers.{still_ok}
 use Rattle.rose_shell.proofs.Checkpoints.{checkpointed, no_checkpoint, checkpoint_written, checkpoint_cut_off}
+use Rattle.rose_shell.proofs.Stores.{still_same, still_stopped}
 use Rattle.rose_shell.proofs.answering.write_checkpoint.Goals as goal
 
 -- the state was put as the next generation
@@ -32,3 +33,17 @@ returns-in-Err-Disk-clause-told g c = λ tells.
     let why = c.in-Err-Disk in
     let cut = why.ensures.cut_off (ap Err why.field-0-is) in
     checkpoint_cut_off c.requires.ready cut.1 (why.ensures.stays tells)
+
+-- a refused checkpoint leaves the files, and so does want of memory
+pub returns-in-Err-Generations-clause-told : goal.returns-in-Err-Generations-clause-told
+returns-in-Err-Generations-clause-told g c = λ tells.
+    let why = c.in-Err-Generations in
+    let is = why.ensures.unchanged (ap Err why.field-0-is) in
+    still_same c.or_stop.result (ap (λ w. g.W.Outside.view w) is.1) is.0 c.or_stop.ensures.never_disk
+    (c.requires.rest (why.ensures.goes_on.tells tells))
+
+pub returns-in-Err-NoMemory-clause-told : goal.returns-in-Err-NoMemory-clause-told
+returns-in-Err-NoMemory-clause-told g c = λ tells.
+    let why = c.in-Err-NoMemory in
+    still_stopped (ap (λ w. g.W.Outside.view w) (why.ensures.untouched (ap Err why.field-0-is)))
+    (c.requires.rest (why.ensures.goes_on.tells tells))

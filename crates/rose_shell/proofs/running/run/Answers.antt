@@ -1,4 +1,4 @@
-use Rattle.std.proofs.Common.{subst, refl}
+use Rattle.std.proofs.Common.{subst}
 use Rattle.command_words.specs.declared.word.Word.{Word}
 use Rattle.rose_shell.specs.Telling.{HasDone, CanBeDone}
 use Rattle.rose_shell.proofs.running.run.Goals as goal

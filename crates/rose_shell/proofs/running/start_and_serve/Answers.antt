@@ -1,7 +1,8 @@
-use Rattle.std.proofs.Common.{◌≤◌, length, inr, subst, sym, ap, Err}
+use Rattle.std.proofs.Common.{◌≤◌, length, inl, inr, subst, sym, ap, Err}
 use Rattle.rose_shell.proofs.Openings.{begun_by}
 use Rattle.rose_shell.proofs.Rises.{rose_behind, unstarted}
 use Rattle.realm_store.proofs.OneReading.{one_reading}
+use Rattle.rose_shell.proofs.Unstarted.{damaged_at_start, not_begun}
 use Rattle.rose_shell.proofs.running.start_and_serve.Goals as goal
 
 -- a store that serves tells no damage
@@ -34,3 +35,13 @@ returns-in-Err-clause-complete g c = λ tells source sink disk within state stan
     unstarted c.in-Err.error c.status_unstarted.ensures
     (λ is. disk (c.in-Err.ensures.disk_fault (ap Err is)))
     (λ d is. one_reading d _ state ((c.in-Err.ensures.told tells).damaged d (ap Err is)) stands)
+
+-- where no store is started, the cause is told
+pub returns-in-Err-clause-damaged : goal.returns-in-Err-clause-damaged
+returns-in-Err-clause-damaged g c = λ d is tells.
+    (c.in-Err.ensures.told tells).damaged d (ap Err (damaged_at_start c.in-Err.error _ d c.status_unstarted.ensures is))
+
+pub returns-in-Err-clause-told : goal.returns-in-Err-clause-told
+returns-in-Err-clause-told g c = λ tells.
+    let started = c.in-Err.ensures.told tells in
+    inl (not_begun c.in-Err.error _ c.status_unstarted.ensures started.asks (λ d is. started.damaged d (ap Err is)))

@@ -4,6 +4,7 @@ use Rattle.state_counts.specs.Counts.{TellsCounts}
 use Rattle.realm_store.proofs.OneReading.{one_reading}
 use Rattle.rose_shell.proofs.Rises.{rose_behind, unstarted}
 use Rattle.rose_shell.proofs.Tellings.{lines_behind}
+use Rattle.rose_shell.proofs.Unstarted.{damaged_at_start, not_begun}
 use Rattle.rose_shell.proofs.telling.tell_store.Goals as goal
 
 -- the files stand for the state whose numbers are told
@@ -33,3 +34,13 @@ returns-clause-complete g c = λ tells sink disk state stands.
     unstarted c.in-Err.error c.status_unstarted.ensures
     (λ is. disk (c.in-Err.ensures.disk_fault (ap Err is)))
     (λ d is. one_reading d _ state ((c.in-Err.ensures.told tells).damaged d (ap Err is)) stands)
+
+-- where no store is started, the cause is told
+pub returns-clause-damaged : goal.returns-clause-damaged
+returns-clause-damaged g c = λ d is tells.
+    (c.in-Err.ensures.told tells).damaged d (ap Err (damaged_at_start c.in-Err.error _ d c.status_unstarted.ensures is))
+
+pub returns-clause-told : goal.returns-clause-told
+returns-clause-told g c = λ tells.
+    let started = c.in-Err.ensures.told tells in
+    inl (not_begun c.in-Err.error _ c.status_unstarted.ensures started.asks (λ d is. started.damaged d (ap Err is)))
