@@ -42,8 +42,8 @@ returns-in-Err-Generations-clause-told g c = λ tells.
     still_same c.or_stop.result (ap (λ w. g.W.Outside.view w) is.1) is.0 c.or_stop.ensures.never_disk
     (c.requires.rest (why.ensures.goes_on.tells tells))
 
-pub returns-in-Err-NoMemory-clause-told : goal.returns-in-Err-NoMemory-clause-told
-returns-in-Err-NoMemory-clause-told g c = λ tells.
+pub returns-clause-told : goal.returns-clause-told
+returns-clause-told g c = λ tells.
     let why = c.in-Err-NoMemory in
     still_stopped (ap (λ w. g.W.Outside.view w) (why.ensures.untouched (ap Err why.field-0-is)))
     (c.requires.rest (why.ensures.goes_on.tells tells))
