@@ -1,5 +1,5 @@
 -- This file shows what a checkpoint makes of what is kept, and what it leaves of the files.
-use Rattle.std.proofs.Common.{◌≡◌, ℕ, Bool, [], None, refl, sym, ◌∙◌, ap, subst}
+use Rattle.std.proofs.Common.{◌≡◌, ℕ, Bool, true, [], Some, None, refl, sym, ◌∙◌, ap, subst}
 use Rattle.std.specs.Prelude.{Result, Ok}
 use Rattle.outside_world.specs.declared.world.FileName.{FileName}
 use Rattle.outside_world.specs.declared.world.FileName.TheVariants.{A}
@@ -14,6 +14,7 @@ use Rattle.realm_files.specs.declared.place.Place.{Place}
 use Rattle.realm_store.specs.Stands.{meaning, Opens}
 use Rattle.realm_store.specs.Keeping.{Kept, SpendableKept, AllRest, nothing_kept}
 use Rattle.realm_store.specs.Committing.{Stays}
+use Rattle.realm_store.specs.Renewing.{IsRenewed}
 use Rattle.realm_files.proofs.Alones.{first_place_is}
 use Rattle.realm_store.proofs.EmptyStates.{opens_empty}
 
@@ -33,6 +34,13 @@ first_renewed {old} {new} {pages} {r} is told rest =
 module _ {start : Kept} {spent : Bool} {self : SpendableKept} (is : record { kept = start; spent = spent } ≡ self)
     {pages : Generation} {file : FileName} {generation : ℕ} (there : file ≡ next_file start.place)
     (number : generation ≡ next_generation start.place) (same : pages.number ≡ generation) (opens : Opens pages.payload start.state) where
+  -- what is to be kept then
+  pub renewed_by : (after : Kept) × IsRenewed self.kept after
+  renewed_by = subst (λ (s : SpendableKept). (after : Kept) × IsRenewed s.kept after) is (
+    record { state = start.state; place = Some (renewed_place start.place pages.payload); has_gate = true },
+    record { state = refl; payload = pages.payload; opens = opens; place = refl; has_gate = refl },
+  )
+
   module _ (old new : View) (rest : AllRest self.kept old) {r : Result ℕ JournalError}
       (told : (kept : Kept) → AllRest kept old → file ≡ next_file kept.place → pages.number ≡ next_generation kept.place
       → Opens pages.payload kept.state → Renewed meaning old new kept.state (renewed_place kept.place pages.payload) r) where

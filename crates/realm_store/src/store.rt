@@ -226,6 +226,7 @@ impl Store {
             ↔ ((result ≡ Err CheckpointError.Disk) ⊎ (result ≡ Err CheckpointError.NoMemory)) }
         ensures disk_fault { IsErrOf result CheckpointError.Disk
             → Rose (W.disk_faults world.old) (W.disk_faults world.new) }
+        ensures cut_off { IsErrOf result CheckpointError.Disk → (after : Kept) × IsRenewed self.old.kept after }
         ensures stays { W.tells world.new → Stays (W.view world.old) (W.view world.new) self.old.kept.state }
         ensures rest { OnOk result (W.tells world.new → AllRest self.new.kept (W.view world.new)) }
         ensures goes_on { GoesOn ⟦<W as Outside>⟧ world.old world.new }
@@ -248,6 +249,7 @@ impl Store {
             ↔ ((result ≡ Err CheckpointError.Disk) ⊎ (result ≡ Err CheckpointError.NoMemory)) }
         ensures disk_fault { IsErrOf result CheckpointError.Disk
             → Rose (W.disk_faults world.old) (W.disk_faults world.new) }
+        ensures cut_off { IsErrOf result CheckpointError.Disk → (after : Kept) × IsRenewed self.old.kept after }
         ensures stays { W.tells world.new → Stays (W.view world.old) (W.view world.new) self.old.kept.state }
         ensures rest { OnOk result (W.tells world.new → AllRest self.new.kept (W.view world.new)) }
         ensures goes_on { GoesOn ⟦<W as Outside>⟧ world.old world.new }

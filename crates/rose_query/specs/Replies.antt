@@ -40,10 +40,6 @@ word_of Full = codes "full"
 abbrev pub no_reply : Refusal → List ℕ
 no_reply refusal = codes "no " ++ (word_of refusal ++ line_feed)
 
--- the reply to a command that isn't answered yet
-abbrev pub not_built_reply : List ℕ
-not_built_reply = codes "no not-built" ++ line_feed
-
 -- ---- points, segments and steps
 
 -- the two numbers of a point

@@ -11,4 +11,4 @@ mod printing;
 mod refusals;
 
 pub use answering::{answer, answer_alone};
-pub use refusals::{refuse, refuse_unbuilt};
+pub use refusals::refuse;

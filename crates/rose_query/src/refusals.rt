@@ -1,7 +1,7 @@
 //! The replies to commands that are refused.
 ghost use Rattle.std.specs.Prelude.{◌≡◌, IfOk};
 ghost use Rattle.realm_insert.specs.declared.refusal.Refusal.TheVariants.{NoName};
-ghost use Rattle.rose_query.specs.Replies.{word_of, no_reply, not_built_reply};
+ghost use Rattle.rose_query.specs.Replies.{word_of, no_reply};
 
 use grid_base::{NoMemory, Reply};
 use realm_insert::Refusal;
@@ -41,12 +41,4 @@ pub(crate) fn refuse_name(alloc: Global) -> Result<Reply, NoMemory>
     ensures { IfOk result (λ reply. reply ≡ no_reply NoName) }
 {
     refuse(alloc, Refusal::NoName)
-}
-
-/// The reply to a command that isn't answered yet.
-pub fn refuse_unbuilt(alloc: Global) -> Result<Reply, NoMemory>
-    ensures { IfOk result (λ reply. reply ≡ not_built_reply) }
-{
-    let text = format!(in alloc; "no not-built\n")?;
-    Ok(Reply::new(text.into_bytes()))
 }

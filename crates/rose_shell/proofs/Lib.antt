@@ -6,6 +6,8 @@ mod ChangeAnswers
 mod RefusedBatches
 -- a store keeps its terms at the desk
 mod Stores
+-- a checkpoint is an answer to its line
+mod Checkpoints
 -- an answer is one step
 mod Steps
 -- bytes are given call by call

@@ -14,7 +14,7 @@ use Rattle.realm_files.proofs.Pairs.{same_files}
 use Rattle.rose_shell.specs.declared.status.Status.{Status}
 use Rattle.rose_shell.specs.Desk.{Terms}
 use Rattle.rose_shell.specs.Session.{Turn, replies, IsMoment, IsCutOff, Served}
-use Rattle.rose_shell.specs.Running.{kept_of, is_accepted, StandForKept, IsCrashOf, HasServed, HasBegun, ready_store}
+use Rattle.rose_shell.specs.Running.{state_in, is_accepted, StandForState, IsCrashOf, HasServed, HasBegun, ready_store}
 use Rattle.rose_shell.proofs.Prefixes.{start_is_prefix}
 
 -- what a crash could leave at the call counts as left before it
@@ -107,7 +107,7 @@ module _ {old mid : View} (now : (t : ℕ) (m : Moment) → t ≤ old.moment →
           settled = λ has m since.
               ⊎_elim
               (λ before. let is = opened.settled m before in
-              start_is_prefix kept_of is_accepted StandForKept first turns old.given m is.0
+              start_is_prefix state_in is_accepted StandForState first turns old.given m is.0
               (subst (λ (files : Files). StandsFor files start.state) (sym (same_files is.1)) (start.place, rests.stands)))
               (λ during. subst (λ (g : List ℕ). IsCrashOf first turns g m) asks.given during)
               ((served.prefix has).nothing_else opened.since m opened.by_now since);

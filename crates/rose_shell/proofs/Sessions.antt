@@ -10,6 +10,7 @@ use Rattle.grid_base.proofs.RealmLaw.{drawn_realm_by}
 use Rattle.outside_world.specs.View.{View, Moment}
 use Rattle.outside_world.specs.Since.{LeavesOnly}
 use Rattle.outside_world.proofs.Moments.{only_wider}
+use Rattle.realm_insert.specs.State.{State}
 use Rattle.realm_store.specs.Stands.{StandsFor}
 use Rattle.realm_store.specs.Keeping.{Kept, SpendableKept, AllRest}
 use Rattle.rose_shell.specs.declared.status.Status.{Status}
@@ -18,8 +19,8 @@ use Rattle.rose_shell.specs.Lines.{longest_line}
 use Rattle.rose_shell.specs.Desk.{Stands}
 use Rattle.rose_shell.specs.Session.{Turn, Treats, IsSingle, IsBatch, IsRun, IsMoment, Served}
 use Rattle.rose_shell.specs.Prefixes.{IsCounted}
-use Rattle.rose_shell.specs.Running.{StoreTerms, kept_of, is_accepted, StandForKept, IsCrashOf, HasServed}
-use Rattle.rose_shell.proofs.Steps.{IsOneStep, line_steps}
+use Rattle.rose_shell.specs.Running.{StoreTerms, state_in, is_accepted, StandForState, IsCrashOf, HasServed}
+use Rattle.rose_shell.proofs.Steps.{IsOneStep, stays_by, line_steps}
 use Rattle.rose_shell.proofs.Prefixes.{moment_is_prefix}
 
 -- whichever of two answers a test chooses
@@ -32,19 +33,19 @@ treated_steps : (old : SpendableKept) (line reply : List ℕ) (new : SpendableKe
     → IsOneStep old.kept reply new.kept
 treated_steps old line reply new treated =
     either (nat_lt longest_line (length line)) _ _ (IsOneStep old.kept reply new.kept)
-    (λ refused. inl (ap kept_of refused.1))
+    (λ refused. inl (stays_by (ap (λ (s : SpendableKept). s.kept) refused.1)))
     (λ answered. line_steps old.kept line reply new.kept answered.outcome)
     treated
 
 turn_steps : (old : SpendableKept) (turn : Turn SpendableKept)
     → IsSingle StoreTerms.answers old turn ⊎ IsBatch StoreTerms.tells old turn → IsOneStep old.kept turn.reply turn.after.kept
 turn_steps old turn (inl single) = treated_steps old turn.line turn.reply turn.after single.treats
-turn_steps old turn (inr batch) = inl (ap kept_of batch.stays)
+turn_steps old turn (inr batch) = inl (stays_by (ap (λ (s : SpendableKept). s.kept) batch.stays))
 
 -- a step leads from a realm to a realm
 step_realm : (old : Kept) (reply : List ℕ) (new : Kept) → IsOneStep old reply new → IsDrawnRealm old.state.drawing
     → IsDrawnRealm new.state.drawing
-step_realm old reply new (inl same) realm = subst (λ (k : Kept). IsDrawnRealm k.state.drawing) (sym same) realm
+step_realm old reply new (inl stays) realm = subst (λ (s : State). IsDrawnRealm s.drawing) (sym stays.state) realm
 step_realm old reply new (inr accepted) realm = drawn_realm_by new.state.drawing accepted.settled
 
 run_realms : (start : SpendableKept) (turns : List (Turn SpendableKept)) → IsRun StoreTerms start turns
@@ -64,16 +65,16 @@ is_more m n more = grind (arith, nat_tests)
 
 -- and tells whether a step was a change
 step_counted : (old : Kept) (reply : List ℕ) (new : Kept) → IsOneStep old reply new
-    → MatchBool (nat_lt old.state.changes new.state.changes) (0 < length reply) (new ≡ old)
-step_counted old reply new (inl same) =
-    subst (λ (b : Bool). MatchBool b (0 < length reply) (new ≡ old))
-    (sym (is_same old.state.changes new.state.changes (ap (λ (k : Kept). k.state.changes) same))) same
+    → MatchBool (nat_lt old.state.changes new.state.changes) (0 < length reply) (new.state ≡ old.state)
+step_counted old reply new (inl stays) =
+    subst (λ (b : Bool). MatchBool b (0 < length reply) (new.state ≡ old.state))
+    (sym (is_same old.state.changes new.state.changes (ap (λ (s : State). s.changes) stays.state))) stays.state
 step_counted old reply new (inr accepted) =
-    subst (λ (b : Bool). MatchBool b (0 < length reply) (new ≡ old))
+    subst (λ (b : Bool). MatchBool b (0 < length reply) (new.state ≡ old.state))
     (sym (is_more old.state.changes new.state.changes accepted.changes)) accepted.has_reply
 
 run_counted : (start : SpendableKept) (turns : List (Turn SpendableKept)) → IsRun StoreTerms start turns
-    → IsCounted kept_of is_accepted start turns
+    → IsCounted state_in is_accepted start turns
 run_counted start [] run = tt
 run_counted start (turn ∷ turns) run = (
   step_counted start.kept turn.reply turn.after.kept (turn_steps start turn run.0),
@@ -82,16 +83,16 @@ run_counted start (turn ∷ turns) run = (
 
 -- a gate that is there stays there
 step_gate : (old : Kept) (reply : List ℕ) (new : Kept) → IsOneStep old reply new → old.has_gate ≡ true → new.has_gate ≡ true
-step_gate old reply new (inl same) has = ap (λ (k : Kept). k.has_gate) same ∙ has
+step_gate old reply new (inl stays) has = stays.has_gate has
 step_gate old reply new (inr accepted) has = accepted.has_gate
 
 -- so the files stand for the state at each moment of the run
-abbrev StandForState : Stands SpendableKept
-StandForState s files = StandsFor files s.kept.state
+abbrev StandForTheirs : Stands SpendableKept
+StandForTheirs s files = StandsFor files s.kept.state
 
 moment_stands : (start : SpendableKept) (turns : List (Turn SpendableKept)) (given : List ℕ) (m : Moment)
     → IsRun StoreTerms start turns → start.kept.has_gate ≡ true → IsMoment StoreTerms.stands start turns given m
-    → IsMoment StandForState start turns given m
+    → IsMoment StandForTheirs start turns given m
 moment_stands start [] given m run has is = (is.0, is.1 has)
 moment_stands start (turn ∷ turns) given m run has (inl before) = inl (before.0, before.1 has)
 moment_stands start (turn ∷ turns) given m run has (inr (inl (sent, unsent, split, is, stand))) =
@@ -107,7 +108,7 @@ run_prefix : (old new : View) (start : SpendableKept) (turns : List (Turn Spenda
     → LeavesOnly old new (IsMoment StoreTerms.stands start turns old.given) → start.kept.has_gate ≡ true
     → LeavesOnly old new (IsCrashOf start turns old.given)
 run_prefix old new start turns run crash has =
-    only_wider crash (λ m is. moment_is_prefix kept_of is_accepted StandForKept StandForState
+    only_wider crash (λ m is. moment_is_prefix state_in is_accepted StandForState StandForTheirs
     (λ s files stands. stands) start turns old.given m (moment_stands start turns old.given m run has is)
     (run_counted start turns run))
 

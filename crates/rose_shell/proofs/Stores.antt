@@ -100,7 +100,7 @@ change_cut_off {start = start} {reply = reply} {after} c spellable ready made wr
       is_ready = refl;
       outcome = inl (commands.Change c, (spellable, refl), inr made);
     };
-    may_write = (c, (spellable, refl));
+    may_write = inl (c, (spellable, refl));
     crash = only_wider written.crash (λ m is. (is.0, either_stands start.kept.has_gate _ _ _ is.1));
     either = λ files image. either_stands start.kept.has_gate _ _ _ (λ has. written.either has files image);
   };

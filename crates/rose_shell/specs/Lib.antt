@@ -4,6 +4,8 @@ pub mod Status
 pub mod Lines
 -- lines that are answered together
 pub mod Batches
+-- the replies to a checkpoint
+pub mod Replies
 -- what each line is answered
 pub mod Answers
 -- bytes that are given, whole or in part

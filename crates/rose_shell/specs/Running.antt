@@ -10,6 +10,7 @@ use Rattle.grid_base.specs.Drawing.{IsDrawnRealm}
 use Rattle.line_grammar.specs.Lines.{Says}
 use Rattle.line_grammar.specs.declared.command.Change.{Change}
 use Rattle.line_grammar.specs.declared.command.Command.TheVariants as commands
+use Rattle.realm_insert.specs.State.{State}
 use Rattle.realm_journal.specs.Reading.{OnlyAsks}
 use Rattle.realm_store.specs.Stands.{StandsFor}
 use Rattle.realm_store.specs.Keeping.{Kept, SpendableKept, RestsAt, AllRest}
@@ -28,44 +29,48 @@ use Rattle.rose_shell.specs.declared.status.Status.TheVariants.{DiskFault, Damag
 abbrev pub IsChangeLine : List ℕ → Type 0
 IsChangeLine line = (c : Change) × Says line (commands.Change c)
 
--- What the store goes by at the desk: only a change writes. Where the byte of the next gate is missing, nothing
+-- the line is the text of a change or of a checkpoint
+abbrev pub IsWritingLine : List ℕ → Type 0
+IsWritingLine line = IsChangeLine line ⊎ Says line commands.Checkpoint
+
+-- What the store goes by at the desk: only a change and a checkpoint write. Where the byte of the next gate is missing, nothing
 -- is said of what the files stand for in a crash, until a change has added it.
 abbrev pub StoreTerms : Terms SpendableKept
 StoreTerms = record {
   answers = StoreAnswers;
   tells = λ s line reply. TellsLine s.kept.state line reply;
-  writes = λ s line. IsChangeLine line;
+  writes = λ s line. IsWritingLine line;
   stands = λ s files. s.kept.has_gate ≡ true → StandsFor files s.kept.state;
   rests = λ s files. RestsAt s.kept files;
   rest_stands = λ s files rests has. (s.kept.place, rests.stands);
 }
 
--- what a store keeps
-abbrev pub kept_of : SpendableKept → Kept
-kept_of s = s.kept
+-- the state of a store
+abbrev pub state_in : SpendableKept → State
+state_in s = s.kept.state
 
 -- from a store, this turn was an accepted change
 abbrev pub is_accepted : SpendableKept → Turn SpendableKept → Bool
 is_accepted start turn = nat_lt start.kept.state.changes turn.after.kept.state.changes
 
--- the files stand for what is kept
-abbrev pub StandForKept : Kept → (FileName → List ℕ) → Type 0
-StandForKept kept files = StandsFor files kept.state
+-- the files stand for the state
+abbrev pub StandForState : State → (FileName → List ℕ) → Type 0
+StandForState state files = StandsFor files state
 
 -- a crash of this session at which k accepted changes had replies that had begun: the files stand for the
 -- state after k accepted changes, or after k + 1
 abbrev pub IsCrashOf : SpendableKept → List (Turn SpendableKept) → List ℕ → Moment → Type 0
-IsCrashOf start turns given m = IsPrefixMoment kept_of is_accepted StandForKept start turns given m
+IsCrashOf start turns given m = IsPrefixMoment state_in is_accepted StandForState start turns given m
 
 -- The store has served the world. After each line its drawing is a realm. Each turn was an accepted change
--- with a reply, or has left what is kept as it was. Where the byte of the next gate was there at the start,
+-- with a reply, or has left the state as it was. Where the byte of the next gate was there at the start,
 -- each crash since is one of this session. But for a disk fault all is at rest in the end, as it is kept
 -- after the last line.
 pub record HasServed (old new : View) (start end : SpendableKept) (budget : ℕ) (status : Status)
     : Type 0 where
   pub session : Served StoreTerms old new start end budget status
   pub realms : All (λ turn. IsDrawnRealm turn.after.kept.state.drawing) session.turns
-  pub counted : IsCounted kept_of is_accepted start session.turns
+  pub counted : IsCounted state_in is_accepted start session.turns
   pub prefix : start.kept.has_gate ≡ true → LeavesOnly old new (IsCrashOf start session.turns old.given)
   pub rest : status ≢ DiskFault → AllRest (end_of start session.turns).kept new
 

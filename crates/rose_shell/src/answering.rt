@@ -5,11 +5,13 @@ ghost use Rattle.std.specs.Prelude.{◌≡◌, ◌≢◌, ◌≤◌, length, fal
 ghost use Rattle.outside_world.specs.Counts.{Rose};
 ghost use Rattle.outside_world.specs.GoesOn.{GoesOn};
 ghost use Rattle.line_grammar.specs.Spelling.{text_of, change_text};
+ghost use Rattle.line_grammar.specs.declared.command.Command.TheVariants.{Checkpoint as TheCheckpoint};
 ghost use Rattle.line_grammar.specs.Spellable.{IsSpellable, IsSpellableChange};
 ghost use Rattle.realm_store.specs.Keeping.{AllRest};
 ghost use Rattle.rose_shell.specs.Lines.{longest_line};
 ghost use Rattle.rose_shell.specs.Batches.{OpensNone};
-ghost use Rattle.rose_shell.specs.Answers.{StoreAnswers, Unspent, AnswersCommand, AnswersChange};
+ghost use Rattle.rose_shell.specs.Answers.{StoreAnswers, Unspent, AnswersCommand, AnswersChange, AnswersCheckpoint};
+ghost use Rattle.rose_shell.specs.Replies.{checkpoint_reply, no_generations_reply};
 ghost use Rattle.rose_shell.specs.Desk.{Answered};
 ghost use Rattle.rose_shell.specs.Running.{StoreTerms};
 
@@ -19,8 +21,8 @@ use line_grammar::{Change, Command, LineError, read_line};
 use outside_world::Outside;
 use query_batch::refuse_text;
 use realm_insert::{Engine, Refusal};
-use realm_store::{CommitError, Store};
-use rose_query::{answer, refuse, refuse_unbuilt};
+use realm_store::{CheckpointError, CommitError, Store};
+use rose_query::{answer, refuse};
 use std::alloc::Global;
 use std::thread::Threads;
 
@@ -94,7 +96,7 @@ fn execute<R: Threads + Sync, W: Outside>(
         Command::Change(change) => answer_change(rt, alloc, store, world, change),
         Command::Query(query) => or_stop(answer(rt, alloc, store.state(), query)),
         Command::Batch(_) => or_stop(refuse(alloc, Refusal::Range)),
-        Command::Checkpoint => or_stop(refuse_unbuilt(alloc)),
+        Command::Checkpoint => answer_checkpoint(alloc, store, world),
     }
 }
 
@@ -123,6 +125,68 @@ fn answer_change<R: Threads + Sync, W: Outside>(
         Err(CommitError::Disk) => Err(Stop::Disk),
         Err(CommitError::NoMemory) => Err(Stop::NoMemory),
     }
+}
+
+// Puts the state as the next generation, or says that there is none greater. The reply is made before.
+fn answer_checkpoint<W: Outside>(
+    alloc: Global,
+    store: &mut Store,
+    world: &mut W,
+) -> Result<Reply, Stop>
+    requires ready { store.old.spent ≡ false }
+    requires rest { W.tells world.old → AllRest store.old.kept (W.view world.old) }
+    ensures answer { IfOk result (λ reply. Unspent AnswersCheckpoint store.old reply store.new) }
+    ensures disk_fault { IsErrOf result Stop.Disk
+        → Rose (W.disk_faults world.old) (W.disk_faults world.new) }
+    ensures goes_on { GoesOn ⟦<W as Outside>⟧ world.old world.new }
+    ensures told { W.tells world.new → Answered StoreTerms (W.view world.old) (W.view world.new)
+        store.old store.new (text_of TheCheckpoint) result }
+{
+    match accept_checkpoint(alloc) {
+        Ok(reply) => write_checkpoint(alloc, store, world, reply),
+        Err(NoMemory) => Err(Stop::NoMemory),
+    }
+}
+
+// The same, with its reply.
+fn write_checkpoint<W: Outside>(
+    alloc: Global,
+    store: &mut Store,
+    world: &mut W,
+    reply: Reply,
+) -> Result<Reply, Stop>
+    requires ready { store.old.spent ≡ false }
+    requires said { reply ≡ checkpoint_reply }
+    requires rest { W.tells world.old → AllRest store.old.kept (W.view world.old) }
+    ensures answer { IfOk result (λ reply. Unspent AnswersCheckpoint store.old reply store.new) }
+    ensures disk_fault { IsErrOf result Stop.Disk
+        → Rose (W.disk_faults world.old) (W.disk_faults world.new) }
+    ensures goes_on { GoesOn ⟦<W as Outside>⟧ world.old world.new }
+    ensures told { W.tells world.new → Answered StoreTerms (W.view world.old) (W.view world.new)
+        store.old store.new (text_of TheCheckpoint) result }
+{
+    match store.checkpoint(world) {
+        Ok(()) => Ok(reply),
+        Err(CheckpointError::Generations) => or_stop(refuse_checkpoint(alloc)),
+        Err(CheckpointError::Disk) => Err(Stop::Disk),
+        Err(CheckpointError::NoMemory) => Err(Stop::NoMemory),
+    }
+}
+
+// The reply to a checkpoint that is made.
+fn accept_checkpoint(alloc: Global) -> Result<Reply, NoMemory>
+    ensures { IfOk result (λ reply. reply ≡ checkpoint_reply) }
+{
+    let text = format!(in alloc; "ok checkpoint\n")?;
+    Ok(Reply::new(text.into_bytes()))
+}
+
+// The reply where there is no greater generation.
+fn refuse_checkpoint(alloc: Global) -> Result<Reply, NoMemory>
+    ensures { IfOk result (λ reply. reply ≡ no_generations_reply) }
+{
+    let text = format!(in alloc; "no generations\n")?;
+    Ok(Reply::new(text.into_bytes()))
 }
 
 // The reply, or that there is no memory for it.

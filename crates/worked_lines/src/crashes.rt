@@ -18,8 +18,8 @@ fn look_at_leave<R: Threads + Sync + Abort>(
     leave: Leave,
     within: (u64, u64),
 ) -> Result<(), NoMemory> {
-    let file = left(world, moment, leave)?;
-    let (status, changes) = told(rt, alloc, &file, b"");
+    let (a, b) = left(world, moment, leave)?;
+    let (status, changes) = told(rt, alloc, &a, &b);
     assert_eq!(rt; status, 0, "at {moment} and {leave:?}");
     assert!(rt;
         within.0 <= changes && changes <= within.1,
@@ -70,17 +70,18 @@ fn the_first_commit_leaves_before_or_after(rt: HostRuntime) {
     }
 }
 
-const TEN: &str = "point 1 0\npoint 2 0\npoint 3 0\npoint 4 0\npoint 5 0\n\
+// Ten changes, and a checkpoint between them.
+const TEN: &str = "point 1 0\npoint 2 0\npoint 3 0\npoint 4 0\npoint 5 0\ncheckpoint\n\
                    point 6 0\npoint 7 0\npoint 8 0\npoint 9 0\npoint 10 0\n";
 
-// The file has as many changes as replies had begun, or one more.
+// The files have as many changes as replies to changes had begun, or one more. Each of these replies has one f.
 fn find_again<R: Threads + Sync + Abort>(
     rt: &R,
     alloc: Global,
     world: &MemoryWorld,
     moment: u64,
 ) -> Result<(), NoMemory> {
-    let begun = world.given().iter().filter(|b| **b == b'\n').count() as u64;
+    let begun = world.given().iter().filter(|b| **b == b'f').count() as u64;
     for leave in LEAVES.iter() {
         look_at_leave(
             rt,
@@ -111,10 +112,10 @@ fn fail_after<R: Threads + Sync + Abort>(
 }
 
 // At each call in turn, and where none fails. Four calls are made at the start, and two take; eleven write the first change,
-// and four each other; and each reply is given by one.
+// four each other, and seven the checkpoint; and each reply is given by one.
 #[test]
 fn no_crash_and_no_fault_loses_a_change(rt: HostRuntime) {
-    for call in 0..=63 {
+    for call in 0..=71 {
         assert!(rt; fail_after(&rt, rt.alloc(), call).is_ok(), "no memory");
     }
 }

@@ -1,6 +1,6 @@
 //! File A: its bytes after a commit, what is found in it after a crash, and what is told of one that is damaged. The bytes
 //! are the example of docs/formats/FILES.md.
-use crate::running::{Place, left, look, look_at_run, place_of, told};
+use crate::running::{Place, left, look, look_at_run, place_of_two, told};
 use grid_base::NoMemory;
 use outside_world::Leave;
 use std::alloc::Global;
@@ -64,7 +64,7 @@ fn look_at_commit<R: Threads + Sync + Abort>(
 ) -> Result<(), NoMemory> {
     let before = file_of(alloc, 1, numbers, behind)?;
     let place = look(rt, alloc, "point 3 0\n", &before, reply, 0)?;
-    let after = left(&place.world, place.world.calls(), Leave::New)?;
+    let (after, _) = left(&place.world, place.world.calls(), Leave::New)?;
     let mut more = Vec::from_slice(alloc, numbers)?;
     more.push(number)?;
     let wanted = file_of(alloc, 1, &more, b"\0")?;
@@ -187,8 +187,31 @@ fn the_newest_of_two_files_stands(rt: HostRuntime) {
     }
 }
 
-// Lines on an empty file and their replies; then the words of a run on the file that they leave, its lines and what it gives.
-static AGAIN: [(&str, &str, &str, &str, &str); 3] = [
+// Lines on empty files and their replies; then the words of a run on the files that they leave, its lines and what it gives.
+static AGAIN: [(&str, &str, &str, &str, &str); 6] = [
+    // A checkpoint of nothing, one between two changes, and one behind another.
+    (
+        "checkpoint\npoint 3 0\n",
+        "ok checkpoint\nok 1 steps 0 first 1 new 0\n",
+        "run",
+        "trace 1\npoint 4 0\n",
+        "trace 0\nok 2 steps 0 first 1 new 0\n",
+    ),
+    (
+        "segment 0 0 3 1\ncheckpoint\nsegment 0 1 3 0\n",
+        "ok 1 steps 0 first 1 new 1\nok checkpoint\nok 2 steps 1 first 2 new 1\n",
+        "check",
+        "",
+        "changes 2\noriginals 2\nvalues 0\npoints 5\npieces 4\n",
+    ),
+    (
+        "lines l 0 0 3 0\nsegment 1 0 1 2\ncheckpoint\ncheckpoint\n",
+        "ok 1 steps 0 first 1 new 1\nok 2 steps 1 first 2 new 1\nok checkpoint\nok checkpoint\n",
+        "run",
+        "show l\ntrace 2\ndrop l\nsegment 5 5 6 6\n",
+        "lines 2\n0 0 1 0\n1 0 3 0\ntrace 1\nsplit 1 0 0 0 3 0\n\
+         ok 3 steps 0 first 3 new 0\nok 4 steps 0 first 3 new 1\n",
+    ),
     (
         "segment 0 0 3 1\nsegment 0 1 3 0\n",
         "ok 1 steps 0 first 1 new 1\nok 2 steps 1 first 2 new 1\n",
@@ -223,8 +246,8 @@ fn look_again<R: Threads + Sync + Abort>(
     lines: &str,
     given: &str,
 ) -> Result<(), NoMemory> {
-    let file = left(&before.world, before.world.calls(), Leave::Old)?;
-    let mut place = place_of(alloc, lines, &file, &[])?;
+    let (a, b) = left(&before.world, before.world.calls(), Leave::Old)?;
+    let mut place = place_of_two(alloc, lines, &a, &b, &[])?;
     look_at_run(rt, alloc, words, &mut place.world, given, 0)
 }
 

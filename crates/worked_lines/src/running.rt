@@ -123,8 +123,11 @@ fn told_by<R: Threads + Sync>(rt: &R, alloc: Global, world: &mut MemoryWorld) ->
     }
 }
 
-/// File A as a crash after so many calls leaves it.
-pub(crate) fn left(world: &MemoryWorld, moment: u64, leave: Leave) -> Result<Vec<u8>, NoMemory> {
-    let (a, _) = world.images(moment.min(world.calls()), leave)?;
-    Ok(a)
+/// Files A and B as a crash after so many calls leaves them.
+pub(crate) fn left(
+    world: &MemoryWorld,
+    moment: u64,
+    leave: Leave,
+) -> Result<(Vec<u8>, Vec<u8>), NoMemory> {
+    world.images(moment.min(world.calls()), leave)
 }

@@ -335,7 +335,10 @@ static REFUSED: [(&str, &str); 4] = [
         "no range\nno line 25\n",
     ),
     // Whatever else is wrong with these lines.
-    ("faces a\ncheckpoint\n", "no no-name\nno not-built\n"),
+    (
+        "faces a\nbatch 1\ncheckpoint\n",
+        "no no-name\nno batch-change\n",
+    ),
 ];
 
 #[test]

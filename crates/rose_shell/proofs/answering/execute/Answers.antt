@@ -19,6 +19,18 @@ returns-in-Change-clause-answer g c =
     })
     c.answer_change.ensures.answer
 
+-- and what a checkpoint is answered
+pub returns-in-Checkpoint-clause-answer : goal.returns-in-Checkpoint-clause-answer
+returns-in-Checkpoint-clause-answer g c =
+    IfOk-weaker c.answer_checkpoint.result _ _
+    (λ reply is. record {
+      was_ready = is.was_ready;
+      is_ready = is.is_ready;
+      outcome = subst (λ (command : Command). AnswersCommand command c.args.store.now.kept reply c.answer_checkpoint.new.store.kept)
+          (sym c.in-Checkpoint.is) is.outcome;
+    })
+    c.answer_checkpoint.ensures.answer
+
 -- a batch that is read is out of range
 pub returns-in-Batch-clause-answer : goal.returns-in-Batch-clause-answer
 returns-in-Batch-clause-answer g c =
@@ -36,7 +48,3 @@ returns-in-Query-clause-told g c = λ tells.
 pub returns-in-Batch-clause-told : goal.returns-in-Batch-clause-told
 returns-in-Batch-clause-told g c = λ tells.
     still_answered c.or_stop-in-Batch.result c.or_stop-in-Batch.ensures.never_disk (c.requires.rest tells)
-
-pub returns-in-Checkpoint-clause-told : goal.returns-in-Checkpoint-clause-told
-returns-in-Checkpoint-clause-told g c = λ tells.
-    still_answered c.or_stop-in-Checkpoint.result c.or_stop-in-Checkpoint.ensures.never_disk (c.requires.rest tells)

@@ -1,7 +1,7 @@
 use Rattle.std.proofs.Common.{◌+◌, ap}
 use Rattle.realm_files.proofs.Renewals.{stays_still}
 use Rattle.realm_store.specs.Stands.{meaning}
-use Rattle.realm_store.proofs.Checkpoints.{stays_for, rests_there}
+use Rattle.realm_store.proofs.Checkpoints.{renewed_by, stays_for, rests_there}
 use Rattle.realm_store.proofs.store.Store.renew.Goals as goal
 
 -- memory ran out before anything was written
@@ -14,6 +14,11 @@ returns-in_err-next-clause-stays g c = λ t.
     let one = c.in_err-next.ensures in
     stays_for c.self.view_is c.next_file-file.ensures (ap (λ n. n + 1) c.generation_of-generation.ensures) c.in_ok-pages.ensures.number
     c.in_ok-pages.ensures.opens _ _ (c.requires.rest (one.goes_on.tells t)) (one.told t)
+
+pub returns-in_err-next-clause-cut_off : goal.returns-in_err-next-clause-cut_off
+returns-in_err-next-clause-cut_off g c = λ is.
+    renewed_by c.self.view_is c.next_file-file.ensures (ap (λ n. n + 1) c.generation_of-generation.ensures)
+    c.in_ok-pages.ensures.number c.in_ok-pages.ensures.opens
 
 -- it is, and the files rest there
 pub returns-clause-stays : goal.returns-clause-stays
