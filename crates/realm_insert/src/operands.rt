@@ -1,4 +1,4 @@
-//! What an operator is applied to: both values are those of one drawing, so their segments together are those of a realm.
+//! What an operator is applied to: both values come from one drawing, so all their segments form one realm.
 ghost use Rattle.std.specs.Prelude.{◌≡◌, false, IfOk, MatchOption};
 ghost use Rattle.std.specs.Option.{option_copied};
 ghost use Rattle.realm_insert.specs.Operands.{LacksOperand, AreOperands};
