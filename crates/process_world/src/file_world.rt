@@ -3,7 +3,7 @@
 //! only counts how often a call failed.
 ghost use Rattle.std.specs.Prelude.{◌≡◌, ◌≤◌, OnErr};
 ghost use Rattle.outside_world.specs.Counts.{Rose};
-ghost use Rattle.rose.specs.Untold.{untold};
+ghost use Rattle.process_world.specs.Untold.{untold};
 
 use crate::real_file::{read_from, size_of, sync_of, write_to};
 use outside_world::{Failed, FileName, Outside};
@@ -15,6 +15,14 @@ const A: &str = "realm.a";
 
 /// and of the other.
 const B: &str = "realm.b";
+
+/// The letter of a file, with which its name ends.
+pub fn letter_of(file: FileName) -> &'static str {
+    match file {
+        FileName::A => "a",
+        FileName::B => "b",
+    }
+}
 
 /// Standard input, standard output and the two files, with counts of their faults. A file is opened at its
 /// first use, and made where it is missing.

@@ -10,15 +10,15 @@ ghost use Rattle.command_words.specs.declared.word.Word.{Word};
 ghost use Rattle.rose_shell.specs.Telling.{HasDone};
 ghost use Rattle.rose_shell.specs.Status.{number_of};
 
-use crate::words::WordsError;
 use outside_world::Outside;
+use process_world::WordsError;
 use rose_shell::{Status, run};
 use std::alloc::Global;
 use std::process::ExitCode;
 use std::thread::Threads;
 
 /// Does what the program does with these words in this world. Words that aren't text are none that it knows.
-pub(crate) fn perform<R: Threads + Sync, W: Outside>(
+pub fn perform<R: Threads + Sync, W: Outside>(
     rt: &R,
     alloc: Global,
     words: Result<Vec<String>, WordsError>,
@@ -48,7 +48,7 @@ pub(crate) fn perform<R: Threads + Sync, W: Outside>(
 }
 
 /// What the process ends with.
-pub(crate) fn exit_of(status: Status) -> ExitCode
+pub fn exit_of(status: Status) -> ExitCode
     ensures number { exit_status result ≡ number_of status }
 {
     ExitCode::from(status.number())

@@ -6,7 +6,7 @@ use std::rt::Env;
 
 /// Why the words aren't known.
 #[derive(Clone, Copy, Debug, PartialEq, Eq)]
-pub(crate) enum WordsError {
+pub enum WordsError {
     /// A word isn't text in UTF-8.
     NotText,
     /// Memory ran out.
@@ -14,7 +14,7 @@ pub(crate) enum WordsError {
 }
 
 /// The words after the program's name.
-pub(crate) fn words_of<R: Env + AllocGlobal>(rt: &R) -> Result<Vec<String>, WordsError> {
+pub fn words_of<R: Env + AllocGlobal>(rt: &R) -> Result<Vec<String>, WordsError> {
     match env::args(rt) {
         Ok(all) => rest_of(rt.alloc(), all),
         Err(error) if error.kind() == ErrorKind::OutOfMemory => Err(WordsError::NoMemory),

@@ -1,10 +1,11 @@
 //! What the program says where it doesn't end well.
 use outside_world::FileName;
+use process_world::letter_of;
 use realm_store::Damage;
 use rose_shell::Status;
 
 /// Says on standard error why the program doesn't end well. Where this fails nothing more is tried.
-pub(crate) fn say<R: Eprint>(rt: &R, status: Status) {
+pub fn say<R: Eprint>(rt: &R, status: Status) {
     match status {
         Status::Damaged(damage) => say_damage(rt, damage),
         _ => {
@@ -59,17 +60,9 @@ fn say_bytes<R: Eprint>(rt: &R, bytes: &[u8]) {
     }
 }
 
-/// The letter of a file.
-pub(crate) fn letter_of(file: FileName) -> &'static str {
-    match file {
-        FileName::A => "a",
-        FileName::B => "b",
-    }
-}
-
 /// The line for standard error, but for damage, whose line has numbers; none where the whole output was
 /// given.
-pub(crate) fn message_of(status: Status) -> Option<&'static str> {
+pub fn message_of(status: Status) -> Option<&'static str> {
     match status {
         Status::Done | Status::Damaged(_) => None,
         Status::Usage => Some("rose: usage: rose run | rose check | rose gen N START"),
