@@ -49,6 +49,22 @@ def page():
     return store.files
 
 
+def other_page():
+    """The same after one more checkpoint, which is in file A."""
+    store = rules.Writer()
+    for line in LINES:
+        store.change(line)
+    store.checkpoint(rules.payload_bytes(store.state))
+    store.checkpoint(rules.payload_bytes(store.state))
+    return store.files
+
+
+def twins():
+    """Two files of one generation."""
+    files = journal()
+    return (files[0], files[0])
+
+
 def others(byte, values, chance):
     """Bytes to put in the place of this one: an open gate, a closed one, and others by chance."""
     found = [other for other in (0xa5, 0) if other != byte]
@@ -66,17 +82,19 @@ def damages(files, values, chance):
 
 
 def sealed(files, values, chance):
-    """Each pair of files with one byte of page 1 of file B changed and the digest of the page made anew."""
-    file = files[1]
+    """Each pair of files with one byte of page 1 of the newest file changed and the digest of the page made anew."""
+    which = 0 if files[1] < files[0] else 1
+    file = files[which]
     for at in range(4096, 4096 + 4064):
         # close values, as of coordinates, are the ones that may still make a state
         near = [byte for byte in (file[at] + 1, file[at] - 1) if 0 <= byte < 256]
         for byte in near + others(file[at], values, chance):
             body = file[4096:at] + bytes([byte]) + file[at + 1:8160]
-            yield "sealed", pair(files, 1, file[:4096] + body + hashlib.sha256(body).digest() + file[8192:])
+            yield "sealed", pair(files, which, file[:4096] + body + hashlib.sha256(body).digest() + file[8192:])
 
 
-STORES = {"journal": (journal, damages), "checkpoint": (checkpoint, damages), "page": (page, sealed)}
+STORES = {"journal": (journal, damages), "checkpoint": (checkpoint, damages), "page": (page, sealed),
+          "other_page": (other_page, sealed), "twins": (twins, damages)}
 
 
 def pair(files, which, file):
