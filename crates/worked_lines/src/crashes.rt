@@ -28,46 +28,88 @@ fn look_at_leave<R: Threads + Sync + Abort>(
     Ok(())
 }
 
-// The first change on an empty file: the call that fails, and how many changes each crash leaves then. Five calls come
-// before: four of the start, and a take. Then three shut the first gate, four append the head, and four the record.
-static FIRST: [(u64, [u64; 4]); 11] = [
-    (6, [0, 0, 0, 0]),
-    (7, [0, 0, 0, 0]),
-    (8, [0, 0, 0, 0]),
-    (9, [0, 0, 0, 0]),
-    (10, [0, 0, 0, 0]),
-    (11, [0, 0, 0, 0]),
-    (12, [0, 0, 0, 0]),
-    (13, [0, 0, 0, 0]),
-    (14, [0, 0, 0, 0]),
-    (15, [0, 0, 0, 1]),
-    (16, [0, 1, 0, 1]),
+// These changes are found in what a crash leaves after so many calls, in each of the four ways.
+fn look_at_leaves<R: Threads + Sync + Abort>(
+    rt: &R,
+    alloc: Global,
+    world: &MemoryWorld,
+    moment: u64,
+    changes: &[u64],
+) -> Result<(), NoMemory> {
+    for (leave, wanted) in LEAVES.iter().zip(changes.iter()) {
+        look_at_leave(rt, alloc, world, moment, *leave, (*wanted, *wanted))?;
+    }
+    Ok(())
+}
+
+// The first change on an empty file: the call that fails, the status, and how many changes each crash leaves then. Four calls
+// come before, those of the start, and then a take. Three shut the first gate, four append the head, and four the record;
+// the last gives the reply.
+static FIRST: [(u64, u8, [u64; 4]); 13] = [
+    (5, 2, [0, 0, 0, 0]),
+    (6, 4, [0, 0, 0, 0]),
+    (7, 4, [0, 0, 0, 0]),
+    (8, 4, [0, 0, 0, 0]),
+    (9, 4, [0, 0, 0, 0]),
+    (10, 4, [0, 0, 0, 0]),
+    (11, 4, [0, 0, 0, 0]),
+    (12, 4, [0, 0, 0, 0]),
+    (13, 4, [0, 0, 0, 0]),
+    (14, 4, [0, 0, 0, 0]),
+    (15, 4, [0, 0, 0, 1]),
+    (16, 4, [0, 1, 0, 1]),
+    (17, 3, [1, 1, 1, 1]),
 ];
 
-// These changes are found then.
+// Nothing is given then, and these changes are found.
 fn look_at_first<R: Threads + Sync + Abort>(
     rt: &R,
     alloc: Global,
     call: u64,
+    number: u8,
     changes: &[u64],
 ) -> Result<(), NoMemory> {
     let mut place = place_of(alloc, "point 3 0\n", b"", &[call])?;
     let status = run_words(rt, alloc, "run", &mut place.world)?;
-    assert_eq!(rt; status.number(), 4, "at call {call}");
-    for (leave, wanted) in LEAVES.iter().zip(changes.iter()) {
-        look_at_leave(rt, alloc, &place.world, call, *leave, (*wanted, *wanted))?;
+    assert_eq!(rt; status.number(), number, "at call {call}");
+    assert!(rt; place.world.given().is_empty(), "at call {call}");
+    look_at_leaves(rt, alloc, &place.world, call, changes)
+}
+
+#[test]
+fn the_first_commit_leaves_before_or_after(rt: HostRuntime) {
+    for (call, number, changes) in FIRST.iter() {
+        assert!(rt;
+            look_at_first(&rt, rt.alloc(), *call, *number, changes).is_ok(),
+            "no memory"
+        );
+    }
+}
+
+// The same where no call fails: how many changes a crash after so many calls leaves. The thirteenth writes the record, and
+// the next syncs it; one opens its gate, one syncs this, and the reply begins.
+static MOMENTS: [(u64, [u64; 4]); 5] = [
+    (13, [0, 0, 0, 0]),
+    (14, [0, 0, 0, 0]),
+    (15, [0, 1, 0, 1]),
+    (16, [1, 1, 1, 1]),
+    (17, [1, 1, 1, 1]),
+];
+
+// These changes are found after so many calls of a whole run.
+fn look_at_moments<R: Threads + Sync + Abort>(rt: &R, alloc: Global) -> Result<(), NoMemory> {
+    let mut place = place_of(alloc, "point 3 0\n", b"", &[])?;
+    let status = run_words(rt, alloc, "run", &mut place.world)?;
+    assert_eq!(rt; status.number(), 0);
+    for (moment, changes) in MOMENTS.iter() {
+        look_at_leaves(rt, alloc, &place.world, *moment, changes)?;
     }
     Ok(())
 }
 
 #[test]
-fn the_first_commit_leaves_before_or_after(rt: HostRuntime) {
-    for (call, changes) in FIRST.iter() {
-        assert!(rt;
-            look_at_first(&rt, rt.alloc(), *call, changes).is_ok(),
-            "no memory"
-        );
-    }
+fn the_first_commit_stands_from_its_gate_on(rt: HostRuntime) {
+    assert!(rt; look_at_moments(&rt, rt.alloc()).is_ok(), "no memory");
 }
 
 // Ten changes, and a checkpoint between them.

@@ -82,30 +82,54 @@ fn no_change_of_a_map_is_refused(rt: HostRuntime) {
     assert!(rt; done.is_ok(), "no memory");
 }
 
-// Of sessions that begin with one line of so many bytes: what stands behind them, the budget and the replies.
-static LONG_LINES: [(usize, &str, u64, &str); 4] = [
-    (1_048_576, "\nrealm\n", 2_000_000, "no line 0\nrealm 0 0\n"),
+// Of sessions with one line of so many bytes: what stands before it and behind it, the budget and the replies.
+static LONG_LINES: [(&str, usize, &str, u64, &str); 6] = [
     (
+        "",
+        1_048_576,
+        "\nrealm\n",
+        2_000_000,
+        "no line 0\nrealm 0 0\n",
+    ),
+    (
+        "",
         1_048_577,
         "\nrealm\n",
         2_000_000,
         "no too-long\nrealm 0 0\n",
     ),
     // What stands after the last line feed is a line only at the end of the input.
-    (1_048_577, "", 2_000_000, "no too-long\n"),
-    (1_048_578, "", 1_048_577, ""),
+    ("", 1_048_577, "", 2_000_000, "no too-long\n"),
+    ("", 1_048_578, "", 1_048_577, ""),
+    // A line of a batch, once behind another, and once at the end of the input.
+    (
+        "batch 3\nrealm\n",
+        1_048_577,
+        "\nchain 1\nrealm\n",
+        2_000_000,
+        "realm 0 0\nno too-long\nno no-id\nrealm 0 0\n",
+    ),
+    (
+        "batch 3\nrealm\n",
+        1_048_577,
+        "",
+        2_000_000,
+        "realm 0 0\nno too-long\n",
+    ),
 ];
 
 // This session gets its replies.
 fn look_at_line<R: Threads + Sync + Abort>(
     rt: &R,
     alloc: Global,
+    before: &str,
     size: usize,
     behind: &str,
     budget: u64,
     replies: &str,
 ) -> Result<(), NoMemory> {
-    let mut input = "x".repeat(alloc, size)?;
+    let mut input = String::from_str(alloc, before)?;
+    input.push_str("x".repeat(alloc, size)?.as_str())?;
     input.push_str(behind)?;
     let mut place = place_of(alloc, input.as_str(), b"", &[])?;
     let _ = serve_within(rt, alloc, &mut place.world, budget);
@@ -115,15 +139,15 @@ fn look_at_line<R: Threads + Sync + Abort>(
 
 #[test]
 fn a_line_has_a_mebibyte_at_most(rt: HostRuntime) {
-    for (size, behind, budget, replies) in LONG_LINES.iter() {
-        let done = look_at_line(&rt, rt.alloc(), *size, behind, *budget, replies);
+    for (before, size, behind, budget, replies) in LONG_LINES.iter() {
+        let done = look_at_line(&rt, rt.alloc(), before, *size, behind, *budget, replies);
         assert!(rt; done.is_ok(), "no memory");
     }
 }
 
 // Of a session with the one line `realm`: the call that fails, the budget, the status and the replies. The start makes four
 // calls, a sync and a read of each file; a take is the fifth, and the give of the reply the sixth.
-static FAULTS: [(u64, u64, u8, &str); 9] = [
+static FAULTS: [(u64, u64, u8, &str); 10] = [
     (1, 1_000, 4, ""),
     (2, 1_000, 4, ""),
     (4, 1_000, 4, ""),
@@ -131,6 +155,7 @@ static FAULTS: [(u64, u64, u8, &str); 9] = [
     (6, 1_000, 3, ""),
     (7, 1_000, 2, "realm 0 0\n"),
     (9, 0, 7, ""),
+    (9, 3, 7, ""),
     (9, 5, 7, ""),
     (9, 6, 0, "realm 0 0\n"),
 ];

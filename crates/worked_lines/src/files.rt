@@ -90,6 +90,29 @@ fn a_commit_writes_its_record(rt: HostRuntime) {
     }
 }
 
+// The first change of all puts a first generation on file A, its record behind it, and nothing on file B.
+fn look_at_first_commit<R: Threads + Sync + Abort>(rt: &R, alloc: Global) -> Result<(), NoMemory> {
+    let place = look(
+        rt,
+        alloc,
+        "point 3 0\n",
+        b"",
+        "ok 1 steps 0 first 1 new 0\n",
+        0,
+    )?;
+    let (a, b) = left(&place.world, place.world.calls(), Leave::New)?;
+    let wanted = file_of(alloc, 1, b"\x01", b"\0")?;
+    assert_eq!(rt; a.len(), 4_135);
+    assert!(rt; a == wanted);
+    assert!(rt; b.is_empty());
+    Ok(())
+}
+
+#[test]
+fn the_first_commit_makes_file_a(rt: HostRuntime) {
+    assert!(rt; look_at_first_commit(&rt, rt.alloc()).is_ok(), "no memory");
+}
+
 // What is told of a whole file: a status, and the number of changes, of the page or of the record.
 static WHOLE: [(&[u8], u8, u64); 5] = [
     (b"", 0, 0),
