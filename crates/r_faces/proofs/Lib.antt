@@ -2,8 +2,6 @@
 pub mod Turnings
 -- lists in order
 pub mod ListOrders
--- borders with one segment once more
-pub mod OneMore
 -- as many faces as numbers of odd sides
 pub mod FaceNumbers
 -- segments by the places of their numbers
