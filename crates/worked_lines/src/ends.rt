@@ -1,8 +1,11 @@
-//! What words do, and how runs end: behind long lines, at faults and at budgets.
+//! What words do, and how runs end: behind long lines, at faults and at budgets; what is said then, and with which exit.
 use crate::running::{look_at_run, place_of, run_words, serve_within};
 use grid_base::NoMemory;
+use process_run::{exit_of, message_of, perform};
+use process_world::WordsError;
+use rose_shell::Status;
 use std::alloc::Global;
-use std::process::Abort;
+use std::process::{Abort, ExitCode};
 use std::thread::Threads;
 
 // Words, what they give over an empty file, and the status.
@@ -162,4 +165,56 @@ fn a_fault_or_the_budget_ends_the_session(rt: HostRuntime) {
         let done = look_at_fault(&rt, rt.alloc(), *call, *budget, *number, replies);
         assert!(rt; done.is_ok(), "no memory");
     }
+}
+
+// What is said of each status on standard error, but for damage.
+static SAID: [(Status, Option<&str>); 7] = [
+    (Status::Done, None),
+    (
+        Status::Usage,
+        Some("rose: usage: rose run | rose check | rose gen N START"),
+    ),
+    (Status::SourceFault, Some("rose: source fault")),
+    (Status::SinkFault, Some("rose: sink fault")),
+    (Status::DiskFault, Some("rose: disk fault")),
+    (Status::NoMemory, Some("rose: no memory")),
+    (Status::InputLimit, Some("rose: input limit")),
+];
+
+#[test]
+fn each_status_but_done_has_its_line(rt: HostRuntime) {
+    for (status, line) in SAID.iter() {
+        let number = status.number();
+        assert!(rt; message_of(*status) == *line, "at {number}");
+    }
+}
+
+// Whether the program exits with this number where its first call on a file fails.
+fn exits_with<R: Threads + Sync>(
+    rt: &R,
+    alloc: Global,
+    words: Result<Vec<String>, WordsError>,
+    number: u8,
+) -> Result<bool, NoMemory> {
+    let mut place = place_of(alloc, "realm\n", b"", &[1])?;
+    let status = perform(rt, alloc, words, &mut place.world);
+    Ok(exit_of(status) == ExitCode::from(number))
+}
+
+// Whether it exits so with its own words, with words that aren't text, and without memory for them.
+fn exits_by_words<R: Threads + Sync>(rt: &R, alloc: Global) -> Result<bool, NoMemory> {
+    let mut words = Vec::new(alloc);
+    words.push(String::from_str(alloc, "run")?)?;
+    Ok(
+        exits_with(rt, alloc, Ok(words), 4)?
+            && exits_with(rt, alloc, Err(WordsError::NotText), 1)?
+            && exits_with(rt, alloc, Err(WordsError::NoMemory), 6)?,
+    )
+}
+
+#[test]
+fn the_program_ends_with_the_number_of_its_status(rt: HostRuntime) {
+    assert!(rt; exits_by_words(&rt, rt.alloc()).unwrap_or(false));
+    assert!(rt; exit_of(Status::SourceFault) == ExitCode::from(2));
+    assert!(rt; exit_of(Status::SinkFault) == ExitCode::from(3));
 }
