@@ -6,7 +6,8 @@
 # line, and the block marked `reply` behind it what they are answered. An `input killed` is killed by SIGKILL once its
 # replies have come, while it waits for more lines. Each scene, and each block of the reference, runs in an empty folder
 # of its own; the blocks of the tutorial run one after another in one folder. In VALUES and LINES each row of a table
-# has a line and its reply, and the block of the README marked `session` has the scene `first` with its replies.
+# has a line and its reply, and the block of the README marked `session` has the scene `first` with its replies. What
+# EMBEDDING shows is compared with the crate that it is about, whose output is compared by the gate.
 set -u
 
 [ $# -eq 1 ] && [ -x "$1" ] || { echo "usage: compare.sh ROSE" >&2; exit 2; }
@@ -98,6 +99,20 @@ asked() {
     judge "docs/$1.md, the rows" "$work/reply" "$work/given"
 }
 
+# marked KIND PAGE: the lines of the blocks of a page that are marked so
+marked() {
+    awk -v mark="\`\`\`$1" '$0 == mark { inside = 1; next } /^```/ { inside = 0 } inside' "$here/../$2"
+}
+
+# shown PAGE CRATE: the blocks of a page marked `output` are, one after another, what the crate's program prints, and
+# each line of those marked `rust` stands in its source
+shown() {
+    local crate=$here/../crates/$2
+    judge "$1, the output" "$crate/stdout" <(marked output "$1")
+    grep -vxFf <(cat "$crate"/src/*.rt) <(marked rust "$1") > "$work/strange"
+    judge "$1, the lines of the program" /dev/null "$work/strange"
+}
+
 for scene in "$here"/*.txt; do
     name=$(basename "$scene" .txt)
     mkdir "$work/scene" && cd "$work/scene" || exit 2
@@ -114,8 +129,9 @@ asked VALUES
 : > "$work/lines" > "$work/reply"
 rows formats/LINES .
 asked formats/LINES
-awk '/^```session/ { inside = 1; next } /^```/ { inside = 0 } inside' "$here/../README.md" > "$work/session"
+marked session README.md > "$work/session"
 judge "README.md, the lines" "$here/first.txt" <(cut -c 1-29 "$work/session" | sed 's/ *$//; /^$/d')
 judge "README.md, the replies" "$here/first.out" <(cut -c 30- "$work/session")
+shown docs/EMBEDDING.md embedding_example
 echo "$equal equal, $different different"
 [ "$different" -eq 0 ]
