@@ -19,6 +19,7 @@ REFUSER = r"""
 #include <stdatomic.h>
 #include <stdio.h>
 #include <stdlib.h>
+#include <sys/syscall.h>
 #include <unistd.h>
 
 extern void *__libc_malloc(size_t);
@@ -39,7 +40,12 @@ __attribute__((constructor)) static void begin(void) {
     requests = 0;
 }
 
-__attribute__((destructor)) static void end(void) {
+static void leave(int status) {
+    syscall(SYS_exit_group, status);
+    __builtin_unreachable();
+}
+
+static void tell(void) {
     const char *name = getenv("REQUESTS");
     char text[32];
     from = 0;
@@ -48,10 +54,19 @@ __attribute__((destructor)) static void end(void) {
         int file = open(name, O_WRONLY | O_CREAT | O_TRUNC, 0644);
         int size = snprintf(text, sizeof text, "%ld\n", (long)requests);
         if (file < 0 || write(file, text, size) != size) {
-            _exit(99);
+            leave(99);
         }
         close(file);
     }
+}
+
+__attribute__((destructor)) static void end(void) { tell(); }
+
+/* A program may also end at once, and then nothing else is called. */
+__attribute__((noreturn)) void _exit(int status) {
+    tell();
+    leave(status);
+    __builtin_unreachable();
 }
 
 static int is_refused(void) {
