@@ -5,8 +5,6 @@
 #[cfg(test)]
 mod crashes;
 #[cfg(test)]
-mod damages;
-#[cfg(test)]
 mod ends;
 #[cfg(test)]
 mod files;
