@@ -4,6 +4,7 @@ import argparse
 import os
 import subprocess
 import tempfile
+import time
 
 SIZES = [400, 4000, 40000]
 
@@ -44,15 +45,15 @@ class Run:
         self.run = subprocess.Popen([program, "run"], cwd=folder, stdin=subprocess.PIPE, stdout=subprocess.PIPE)
 
     def ask(self, line):
-        """The head of the reply, and the processor seconds that the program took for it."""
-        before = self.used()
+        """The head of the reply, and the processor seconds and the seconds that the program took for it."""
+        begin, before = time.monotonic(), self.used()
         self.run.stdin.write(line.encode() + b"\n")
         self.run.stdin.flush()
         head = self.run.stdout.readline().decode().split()
         if head[0] in ("points", "lines", "regions"):
             for _ in range(int(head[1])):
                 self.run.stdout.readline()
-        return head, self.used() - before
+        return head, self.used() - before, time.monotonic() - begin
 
     def used(self):
         with open(f"/proc/{self.run.pid}/stat") as it:
@@ -66,14 +67,15 @@ class Run:
 
 
 def timed(run, line):
-    """The head of the reply, and the seconds that one such line takes: it is asked until a quarter of a second is taken."""
-    times, taken = 0, 0.0
+    """The head of the reply, and the seconds that one such line takes, of a processor and on the clock: it is asked until a
+    quarter of a second is taken."""
+    times, taken, passed = 0, 0.0, 0.0
     while taken < 0.25:
-        head, seconds = run.ask(line)
-        times, taken = times + 1, taken + seconds
+        head, seconds, clock = run.ask(line)
+        times, taken, passed = times + 1, taken + seconds, passed + clock
         if times == 1000:
             break
-    return head, taken / times
+    return head, taken / times, passed / times
 
 
 def main():
@@ -82,9 +84,12 @@ def main():
     parser.add_argument("--most", type=int, default=SIZES[-1], help="the most segments of both borders together")
     parser.add_argument("--fields", nargs="*", choices=FIELDS, default=list(FIELDS))
     parser.add_argument("--folder", help="where the file of a run is put")
+    parser.add_argument("--processors", type=int, help="on how many processors the program may run at once")
     given = parser.parse_args()
+    if given.processors:
+        os.sched_setaffinity(0, sorted(os.sched_getaffinity(0))[:given.processors])
     program = os.path.abspath(given.program)
-    print("field   segments   drawn s  result        ms  us/segment  growth")
+    print("field   segments   drawn s  result        ms  us/segment  growth  passed ms")
     for field in given.fields:
         before = None
         for segments in (n for n in SIZES if n <= given.most):
@@ -92,15 +97,15 @@ def main():
                 run = Run(program, folder)
                 drawn = 0.0
                 for line in FIELDS[field](segments):
-                    head, seconds = run.ask(line)
+                    head, seconds, _ = run.ask(line)
                     drawn += seconds
                     if head[0] != "ok":
                         raise SystemExit(f"{field} {segments}: {' '.join(head)}")
-                head, seconds = timed(run, "eval intersection a b")
+                head, seconds, passed = timed(run, "eval intersection a b")
                 run.end()
             each = seconds / segments * 1e6
             growth = "-" if before is None else f"{each / before:.2f}"
-            print(f"{field:7} {segments:8} {drawn:9.2f} {head[1]:>7} {seconds * 1e3:9.2f} {each:11.2f} {growth:>7}", flush=True)
+            print(f"{field:7} {segments:8} {drawn:9.2f} {head[1]:>7} {seconds * 1e3:9.2f} {each:11.2f} {growth:>7} {passed * 1e3:10.2f}", flush=True)
             before = each
 
 

@@ -1,11 +1,13 @@
 #!/usr/bin/env bash
-# compare.sh ROSE: runs the program ROSE on each scene of this folder, and on the lines that the tutorial and the
-# reference show, and compares the replies with those that stand there. Ends with 0 where all are equal, else with 1.
+# compare.sh ROSE: runs the program ROSE on each scene of this folder, and on the lines that the pages show, and
+# compares the replies with those that stand there. Ends with 0 where all are equal, else with 1.
 #
 # A scene NAME.txt has its replies in NAME.out. In a page a block marked `input` has lines, one marked `words` a command
 # line, and the block marked `reply` behind it what they are answered. An `input killed` is killed by SIGKILL once its
 # replies have come, while it waits for more lines. Each scene, and each block of the reference, runs in an empty folder
-# of its own; the blocks of the tutorial run one after another in one folder.
+# of its own; the blocks of the tutorial run one after another in one folder. In VALUES and LINES each row of a table
+# has a line and its reply, and the block of the README marked `session` has the scene `first` with its replies. What
+# EMBEDDING shows is compared with the crate that it is about, whose output is compared by the gate.
 set -u
 
 [ $# -eq 1 ] && [ -x "$1" ] || { echo "usage: compare.sh ROSE" >&2; exit 2; }
@@ -78,6 +80,39 @@ page() {
     done
 }
 
+# rows PAGE PATTERN: the lines of the rows of a page whose first cell is quoted and matches, behind $work/lines, and what
+# the second cell quotes behind $work/reply, each reply line by line; a number there stands for `no line` and itself
+rows() {
+    awk -v lines="$work/lines" -v reply="$work/reply" -v pattern="$2" -F ' [|] ' '
+        $1 ~ "^[|] `" && (cell = substr($1, 4, length($1) - 4)) ~ pattern {
+            print cell >> lines
+            if ($2 ~ /^[0-9]+$/) print "no line " $2 >> reply
+            count = split($2, part, "`")
+            for (i = 2; i <= count; i += 2) print part[i] >> reply
+        }' "$here/../docs/$1.md"
+}
+
+# asked PAGE: the lines of $work/lines, in an empty folder, against $work/reply
+asked() {
+    rm -rf "$work/scene" && mkdir "$work/scene" && cd "$work/scene" || exit 2
+    run "$work/given" run < "$work/lines"
+    judge "docs/$1.md, the rows" "$work/reply" "$work/given"
+}
+
+# marked KIND PAGE: the lines of the blocks of a page that are marked so
+marked() {
+    awk -v mark="\`\`\`$1" '$0 == mark { inside = 1; next } /^```/ { inside = 0 } inside' "$here/../$2"
+}
+
+# shown PAGE CRATE: the blocks of a page marked `output` are, one after another, what the crate's program prints, and
+# each line of those marked `rust` stands in its source
+shown() {
+    local crate=$here/../crates/$2
+    judge "$1, the output" "$crate/stdout" <(marked output "$1")
+    grep -vxFf <(cat "$crate"/src/*.rt) <(marked rust "$1") > "$work/strange"
+    judge "$1, the lines of the program" /dev/null "$work/strange"
+}
+
 for scene in "$here"/*.txt; do
     name=$(basename "$scene" .txt)
     mkdir "$work/scene" && cd "$work/scene" || exit 2
@@ -87,5 +122,16 @@ for scene in "$here"/*.txt; do
 done
 page TUTORIAL 1
 page REFERENCE 0
+grep -E '^(regions|lines|points) ' "$here/values.txt" > "$work/lines"
+grep '^ok ' "$here/values.out" > "$work/reply"
+rows VALUES '^(eval|ask|num|faces) '
+asked VALUES
+: > "$work/lines" > "$work/reply"
+rows formats/LINES .
+asked formats/LINES
+marked session README.md > "$work/session"
+judge "README.md, the lines" "$here/first.txt" <(cut -c 1-29 "$work/session" | sed 's/ *$//; /^$/d')
+judge "README.md, the replies" "$here/first.out" <(cut -c 30- "$work/session")
+shown docs/EMBEDDING.md embedding_example
 echo "$equal equal, $different different"
 [ "$different" -eq 0 ]

@@ -1,8 +1,8 @@
 -- This file shows what each call tells, of any list of calls.
-use Rattle.std.proofs.Common.{◌≡◌, ◌≢◌, ℕ, ◌+◌, ◌≤◌, Bool, true, false, List, [], ◌∷◌, ◌++◌, length, take, drop, min, Ok, Err}
+use Rattle.std.proofs.Common.{◌≡◌, ◌≢◌, ℕ, ◌+◌, ◌<◌, ◌≤◌, Bool, true, false, List, [], ◌∷◌, ◌++◌, length, take, drop, Ok, Err}
 use Rattle.std.proofs.Common.{refl, sym, ◌∙◌, ap, subst, arith, take-append-drop}
 use Rattle.std.proofs.Math.Seq.{take-add}
-use Rattle.std.proofs.lemmas.List.{append-nil, take_all, drop-drop, nil_from_length}
+use Rattle.std.proofs.lemmas.List.{append-nil, drop-drop, nil_from_length}
 use Rattle.outside_world.specs.declared.world.Failed.{Failed}
 use Rattle.outside_world.specs.declared.world.FileName.{FileName}
 use Rattle.outside_world.specs.View.{View}
@@ -75,15 +75,16 @@ module _ (input : List ℕ) (firsts : FileName → List ℕ) (events : List Even
         taken = ap (λ k. take k input) (taken_more n) ∙ take-add (taken_by events) n input ∙ ap (λ l. before.taken ++ l) (sym is);
       }
 
-  pub took : (n : ℕ) (buf : List ℕ) → n ≡ min (length buf) (length before.left) → take n buf ≡ take n before.left
+  -- a take that takes no byte into a buffer with room is at the input's end
+  pub took : (n : ℕ) (buf : List ℕ) → (n ≡ 0 → 0 < length buf → length before.left ≡ 0) → take n buf ≡ take n before.left
       → Took before (after (Taken n)) buf (Ok n)
-  took n buf size bytes = record {
+  took n buf ended bytes = record {
     ticks = asks n;
     files = same_files (Taken n) (λ f. refl);
     given = given_same (Taken n) refl;
     moved = moves n (take n buf) bytes;
     began = λ t a early asks. asked_now input firsts events (Taken n) t a early tt asks;
-    ended = λ none room. nil_from_length before.left (omega arith);
+    ended = λ none room. nil_from_length before.left (ended none room);
     failed = tt;
   }
 
@@ -114,17 +115,16 @@ module _ (input : List ℕ) (firsts : FileName → List ℕ) (events : List Even
     failed = record { left = refl; taken = sym (append-nil before.taken) };
   }
 
-  pub gave : (bytes : List ℕ) → Gave before (after (Given bytes)) bytes (Ok (length bytes))
-  gave bytes =
-      let all = append-nil bytes ∙ sym (take_all (length bytes) bytes (omega arith)) in
-      record {
-        ticks = passes (Given bytes) (λ never. never);
-        files = same_files (Given bytes) (λ f. refl);
-        left = ap (λ k. drop k input) (taken_same (Given bytes) refl);
-        taken = ap (λ k. take k input) (taken_same (Given bytes) refl);
-        given = given_by-append events (Given bytes ∷ []) ∙ ap (λ l. given_by events ++ l) all;
-        failed = tt;
-      }
+  -- a give of the bytes' front
+  pub gave : (n : ℕ) (bytes front : List ℕ) → front ≡ take n bytes → Gave before (after (Given front)) bytes (Ok n)
+  gave n bytes front is = record {
+    ticks = passes (Given front) (λ never. never);
+    files = same_files (Given front) (λ f. refl);
+    left = ap (λ k. drop k input) (taken_same (Given front) refl);
+    taken = ap (λ k. take k input) (taken_same (Given front) refl);
+    given = given_by-append events (Given front ∷ []) ∙ ap (λ l. given_by events ++ l) (append-nil front ∙ is);
+    failed = tt;
+  }
 
   -- a call that only asks, or of which nothing came
   pub looked : LeavesAll before (after Looked)

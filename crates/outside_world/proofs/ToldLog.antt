@@ -1,7 +1,7 @@
 -- This file shows what a log that has noted one call more tells of it.
 use Rattle.std.proofs.Common.{◌≡◌, ℕ, ◌≤◌, List, length, take, drop, min, Ok}
-use Rattle.std.proofs.Common.{sym, ap, ◌∙◌, subst}
-use Rattle.std.proofs.lemmas.List.{take_min}
+use Rattle.std.proofs.Common.{sym, ap, ◌∙◌, subst, arith}
+use Rattle.std.proofs.lemmas.List.{take_min, take_all}
 use Rattle.outside_world.specs.declared.world.FileName.{FileName}
 use Rattle.outside_world.specs.Calls.{LeavesAll, Took, Gave, Sized, Read, Wrote, Synced}
 use Rattle.outside_world.specs.Events.{Taken, Given, Written, Flushed, Looked}
@@ -17,12 +17,12 @@ module _ (old new : Log) where
       → new ≡ with_event old (Taken n) → Took (log_view old) (log_view new) buf (Ok n)
   took_log n buf size bytes noted =
       subst (λ l. Took (log_view old) (log_view l) buf (Ok n)) (sym noted)
-      (told.took old.input (first_of old) old.calls n buf size bytes)
+      (told.took old.input (first_of old) old.calls n buf (λ none room. omega arith) bytes)
 
   pub gave_log : (bytes : List ℕ) → new ≡ with_event old (Given bytes) → Gave (log_view old) (log_view new) bytes (Ok (length bytes))
   gave_log bytes noted =
       subst (λ l. Gave (log_view old) (log_view l) bytes (Ok (length bytes))) (sym noted)
-      (told.gave old.input (first_of old) old.calls bytes)
+      (told.gave old.input (first_of old) old.calls (length bytes) bytes bytes (sym (take_all (length bytes) bytes (omega arith))))
 
   pub looked_log : new ≡ with_event old Looked → LeavesAll (log_view old) (log_view new)
   looked_log noted = subst (λ l. LeavesAll (log_view old) (log_view l)) (sym noted) (told.looked old.input (first_of old) old.calls)

@@ -15,6 +15,8 @@ pub record Memory : Type 0 where
   pub log : Log
   -- the numbers of the calls that fail, from 1
   pub failing : set.FinSet nat_cmp
+  -- how many bytes a take or a give moves at most
+  pub piece : ℕ
   -- how often a take, a give, and a call on a file have failed
   pub source_faults : ℕ
   pub sink_faults : ℕ
@@ -24,15 +26,20 @@ pub record Memory : Type 0 where
 abbrev pub memory_view : Memory → View
 memory_view m = log_view m.log
 
--- a world that has had no call
-abbrev pub fresh : (input a b failing : List ℕ) → Memory
-fresh input a b failing = record {
+-- a world that has had no call, and moves so many bytes at most
+abbrev pub fresh_in_pieces : (input a b failing : List ℕ) → ℕ → Memory
+fresh_in_pieces input a b failing piece = record {
   log = empty_log input a b;
   failing = set.from_list failing;
+  piece = piece;
   source_faults = 0;
   sink_faults = 0;
   disk_faults = 0;
 }
+
+-- a world that has had no call, and moves more bytes than any list in memory has
+abbrev pub fresh : (input a b failing : List ℕ) → Memory
+fresh input a b failing = fresh_in_pieces input a b failing (2 ^ 64 - 1)
 
 -- the next call is one of those that fail
 abbrev pub NextFails : Memory → Type 0
@@ -66,20 +73,28 @@ pub record Notes {T : Type 0} (old new : Memory) (done failed : Event) (with_fau
   pub noted : OnOk result (new ≡ with_call old done)
   pub fault : OnErr result ((new ≡ with_fault old) ⊎ (new ≡ with_fault (with_call old failed)))
 
+-- what of these bytes one call moves
+abbrev pub piece_of : Memory → List ℕ → List ℕ
+piece_of m bytes = take m.piece bytes
+
+-- what of the input one take moves
+abbrev pub next_piece : Memory → List ℕ
+next_piece m = piece_of m (memory_view m).left
+
 -- how many bytes a take with this much room takes
 abbrev pub taken_size : Memory → ℕ → ℕ
-taken_size m room = min room (length (memory_view m).left)
+taken_size m room = min room (length (next_piece m))
 
--- a take takes as much as is left and the buffer holds; one that fails takes nothing
+-- a take takes the next piece, as far as the buffer holds it; one that fails takes nothing
 pub record Takes (old new : Memory) (buf : List ℕ) (result : Result ℕ Failed) : Type 0 where
   pub notes : Notes old new (Taken (taken_size old (length buf))) (Taken 0) with_source_fault result
   pub size : IfOk result (λ n. n ≡ taken_size old (length buf))
-  pub bytes : IfOk result (λ n. take n buf ≡ take n (memory_view old).left)
+  pub bytes : IfOk result (λ n. take n buf ≡ take n (next_piece old))
 
--- a give gives all the bytes; one that fails gives none
+-- a give gives a piece of the bytes; one that fails gives none
 pub record Gives (old new : Memory) (bytes : List ℕ) (result : Result ℕ Failed) : Type 0 where
-  pub notes : Notes old new (Given bytes) Looked with_sink_fault result
-  pub whole : IfOk result (λ n. n ≡ length bytes)
+  pub notes : Notes old new (Given (piece_of old bytes)) Looked with_sink_fault result
+  pub size : IfOk result (λ n. n ≡ length (piece_of old bytes))
 
 -- the length of a file
 pub record Sizes (old new : Memory) (file : FileName) (result : Result ℕ Failed) : Type 0 where

@@ -6,8 +6,8 @@ ghost use Rattle.outside_world.specs.Events.{Looked};
 ghost use Rattle.outside_world.specs.Counts.{Rose};
 ghost use Rattle.outside_world.specs.History.{MayLeaveAfter};
 ghost use Rattle.outside_world.specs.Log.{first_of, left_by, file_then, crash_at};
-ghost use Rattle.outside_world.specs.Memory.{memory_view, fresh, Notes, Takes, Gives, Sizes, Reads, Writes};
-ghost use Rattle.outside_world.specs.Memory.{Syncs};
+ghost use Rattle.outside_world.specs.Memory.{memory_view, fresh, fresh_in_pieces, piece_of, next_piece};
+ghost use Rattle.outside_world.specs.Memory.{Notes, Takes, Gives, Sizes, Reads, Writes, Syncs};
 ghost use Rattle.outside_world.specs.Memory.{with_source_fault, with_sink_fault, with_disk_fault};
 ghost use Rattle.outside_world.specs.ViewLaws.{left_counts_now, left_only_now, none_asked_now};
 ghost use Rattle.outside_world.specs.ViewLaws.{reads_an_image_now, byte_by_byte_now};
@@ -22,11 +22,11 @@ use std::marker::Model;
 
 /// A world in memory. A call fails where its number is one of those that are to fail, and where
 /// memory runs out. Calls are numbered from 1; one that can't be noted for want of memory leaves its
-/// number to the next.
-#[derive(Drop)]
+/// number to the next. A take and a give move a piece at most.
 pub struct MemoryWorld {
     log: CallLog,
     failing: Vec<u64>,
+    piece: usize,
     source_faults: u64,
     sink_faults: u64,
     disk_faults: u64,
@@ -49,6 +49,20 @@ impl Model for MemoryWorld {
     ghost invariant = { Agrees };
 }
 
+// Written out, so that who lets go of a world makes one call. A derived one would be gone through at each place.
+impl Drop for MemoryWorld {
+    fn drop(self) {
+        let MemoryWorld {
+            log: _log,
+            failing: _failing,
+            piece: _,
+            source_faults: _,
+            sink_faults: _,
+            disk_faults: _,
+        } = self;
+    }
+}
+
 impl MemoryWorld {
     /// A world with this input and these two files. The calls with the numbers in `failing` fail.
     pub fn new(
@@ -60,11 +74,28 @@ impl MemoryWorld {
     ) -> Result<MemoryWorld, NoMemory>
         ensures fresh { IfOk result (λ w. w ≡ fresh input.items a.items b.items failing.items) }
     {
+        MemoryWorld::in_pieces(alloc, input, a, b, failing, usize::MAX)
+    }
+
+    /// The same, where a take and a give move so many bytes at most.
+    pub fn in_pieces(
+        alloc: Global,
+        input: Vec<u8>,
+        a: Vec<u8>,
+        b: Vec<u8>,
+        failing: Vec<u64>,
+        piece: usize,
+    ) -> Result<MemoryWorld, NoMemory>
+        requires some { 0 < piece }
+        ensures fresh { IfOk result (λ w.
+            w ≡ fresh_in_pieces input.items a.items b.items failing.items piece) }
+    {
         let mut ascending = failing;
         ascending.sort()?;
         Ok(MemoryWorld {
             log: CallLog::new(alloc, input, a, b)?,
             failing: ascending,
+            piece,
             source_faults: 0,
             sink_faults: 0,
             disk_faults: 0,
@@ -139,7 +170,7 @@ impl Outside for MemoryWorld {
             self.count_source_fault();
             return Err(Failed);
         }
-        let size = fill(buf, self.log.left());
+        let size = fill(buf, self.next_piece());
         match self.log.note_take(size) {
             Ok(()) => Ok(size),
             Err(NoMemory) => {
@@ -164,8 +195,9 @@ impl Outside for MemoryWorld {
             self.count_sink_fault();
             return Err(Failed);
         }
-        match self.log.note_give(bytes) {
-            Ok(()) => Ok(bytes.len()),
+        let piece = self.piece_of(bytes);
+        match self.log.note_give(piece) {
+            Ok(()) => Ok(piece.len()),
             Err(NoMemory) => {
                 self.count_sink_fault();
                 Err(Failed)
@@ -251,6 +283,21 @@ impl MemoryWorld {
     {
         let number = self.log.count() as u64 + 1;
         self.failing.binary_search(&number).is_ok()
+    }
+
+    // What of these bytes one call moves.
+    fn piece_of<'a>(&self, bytes: &'a [u8]) -> &'a [u8]
+        ensures { result.now ≡ piece_of self.now bytes.now }
+    {
+        let end = self.piece.min(bytes.len());
+        &bytes[..end]
+    }
+
+    // What of the input one take moves.
+    fn next_piece(&self) -> &[u8]
+        ensures { result.now ≡ next_piece self.now }
+    {
+        self.piece_of(self.log.left())
     }
 
     // Notes a call on a file that only asks.

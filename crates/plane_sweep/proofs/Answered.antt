@@ -1,9 +1,8 @@
 -- This file shows that what is counted in a status answers for both sides of a segment.
-use Rattle.std.proofs.Common.{◌≡◌, ◌↔◌, ℕ, ◌-◌, ◌<◌, ◌≤◌, Bool, true, false, not, cond, List, ◌∷◌, All, IsPermutation}
+use Rattle.std.proofs.Common.{◌≡◌, ◌↔◌, ℕ, ◌+◌, ◌-◌, ◌<◌, ◌≤◌, Bool, true, false, cond, List, ◌∷◌, All, IsPermutation}
 use Rattle.std.proofs.Common.{IsTrue, length, get_or, sym, ap, subst, arith, inl, inr, ◌∙◌}
 use Rattle.std.specs.Prelude.{◌%◌, count_by}
 use Rattle.std.specs.List.{AllByRecursion}
-use Rattle.std.specs.List.Sorted.{IsPartitionedBy}
 use Rattle.std.proofs.lemmas.Bool.{cases_Bool, cases_lt, true≢false}
 use Rattle.std.proofs.lemmas.List.Elements.{All-contains, Contains-get_or}
 use Rattle.std.proofs.lemmas.List.Sorted.{sum_by-IsPermutation}
@@ -11,9 +10,9 @@ use Rattle.grid_base.specs.Point.{GridPoint, IsBefore}
 use Rattle.grid_base.specs.Segment.{GridSegment}
 use Rattle.grid_base.specs.Border.{AreNoded, IsEvenBorder}
 use Rattle.grid_base.specs.Plane.{as_place}
-use Rattle.grid_base.specs.Odd.{is_strictly_above, AreSides}
+use Rattle.grid_base.specs.Odd.{is_strictly_above, AreSides, Odd}
 use Rattle.grid_base.specs.SideOf.{as_rational}
-use Rattle.grid_base.proofs.Elements.{Contains-here, Contains-later}
+use Rattle.grid_base.proofs.Elements.{Contains-here, Contains-later, same_place}
 use Rattle.grid_base.proofs.Orders.{is_segment}
 use Rattle.side_parity.specs.Middle.{differ, middle}
 use Rattle.side_parity.proofs.Answered.{slanted_answer, upright_answer}
@@ -27,7 +26,7 @@ use Rattle.plane_sweep.specs.Status.{AreUpward, HoldsAfter, IsPassed, IsRank}
 use Rattle.plane_sweep.specs.Events.{is_one}
 use Rattle.plane_sweep.proofs.Counts.{count-same, last_counted}
 use Rattle.plane_sweep.proofs.Halves.{half_place, strict_half}
-use Rattle.plane_sweep.proofs.Strictly.{above_counts, counted_holds, middle_holds, others_count_not, same_at_middle, upright_keeps}
+use Rattle.plane_sweep.proofs.Strictly.{above_counts, counted_holds, middle_holds, of_above_place, others_count_not, same_at_middle, upright_keeps}
 
 -- a truth that tells whether a count is odd
 parity_told : (b : Bool) (f : GridSegment → Bool) (xs : List GridSegment) (n : ℕ) → IsTrue b ↔ (n % 2 ≡ 1)
@@ -36,17 +35,53 @@ parity_told b f xs n h e =
     same_truth b (odd_count f xs) (λ t. odd_by_count f xs (subst (λ (m : ℕ). m % 2 ≡ 1) e (h.0 t)))
     (λ o. h.1 (subst (λ (m : ℕ). m % 2 ≡ 1) (sym e) (count_by_odd f xs o)))
 
--- ---- those strictly above the lesser end of a vertical segment stand last
-pub parted_upright : (p : GridPoint) (status : List GridSegment) → All (HoldsAfter p.x) status → AreUpward status
-    → IsPartitionedBy (λ t. not (is_strictly_above t (as_place (as_rational p)))) status
-parted_upright p status column upward i j d o within h = elim (cases_lt i j) [
-  | inr k ↦ (let same : j ≡ i = omega (arith, o, k) in subst (λ (n : ℕ). not (is_strictly_above (get_or status n d) (as_place (as_rational p))) ≡ true) same h)
-  | inl k ↦ elim (cases_Bool (is_strictly_above (get_or status i d) (as_place (as_rational p)))) [
-    | inr e ↦ ap not e
-    | inl e ↦ absurd (true≢false (sym h ∙ ap not (upright_keeps p (get_or status i d) (get_or status j d)
-        (column i d (omega (arith, k, within))) (column j d within) (upward i j d k within) e)))
-  ]
+-- ---- those strictly above a point stand last
+-- what stands after one that is strictly above the point is so too
+pub upright_after : (p : GridPoint) (status : List GridSegment) (m : ℕ) → All (HoldsAfter p.x) status → AreUpward status
+    → ((d : GridSegment) → is_strictly_above (get_or status m d) (as_place (as_rational p)) ≡ true)
+    → (i : ℕ) (d : GridSegment) → m ≤ i → i < length status
+    → is_strictly_above (get_or status i d) (as_place (as_rational p)) ≡ true
+upright_after p status m column upward h i d from to = elim (cases_lt m i) [
+  | inr o ↦ (let same : m ≡ i = omega (arith, o, from) in
+      subst (λ (j : ℕ). is_strictly_above (get_or status j d) (as_place (as_rational p)) ≡ true) same (h d))
+  | inl o ↦ upright_keeps p (get_or status m d) (get_or status i d) (column m d (omega (arith, o, to))) (column i d to)
+      (upward m i d o to) (h d)
 ]
+
+-- and what stands before one that isn't, isn't
+pub upright_before : (p : GridPoint) (status : List GridSegment) (m : ℕ) → All (HoldsAfter p.x) status → AreUpward status
+    → m < length status → ((d : GridSegment) → is_strictly_above (get_or status m d) (as_place (as_rational p)) ≡ false)
+    → (i : ℕ) (d : GridSegment) → i < m + 1 → is_strictly_above (get_or status i d) (as_place (as_rational p)) ≡ false
+upright_before p status m column upward within h i d to =
+    elim (cases_Bool (is_strictly_above (get_or status i d) (as_place (as_rational p)))) [
+      | inr e ↦ e
+      | inl e ↦ absurd (true≢false (sym (upright_after p status i column upward
+          (λ u. ap (λ t. is_strictly_above t (as_place (as_rational p))) (same_place status i u d (omega (arith, to, within))) ∙ e)
+          m d (omega (arith, to)) within) ∙ h d))
+    ]
+
+pub odd_above : (p : GridPoint) (status : List GridSegment) (k n : ℕ) (odd : Bool) → k ≤ length status
+    → ((i : ℕ) (d : GridSegment) → i < k → is_strictly_above (get_or status i d) (as_place (as_rational p)) ≡ false)
+    → ((i : ℕ) (d : GridSegment) → k ≤ i → i < length status
+    → is_strictly_above (get_or status i d) (as_place (as_rational p)) ≡ true)
+    → n ≡ length status - k → IsTrue odd ↔ (n % 2 ≡ 1) → IsTrue odd ↔ Odd status (as_place (as_rational p))
+odd_above p status k n odd within before after e told =
+    let last = last_counted (λ t. is_strictly_above t (as_place (as_rational p))) status k within before after in
+    subst (λ (m : ℕ). IsTrue odd ↔ (m % 2 ≡ 1)) (omega (arith, e, last)) told
+
+-- what is strictly above the point holds the column right of it, and so is passed
+point_holds : (p : GridPoint) (t : GridSegment) → is_strictly_above t (as_place (as_rational p)) ≡ true → HoldsAfter p.x t
+point_holds p t h =
+    let e = of_above_place t (as_rational p) h in
+    let f = e.0 in
+    let g = e.1 in
+    record { from = omega (arith, f); to = omega (arith, g) }
+
+pub point_told : (B status : List GridSegment) (p : GridPoint) (odd : Bool) → IsPassed p.x B status
+    → IsTrue odd ↔ Odd status (as_place (as_rational p)) → IsTrue odd ↔ Odd B (as_place (as_rational p))
+point_told B status p odd passed told =
+    subst (λ (m : ℕ). IsTrue odd ↔ (m % 2 ≡ 1))
+    (passed (λ t. is_strictly_above t (as_place (as_rational p))) (λ t h. point_holds p t h)) told
 
 -- ---- the answers
 -- what is known of a status and of the border that it is of
@@ -104,33 +139,25 @@ rising : (s : GridSegment) → IsBefore s.a s.b → s.b.x ≤ s.a.x → (s.b.x �
 rising s (inl h) narrow = absurd (omega (arith, h, narrow))
 rising s (inr h) narrow = (sym h.0, h.1)
 
-upright_odd : (B status : List GridSegment) (s : GridSegment) (k n : ℕ) (odd : Bool) → AreKnown B status s
-    → s.b.x ≤ s.a.x → k ≤ length status
-    → ((i : ℕ) (d : GridSegment) → i < k → is_strictly_above (get_or status i d) (as_place (as_rational s.a)) ≡ false)
-    → ((i : ℕ) (d : GridSegment) → k ≤ i → i < length status
-    → is_strictly_above (get_or status i d) (as_place (as_rational s.a)) ≡ true)
-    → n ≡ length status - k → IsTrue odd ↔ (n % 2 ≡ 1) → odd ≡ is_odd B (as_place (middle s))
-upright_odd B status s k n odd known narrow within before after e told =
+upright_odd : (B status : List GridSegment) (s : GridSegment) (odd : Bool) → AreKnown B status s → s.b.x ≤ s.a.x
+    → IsTrue odd ↔ Odd status (as_place (as_rational s.a)) → odd ≡ is_odd B (as_place (middle s))
+upright_odd B status s odd known narrow told =
     let up = rising s known.first narrow in
     let at_end : GridSegment → Bool = λ t. is_strictly_above t (as_place (as_rational s.a)) in
     let at_middle : GridSegment → Bool = λ t. is_strictly_above t (as_place (middle s)) in
-    let last = last_counted at_end status k within before after in
     let same = count-same at_end at_middle status (λ t c. same_at_middle (s ∷ status) t s (meet_noded (s ∷ status) known.status_noded)
     (Contains-later s status t c) (Contains-here s status) (All-contains (HoldsAfter s.a.x) status t known.column c) up.0 up.1) in
     let whole = known.passed at_middle (λ t h. middle_holds t s up.0 h) in
-    parity_told odd at_middle B n told (omega (arith, e, last, same, whole))
+    parity_told odd at_middle B (count_by at_end status) told (same ∙ whole)
 
-pub upright_told : (B status copied : List GridSegment) (s : GridSegment) (k n m : ℕ) (odd own other : Bool)
-    → AreKnown B status s → s.b.x ≤ s.a.x → IsPermutation B copied → k ≤ length status
-    → ((i : ℕ) (d : GridSegment) → i < k → is_strictly_above (get_or status i d) (as_place (as_rational s.a)) ≡ false)
-    → ((i : ℕ) (d : GridSegment) → k ≤ i → i < length status
-    → is_strictly_above (get_or status i d) (as_place (as_rational s.a)) ≡ true)
-    → n ≡ length status - k → IsTrue odd ↔ (n % 2 ≡ 1) → m ≡ count_by (is_one s) copied → IsTrue own ↔ (m % 2 ≡ 1)
+pub upright_told : (B status copied : List GridSegment) (s : GridSegment) (m : ℕ) (odd own other : Bool)
+    → AreKnown B status s → s.b.x ≤ s.a.x → IsPermutation B copied
+    → IsTrue odd ↔ Odd status (as_place (as_rational s.a)) → m ≡ count_by (is_one s) copied → IsTrue own ↔ (m % 2 ≡ 1)
     → other ≡ differ odd own → AreSides B s (record { left = other; right = odd })
-upright_told B status copied s k n m odd own other known narrow moved within before after e told f own_odd r =
+upright_told B status copied s m odd own other known narrow moved told f own_odd r =
     upright_answer B s odd own other known.noded known.even known.first
     (record {
-      odd_number = upright_odd B status s k n odd known narrow within before after e told;
+      odd_number = upright_odd B status s odd known narrow told;
       own_number = own_told B copied s own m moved own_odd f;
       ordered = known.ordered;
     }) r narrow

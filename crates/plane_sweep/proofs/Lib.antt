@@ -22,5 +22,7 @@ pub mod Copied
 pub mod Answered
 -- what is known at an event
 pub mod Reached
+-- marks, segments in the columns of points
+pub mod Marked
 -- what the calls at an event ask, and what stays so
 pub mod Loops

@@ -9,13 +9,10 @@ use Rattle.std.proofs.lemmas.Bool.{cases_lt}
 use Rattle.std.proofs.lemmas.List.Elements.{Contains-append_left, Contains-append_right, Contains-get_or}
 use Rattle.std.proofs.lemmas.List.Sums.{count_by-le-length}
 use Rattle.grid_base.specs.Border.{AreNoded}
-use Rattle.grid_base.specs.Odd.{AreSides}
 use Rattle.grid_base.specs.Segment.{GridSegment}
-use Rattle.grid_base.specs.declared.kinds.Sides.{Sides}
 use Rattle.grid_base.proofs.Elements.{Contains-cases, Contains-here, same_place}
 use Rattle.grid_base.proofs.Turns.{times_le}
 use Rattle.plane_sweep.specs.Digits.{HasBinaryDigits}
-use Rattle.plane_sweep.specs.Told.{AreAllSides}
 use Rattle.plane_sweep.specs.Status.{HaveColumn, HoldsAfter}
 use Rattle.plane_sweep.specs.Events.{AreEvents, Asks, IsAt, ends_by, event_cmp, is_end, is_wide, starts_by, turn_number}
 use Rattle.plane_sweep.specs.declared.events.Event.{Event}
@@ -55,16 +52,19 @@ pub at_turn : (border list : List GridSegment) (done : List Event) (e : Event) (
 at_turn border list done e rest status h t is =
     placed border list done e rest status h e (Contains-append_right done (e ∷ rest) e (Contains-here e rest)) t is
 
+pub noded_border : (border list : List GridSegment) → AreNoded (border ++ list) → AreNoded border
+noded_border border list noded = noded_part (border ++ list) border (λ t c. Contains-append_left border list t c) noded
+
 pub noded_end : (border list : List GridSegment) (done : List Event) (e : Event) (rest : List Event) (status : List GridSegment)
-    → AreNoded (border ++ list) → IsEvent border list done e rest status → AreNoded status
-noded_end border list done e rest status noded h = noded_part (border ++ list) status (there border list done e rest status h) noded
+    → AreNoded border → IsEvent border list done e rest status → AreNoded status
+noded_end border list done e rest status noded h =
+    noded_part border status (λ t c. (columns border list done e rest status h t c).among) noded
 
 pub noded_start : (border list : List GridSegment) (done : List Event) (e : Event) (rest : List Event) (status : List GridSegment)
-    → AreNoded (border ++ list) → IsEvent border list done e rest status → e.turn ≡ Start → AreNoded (e.segment ∷ status)
+    → AreNoded border → IsEvent border list done e rest status → e.turn ≡ Start → AreNoded (e.segment ∷ status)
 noded_start border list done e rest status noded h is =
-    noded_with (border ++ list) status e.segment
-    (Contains-append_left border list e.segment (at_turn border list done e rest status h Start is).2)
-    (there border list done e rest status h) noded
+    noded_with border status e.segment (at_turn border list done e rest status h Start is).2
+    (λ t c. (columns border list done e rest status h t c).among) noded
 
 asked_there : (border list : List GridSegment) (e : Event) → IsAt border list e Ask → Contains (border ++ list) e.segment
 asked_there border list e at = Contains-append_right border list e.segment (e.index, at.1, sym at.2)
@@ -126,10 +126,10 @@ status_length border list done e rest status h =
     )
 
 -- ---- the answers
--- the k-th of the list is asked for, or answered
-abbrev pub IsDone : List GridSegment → List GridSegment → List Event → List Sides → ℕ → Type 0
-IsDone border list rest answers k =
-    Any (Asks k) rest ⊎ ((d : GridSegment) (r : Sides) → AreSides border (get_or list k d) (get_or answers k r))
+-- the k-th of the list is asked for, or answered so that R holds
+abbrev pub IsDone : {X Y : Type 0} → (X → Y → Type 0) → List X → List Event → List Y → ℕ → Type 0
+IsDone {X} {Y} R list rest answers k =
+    Any (Asks k) rest ⊎ ((d : X) (r : Y) → R (get_or list k d) (get_or answers k r))
 
 any_cases : (P : Event → Type 0) (e : Event) (rest : List Event) → Any P (e ∷ rest) → P e ⊎ Any P rest
 any_cases P e rest (k, d, within, at, p) = elim (Contains-cases e rest d (k, within, at)) [
@@ -140,34 +140,33 @@ any_cases P e rest (k, d, within, at, p) = elim (Contains-cases e rest d (k, wit
 other_turn : (t : Turn) → t ≡ Ask → 2 ≤ turn_number t
 other_turn t is = let n = ap turn_number is in omega (arith, n)
 
-pub done_still : (border list : List GridSegment) (e : Event) (rest : List Event) (answers : List Sides) (k : ℕ)
-    → turn_number e.turn < 2 → IsDone border list (e ∷ rest) answers k → IsDone border list rest answers k
-done_still border list e rest answers k other (inr h) = inr h
-done_still border list e rest answers k other (inl h) = elim (any_cases (Asks k) e rest h) [
+pub done_still : {X Y : Type 0} (R : X → Y → Type 0) (list : List X) (e : Event) (rest : List Event) (answers : List Y) (k : ℕ)
+    → turn_number e.turn < 2 → IsDone R list (e ∷ rest) answers k → IsDone R list rest answers k
+done_still R list e rest answers k other (inr h) = inr h
+done_still R list e rest answers k other (inl h) = elim (any_cases (Asks k) e rest h) [
   | inl now ↦ absurd (let n = other_turn e.turn now.0 in omega (arith, n, other))
   | inr later ↦ inl later
 ]
 
-same_sides : (border list : List GridSegment) (s : GridSegment) (answers : List Sides) (i k : ℕ) (answer : Sides) → i ≡ k
-    → i < length list → i < length answers → s ≡ get_or list i s → AreSides border s answer → (d : GridSegment) (r : Sides)
-    → AreSides border (get_or list k d) (get_or (set answers i answer) k r)
-same_sides border list s answers i k answer same inside within is told d r =
-    subst (λ (j : ℕ). AreSides border (get_or list j d) (get_or (set answers i answer) j r)) same
-    (rw (get_or-set_same, sym (is ∙ same_place list i s d inside)) told)
+answered_so : {X Y : Type 0} (R : X → Y → Type 0) (list : List X) (x : X) (answers : List Y) (i k : ℕ) (answer : Y) → i ≡ k
+    → i < length list → i < length answers → x ≡ get_or list i x → R x answer → (d : X) (r : Y)
+    → R (get_or list k d) (get_or (set answers i answer) k r)
+answered_so R list x answers i k answer same inside within is told d r =
+    subst (λ (j : ℕ). R (get_or list j d) (get_or (set answers i answer) j r)) same
+    (rw (get_or-set_same, sym (is ∙ same_place list i x d inside)) told)
 
-pub done_answered : (border list : List GridSegment) (e : Event) (rest : List Event) (answers : List Sides) (answer : Sides) (k : ℕ)
-    → e.index < length list → e.index < length answers → e.segment ≡ get_or list e.index e.segment
-    → AreSides border e.segment answer → IsDone border list (e ∷ rest) answers k
-    → IsDone border list rest (set answers e.index answer) k
-done_answered border list e rest answers answer k inside within is told (inl h) = elim (any_cases (Asks k) e rest h) [
-  | inl now ↦ inr (same_sides border list e.segment answers e.index k answer now.1 inside within is told)
+pub done_answered : {X Y : Type 0} (R : X → Y → Type 0) (list : List X) (x : X) (e : Event) (rest : List Event) (answers : List Y)
+    (answer : Y) (k : ℕ) → e.index < length list → e.index < length answers → x ≡ get_or list e.index x → R x answer
+    → IsDone R list (e ∷ rest) answers k → IsDone R list rest (set answers e.index answer) k
+done_answered R list x e rest answers answer k inside within is told (inl h) = elim (any_cases (Asks k) e rest h) [
+  | inl now ↦ inr (answered_so R list x answers e.index k answer now.1 inside within is told)
   | inr later ↦ inl later
 ]
-done_answered border list e rest answers answer k inside within is told (inr h) = elim (cases_lt k e.index) [
+done_answered R list x e rest answers answer k inside within is told (inr h) = elim (cases_lt k e.index) [
   | inl l ↦ inr (λ d r. let other : k ≢ e.index = omega arith in rw get_or-set_other (h d r))
   | inr l ↦ elim (cases_lt e.index k) [
     | inl m ↦ inr (λ d r. let other : k ≢ e.index = omega arith in rw get_or-set_other (h d r))
-    | inr m ↦ inr (same_sides border list e.segment answers e.index k answer (omega (arith, l, m)) inside within is told)
+    | inr m ↦ inr (answered_so R list x answers e.index k answer (omega (arith, l, m)) inside within is told)
   ]
 ]
 
@@ -179,10 +178,10 @@ zip_by R (x ∷ xs) [] e h = absurd (omega (arith, e))
 zip_by R (x ∷ xs) (y ∷ ys) e h =
     (h zero x y (omega arith), zip_by R xs ys (omega (arith, e)) (λ k d r l. h (suc k) d r (omega (arith, l))))
 
-pub all_told : (border list : List GridSegment) (answers : List Sides) → length answers ≡ length list
-    → ((k : ℕ) → k < length list → IsDone border list [] answers k) → AreAllSides border list answers
-all_told border list answers e h =
-    zip_by (AreSides border) list answers e (λ k d r l. elim (h k l) [ inl none ↦ absurd (let n = none.2 in omega (arith, n)) | inr told ↦ told d r ])
+pub all_told : {X Y : Type 0} (R : X → Y → Type 0) (list : List X) (answers : List Y) → length answers ≡ length list
+    → ((k : ℕ) → k < length list → IsDone R list [] answers k) → AllZip R list answers
+all_told R list answers e h =
+    zip_by R list answers e (λ k d r l. elim (h k l) [ inl none ↦ absurd (let n = none.2 in omega (arith, n)) | inr told ↦ told d r ])
 
 -- ---- the steps
 pub step_more : (i k now next old : ℕ) → now ≤ old + i * k → next ≤ now + k → next ≤ old + (i + 1) * k
@@ -201,11 +200,11 @@ now_at border list events items i e status same all sorted within is balanced =
     at_event border list items i e status (subst (AreEvents border list (length list)) (sym same) all)
     (subst (IsSorted event_cmp) (sym same) sorted) within is balanced
 
-pub told_at : (border list : List GridSegment) (items : List Event) (i : ℕ) (e : Event) (answers : List Sides) (k : ℕ)
-    → i < length items → e ≡ get_or items i e → IsDone border list (drop i items) answers k
-    → IsDone border list (e ∷ drop (i + 1) items) answers k
-told_at border list items i e answers k within is h =
-    subst (λ l. IsDone border list l answers k) (sym (rest_at items i e within is)) h
+pub told_at : {X Y : Type 0} (R : X → Y → Type 0) (list : List X) (items : List Event) (i : ℕ) (e : Event) (answers : List Y)
+    (k : ℕ) → i < length items → e ≡ get_or items i e → IsDone R list (drop i items) answers k
+    → IsDone R list (e ∷ drop (i + 1) items) answers k
+told_at R list items i e answers k within is h =
+    subst (λ l. IsDone R list l answers k) (sym (rest_at items i e within is)) h
 
 pub none_yet : (f : GridSegment → Bool) (border : List GridSegment) (items : List Event)
     → starts_by f items ≡ count_by (λ t. is_wide t && f t) border → ends_by f items ≡ count_by (λ t. is_wide t && f t) border

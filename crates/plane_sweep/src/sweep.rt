@@ -1,14 +1,12 @@
 //! The sweep. A side of a segment is the parity of the segments of the border above one place of it.
-ghost use Rattle.std.specs.Prelude.{◌≡◌, ◌↔◌, ℕ, ◌+◌, ◌*◌, ◌%◌, ◌^◌, ◌<◌, ◌≤◌, ◌++◌, ◌∷◌, true, false, List, All};
-ghost use Rattle.std.specs.Prelude.{IfOk, IsTrue, IsPermutation, length, slice_index_or};
+ghost use Rattle.std.specs.Prelude.{◌≡◌, ◌↔◌, ℕ, ◌+◌, ◌*◌, ◌^◌, ◌<◌, ◌≤◌, ◌++◌, ◌∷◌, List, All};
+ghost use Rattle.std.specs.Prelude.{IfOk, IsPermutation, length};
 ghost use Rattle.std.specs.List.{AllByRecursion};
 ghost use Rattle.std.specs.List.Sorted.{IsSorted};
 ghost use Rattle.grid_base.specs.Point.{IsBefore};
 ghost use Rattle.grid_base.specs.Segment.{GridSegment, segment_cmp};
 ghost use Rattle.grid_base.specs.Border.{AreNoded, IsEvenBorder};
-ghost use Rattle.grid_base.specs.Plane.{as_place};
-ghost use Rattle.grid_base.specs.Odd.{is_strictly_above, AreSides};
-ghost use Rattle.grid_base.specs.SideOf.{as_rational};
+ghost use Rattle.grid_base.specs.Odd.{AreSides};
 ghost use Rattle.plane_sweep.specs.Status.{HoldsAfter, AreUpward, IsPassed};
 ghost use Rattle.side_parity.specs.Middle.{differ};
 ghost use Rattle.plane_sweep.specs.Digits.{HasBinaryDigits};
@@ -17,11 +15,12 @@ ghost use Rattle.plane_sweep.specs.Told.{AreAllSides};
 use crate::copies::{copies, sorted};
 use crate::events::{Turn, all_events};
 use crate::order::{Order, Plain};
-use crate::status::{put_in, rank, take_out};
-use grid_base::{NoMemory, Segment, Sides, Steps, above_at};
+use crate::status::{is_odd, is_odd_at, put_in, rank, take_out};
+use grid_base::{NoMemory, Segment, Sides, Steps};
 use std::alloc::Global;
 use std::marker::Brand;
 use std::sync::ledger::{Blank, Ledger};
+use tiered_vector::TieredVector;
 
 /// The sides of each segment of the list, in order, as `sides` tells them one by one. A step is one call of
 /// `order_at`.
@@ -85,7 +84,7 @@ pub fn all_sides_by<O: Order, L: Ledger>(
 {
     let events = all_events(alloc, border, list)?;
     let copied = sorted(alloc, border)?;
-    let mut status = Vec::new(alloc);
+    let mut status = TieredVector::new(alloc);
     let mut answers = unanswered(alloc, list.len())?;
     for event in &events {
         let s = &event.segment;
@@ -112,7 +111,7 @@ fn unanswered(alloc: Global, n: usize) -> Result<Vec<Sides>, NoMemory>
 // The sides of `s`, by the status in its column and the segments of the border in order.
 fn answer<O: Order, L: Ledger>(
     order: &O,
-    status: &[Segment],
+    status: &TieredVector<Segment>,
     copied: &[Segment],
     s: &Segment,
     steps: &mut Steps<L>,
@@ -134,32 +133,12 @@ fn answer<O: Order, L: Ledger>(
             right: changed(odd, own),
         }
     } else {
-        let odd = is_odd(status.len() - upright_rank(status, s));
+        let odd = is_odd_at(status, &s.a());
         Sides {
             left: changed(odd, own),
             right: odd,
         }
     }
-}
-
-// How many of the status aren't above the lesser end of `s`, which is vertical. They stand first.
-fn upright_rank(status: &[Segment], s: &Segment) -> usize
-    requires column { All (HoldsAfter s.now.a.x) status.now }
-    requires upward { AreUpward status.now }
-    ensures within { result ≤ length status.now }
-    ensures before { (i : ℕ) (d : GridSegment) → i < result
-        → is_strictly_above (slice_index_or status.now i d) (as_place (as_rational s.now.a)) ≡ false }
-    ensures after { (i : ℕ) (d : GridSegment) → result ≤ i → i < length status.now
-        → is_strictly_above (slice_index_or status.now i d) (as_place (as_rational s.now.a)) ≡ true }
-{
-    let end = s.a();
-    status.partition_point(|t| !above_at(t, &end))
-}
-
-fn is_odd(n: usize) -> bool
-    ensures { IsTrue result ↔ (n % 2 ≡ 1) }
-{
-    n % 2 == 1
 }
 
 // Whether just one of the two is so.

@@ -1,20 +1,21 @@
 -- This file shows that a region has as many faces as there are numbers on the odd sides of its border.
-use Rattle.std.proofs.Common.{◌≡◌, ◌↔◌, ℕ, suc, ◌<◌, List, [], ◌∷◌, Contains, AllPairs, length}
+use Rattle.std.proofs.Common.{◌≡◌, ◌↔◌, ℕ, suc, ◌<◌, List, [], ◌∷◌, Contains, AllPairs, length, slice_index}
 use Rattle.std.proofs.Common.{refl, sym, ap, subst, ◌∙◌, inl, inr, arith}
 use Rattle.std.proofs.lemmas.List.Kept.{AllPairs-cons}
 use Rattle.std.proofs.lemmas.List.Elements.{Contains-get_or}
 use Rattle.grid_base.specs.Segment.{GridSegment}
 use Rattle.grid_base.specs.Plane.{Place}
 use Rattle.grid_base.specs.Odd.{Odd}
-use Rattle.grid_base.proofs.Elements.{Contains-here, Contains-later, Contains-cases, Contains-nil}
+use Rattle.grid_base.proofs.Elements.{Contains-here, Contains-later, Contains-cases, Contains-nil, same_place}
 use Rattle.plane_classes.specs.Classes.{AreInOneClass, IsOuter}
 use Rattle.plane_classes.proofs.ClassLemmas.{one_class_joined}
 use Rattle.plane_cells.specs.Numbered.{numbered}
-use Rattle.plane_cells.specs.ClassNumbers.{AreClassNumbers}
+use Rattle.plane_cells.specs.ClassNumbers.{number_at, AreClassNumbers}
 use Rattle.plane_cells.specs.declared.classes.SideClasses.{SideClasses}
 use Rattle.plane_cells.proofs.ShearedSides.{free_beside}
 use Rattle.r_faces.specs.Faces.{IsNumberOfFaces}
 use Rattle.r_faces.specs.OddNumbers.{IsOddOf, AreOddNumbers}
+use Rattle.r_faces.specs.Rims.{AreOddSides}
 
 -- ---- one odd place for each number
 record HasPlaces (B : List GridSegment) (numbers : List SideClasses) (ns : List ℕ) : Type 0 where
@@ -66,6 +67,28 @@ has_places B numbers (n ∷ ns) classes ascending some =
           absurd (omega (arith, same, ascending_head n ns ascending f.0 f.1)))
           rest.apart;
     }
+
+-- ---- a side of each segment is odd
+pub by_sides : (B : List GridSegment) (numbers : List SideClasses) (k : ℕ) (list : List ℕ) → AreOddSides B numbers k list
+    → AreOddNumbers B numbers k list
+by_sides B numbers k list sides = record {
+  only = λ n there.
+      (let has = sides.each there.0 (subst (λ m. there.0 < m) sides.one_each there.1) in (
+        has.place,
+        record {
+          place = there.0;
+          side = has.side;
+          lies = has.lies;
+          odd = has.odd;
+          number = sym there.2 ∙ same_place list there.0 n 0 there.1 ∙ has.is;
+        },
+      ));
+  all = λ i d q below lies odd.
+      (let has = sides.each i below in
+      let within = subst (λ m. i < m) (sym sides.one_each) below in
+      let is : slice_index list i ≡ number_at numbers i d = has.is ∙ ap (number_at numbers i) (sym (has.only d q lies odd)) in
+      (i, within, same_place list i _ 0 within ∙ is));
+}
 
 -- ---- the faces
 pub faces_by_numbers : (B : List GridSegment) (numbers : List SideClasses) (list ns : List ℕ) → AreClassNumbers B numbers

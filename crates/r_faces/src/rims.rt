@@ -36,7 +36,7 @@ pub(crate) fn rims_of(alloc: Global, border: &[Segment]) -> Result<Vec<Vec<Segme
 }
 
 // For each segment the number of the class on its odd side.
-fn odd_sides(
+pub(crate) fn odd_sides(
     alloc: Global,
     border: &[Segment],
     classes: &[SideClasses],

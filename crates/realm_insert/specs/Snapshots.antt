@@ -44,8 +44,8 @@ pub record IsValidState (s : State) : Type 0 where
   pub points_ascend : AllPairs IsBefore s.drawing.points
   pub ids_rise : IsAscending s.drawing.originals
   pub ids : HasIdsBelow s.next_id s.drawing
-  -- each chain may stand for its original: it leads from the lesser end to the greater, no two neighbours are one point, it is
-  -- monotone in both axes, and each of its pieces is close to the original or one of the two of a corner
+  -- each chain may stand for its original: from the lesser end to the greater, with no point twice in a row and never back in x
+  -- or in y, by links that are close to the original but for the two of a corner
   pub chains : AllValid s.drawing
   pub realm : IsDrawnRealm s.drawing
   -- names are those of lines, no two are equal, and the parts of each value ascend and are there, those of a region even at

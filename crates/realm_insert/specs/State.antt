@@ -12,7 +12,7 @@ pub record KeptTrace : Type 0 where
 abbrev pub kept_trace : ℕ → List Step → KeptTrace
 kept_trace number steps = record { number = number; steps = steps }
 
--- the drawing, the next id, the number of accepted changes, and the traces of the last of them
+-- what is drawn, the id to come, what has a name, how many changes were accepted, and the latest traces
 pub record State : Type 0 where
   pub drawing : Drawing
   pub next_id : ℕ

@@ -66,8 +66,8 @@ impl Model for Kept {
     ghost view = { λ k. record { number = k.number; steps = k.trace } };
 }
 
-/// The state, and what makes it fast. While it isn't spent its drawing is a realm.
-#[derive(Drop)]
+/// The state, and what makes it fast. While it isn't spent its drawing is a realm. It is let go of by one call: what is in
+/// it isn't gone through again wherever a function that owns one ends.
 pub struct Engine {
     alloc: Global,
     drawing: Drawing,
@@ -97,6 +97,21 @@ impl Model for Engine {
     } };
 
     ghost invariant = { λ e. IsKept e.spent e.drawing e.index e.table e.next_id e.changes e.traces.items };
+}
+
+impl Drop for Engine {
+    fn drop(self) {
+        let Engine {
+            alloc: _,
+            drawing: _drawing,
+            index: _index,
+            table: _table,
+            next_id: _,
+            changes: _,
+            traces: _traces,
+            spent: _,
+        } = self;
+    }
 }
 
 impl Engine {

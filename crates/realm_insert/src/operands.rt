@@ -1,4 +1,4 @@
-//! What an operator is applied to: both values are those of one drawing, so their segments together are those of a realm.
+//! What an operator is applied to: both values come from one drawing, so all their segments form one realm.
 ghost use Rattle.std.specs.Prelude.{◌≡◌, false, IfOk, MatchOption};
 ghost use Rattle.std.specs.Option.{option_copied};
 ghost use Rattle.realm_insert.specs.Operands.{LacksOperand, AreOperands};
@@ -9,11 +9,19 @@ use grid_base::NoMemory;
 use line_grammar::Name;
 use rose_values::Geometry;
 
-/// What the values that an operator takes are made of.
-#[derive(Drop)]
+/// What the values that an operator takes are made of. They are let go of by one call.
 pub struct Operands {
     pub first: Geometry,
     pub second: Option<Geometry>,
+}
+
+impl Drop for Operands {
+    fn drop(self) {
+        let Operands {
+            first: _first,
+            second: _second,
+        } = self;
+    }
 }
 
 /// What the values with these names are made of at present; none where one of the names is no value's. Only the chains

@@ -12,7 +12,7 @@ pub enum Refusal {
     /// A coordinate is 2^28 or more.
     #[error("a coordinate is off the grid")]
     Range,
-    /// A list of `lines` has under two points, or one of `regions` under three.
+    /// A list is too short: one of `lines` takes two points, one of `regions` three.
     #[error("a list is too short")]
     Shape,
     /// The two ends of a segment, or two neighbours of a list, are one point.

@@ -22,7 +22,7 @@ pub(crate) fn generation_of(place: Option<Place>) -> u64
     }
 }
 
-/// The file that isn't the newest; file A where none counts.
+/// Where the next generation goes: to the other file than the newest, and to file A where none counts.
 pub(crate) fn next_file(place: Option<Place>) -> FileName
     ensures { result ≡ next_file place }
 {

@@ -35,8 +35,8 @@ pub(crate) const NO_PLACE: u64 = 2_305_843_009_213_693_952;
 // No generation has a greater number than this, 2^63.
 const LAST_GENERATION: u64 = 9_223_372_036_854_775_808;
 
-/// The state, and where its next record will stand. Between two calls the files stand for the state.
-#[derive(Drop)]
+/// The state, and where its next record will stand. Between two calls the files stand for the state. It is let go of by
+/// one call, as its engine is.
 pub struct Store {
     alloc: Global,
     engine: Engine,
@@ -57,6 +57,18 @@ impl Model for Store {
     } };
 
     ghost invariant = { λ s. s.spent ≡ false → s.engine.spent ≡ false };
+}
+
+impl Drop for Store {
+    fn drop(self) {
+        let Store {
+            alloc: _,
+            engine: _engine,
+            place: _,
+            has_gate: _,
+            spent: _,
+        } = self;
+    }
 }
 
 impl Store {

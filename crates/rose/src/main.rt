@@ -1,20 +1,10 @@
 //! The program `rose`: hands its words and the real world to the shell, and says how it ended.
 #![tactic(auto)]
 
-mod file_world;
-mod message;
-mod performing;
-mod real_file;
-#[cfg(test)]
-mod tests;
-mod words;
-
-use file_world::FileWorld;
-use message::say;
-use performing::{exit_of, perform};
+use process_run::{exit_of, perform, say};
+use process_world::{FileWorld, words_of};
 use rose_shell::Status;
 use std::process::ExitCode;
-use words::words_of;
 
 fn main(rt: HostRuntime) -> ExitCode {
     let copied: Result<HostRuntime, _> = rt.clone();

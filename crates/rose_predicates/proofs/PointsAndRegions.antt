@@ -1,8 +1,8 @@
 -- This file shows that a grid point is odd for a border as its place is, however the place is written, and how points lie to a region.
-use Rattle.std.proofs.Common.{◌≡◌, ◌⊎◌, ◌↔◌, ℕ, ◌*◌, ◌<◌, ◌&&◌, ltb, List, [], ◌∷◌, All, Contains, pos, refl, sym, ap}
+use Rattle.std.proofs.Common.{◌≡◌, ◌⊎◌, ◌↔◌, ℕ, ◌*◌, ◌<◌, Bool, ◌&&◌, ltb, IsTrue, List, [], ◌∷◌, All, Contains, pos, refl, sym, ap}
 use Rattle.std.proofs.Common.{◌∙◌, arith, inl, inr}
 use Rattle.std.specs.Prelude.{int_le, int_lt}
-use Rattle.std.specs.List.{Any}
+use Rattle.std.specs.List.{Any, zip}
 use Rattle.std.proofs.lemmas.Bool.{cases_lt}
 use Rattle.std.proofs.lemmas.Int.{ints}
 use Rattle.grid_base.specs.Point.{GridPoint}
@@ -22,11 +22,12 @@ use Rattle.side_parity.proofs.Regions.{is_odd}
 use Rattle.side_parity.proofs.Ways.{ltb_same}
 use Rattle.plane_classes.proofs.Heights.{le_yes, le_no, lt_yes, lt_no}
 use Rattle.plane_classes.proofs.OverTests.{scaled, scaled_less}
+use Rattle.plane_sweep.specs.Told.{AreOddPoints}
 use Rattle.rose_overlay.specs.Parting.{AreOrdered}
 use Rattle.rose_overlay.proofs.Parted.{is_odd_by, odd_is}
 use Rattle.rose_predicates.specs.Predicates.{AreOutside, IsInside, ShareAPoint}
 use Rattle.rose_predicates.proofs.GridPoints.{grid_place, at_itself, is_one_of, end_held, held_at_end}
-use Rattle.rose_predicates.proofs.Truths.{each, of_each, some, of_some}
+use Rattle.rose_predicates.proofs.Truths.{each, of_each, pairs_each, pairs_some, some, of_some}
 
 -- ---- one place, w times over
 abbrev over : ℕ → GridPoint → RationalPoint
@@ -113,3 +114,25 @@ points_touch_region A B vertices outside ordered ends = (
       (let at = shared.1.there in
       some (IsEndOrOdd B vertices) A at.0 at.1 (end_or_odd A B vertices at.0 shared.0 outside ends at.1 at.2 shared.2)),
 )
+
+-- ---- points of which it is told whether they are odd
+-- the point is an end of the border, or told to be odd
+abbrev pub IsEndOrTold : List GridPoint → GridPoint × Bool → Type 0
+IsEndOrTold vertices (p, told) = Contains vertices p ⊎ IsTrue told
+
+either_way : (B : List GridSegment) (vertices : List GridPoint) (p : GridPoint) (told : Bool) → IsTrue told ↔ Odd B (grid_place p)
+    → IsEndOrTold vertices (p, told) ↔ IsEndOrOdd B vertices p
+either_way B vertices p told odd = (
+  λ h. elim h [ inl end ↦ inl end | inr told_odd ↦ inr (odd.0 told_odd) ],
+  λ h. elim h [ inl end ↦ inl end | inr is_odd ↦ inr (odd.1 is_odd) ],
+)
+
+pub each_told : (B : List GridSegment) (vertices A : List GridPoint) (odd : List Bool) → AreOddPoints B A odd
+    → All (IsEndOrTold vertices) (zip A odd) ↔ All (IsEndOrOdd B vertices) A
+each_told B vertices A odd told =
+    pairs_each (λ p a. IsTrue a ↔ Odd B (grid_place p)) (IsEndOrTold vertices) (IsEndOrOdd B vertices) A odd told (either_way B vertices)
+
+pub some_told_odd : (B : List GridSegment) (vertices A : List GridPoint) (odd : List Bool) → AreOddPoints B A odd
+    → Any (IsEndOrTold vertices) (zip A odd) ↔ Any (IsEndOrOdd B vertices) A
+some_told_odd B vertices A odd told =
+    pairs_some (λ p a. IsTrue a ↔ Odd B (grid_place p)) (IsEndOrTold vertices) (IsEndOrOdd B vertices) A odd told (either_way B vertices)

@@ -1,9 +1,9 @@
 -- This file shows what follows from an answer that tells whether something holds, and from what holds of the elements of a list.
 use Rattle.std.proofs.Common.{◌≡◌, ◌⊎◌, ◌↔◌, Bool, true, false, not, ◌&&◌, IsTrue, List, All, Contains, [], ◌∷◌}
-use Rattle.std.proofs.Common.{ℕ, ◌<◌, length, slice_index_or, refl, sym, ap₂, subst, ◌∙◌, arith, inl, inr}
+use Rattle.std.proofs.Common.{ℕ, zero, suc, ◌<◌, length, slice_index_or, refl, sym, ap₂, subst, ◌∙◌, arith, inl, inr}
 use lib.Pointwise.{pointwise}
 use Rattle.std.specs.Bool.{MatchBool}
-use Rattle.std.specs.List.{AllWithin, Any, HoldsAt}
+use Rattle.std.specs.List.{AllWithin, AllZip, Any, HoldsAt, zip}
 use Rattle.std.proofs.lemmas.Bool.{MatchBool-at_true}
 use Rattle.std.proofs.lemmas.Iterator.Search.{true_from_All, true_from_Any}
 use Rattle.std.proofs.lemmas.List.Elements.{All-from_all_within}
@@ -117,3 +117,47 @@ lists_told E same itself xs ys = (
   to_same E same xs ys,
   λ e. subst (λ zs. pointwise E xs zs ≡ true) e (with_itself E itself xs),
 )
+
+-- ---- two lists, place by place
+later : {X : Type 0} (y : X) (xs : List X) (x : X) → Contains xs x → Contains (y ∷ xs) x
+later y xs x (k, within, at) = (suc k, omega (arith, within), at)
+
+-- an element of the first list is in a pair
+paired : {X Y : Type 0} (R : X → Y → Type 0) (xs : List X) (ys : List Y) (x : X) → AllZip R xs ys → Contains xs x
+    → (y : Y) × R x y × Contains (zip xs ys) (x, y)
+paired R [] ys x all (k, within, at) = absurd (omega (arith, within))
+paired R (z ∷ xs) [] x all there = absurd all
+paired R (z ∷ xs) (y ∷ ys) x all (zero, within, at) = (y, subst (λ w. R w y) at all.0, (zero, omega arith, λ i. (at i, y)))
+paired R (z ∷ xs) (y ∷ ys) x all (suc k, within, at) =
+    let pair = paired R xs ys x all.1 (k, omega (arith, within), at) in
+    (pair.0, pair.1, later (z, y) (zip xs ys) (x, pair.0) pair.2)
+
+-- and each pair has one
+of_pair : {X Y : Type 0} (R : X → Y → Type 0) (xs : List X) (ys : List Y) (p : X × Y) → AllZip R xs ys → Contains (zip xs ys) p
+    → Contains xs p.0 × R p.0 p.1
+of_pair R [] ys p all (k, within, at) = absurd (omega (arith, within))
+of_pair R (x ∷ xs) [] p all there = absurd all
+of_pair R (x ∷ xs) (y ∷ ys) p all (zero, within, at) =
+    ((zero, omega arith, λ i. (at i).0), subst (λ q. R q.0 q.1) at all.0)
+of_pair R (x ∷ xs) (y ∷ ys) p all (suc k, within, at) =
+    let rest = of_pair R xs ys p all.1 (k, omega (arith, within), at) in
+    (later x xs p.0 rest.0, rest.1)
+
+module _ {X Y : Type 0} (R : X → Y → Type 0) (P : X × Y → Type 0) (Q : X → Type 0) (xs : List X) (ys : List Y) (all : AllZip R xs ys)
+    (same : (x : X) (y : Y) → R x y → P (x, y) ↔ Q x) where
+  -- what holds of each pair, and of each element of the first list
+  pub pairs_each : All P (zip xs ys) ↔ All Q xs
+  pairs_each = (
+    λ h. each Q xs (λ x there. (let p = paired R xs ys x all there in (same x p.0 p.1).0 (of_each P (zip xs ys) (x, p.0) h p.2))),
+    λ h. each P (zip xs ys) (λ p there. (let x = of_pair R xs ys p all there in (same p.0 p.1 x.1).1 (of_each Q xs p.0 h x.0))),
+  )
+
+  -- and of some
+  pub pairs_some : Any P (zip xs ys) ↔ Any Q xs
+  pairs_some = (
+    λ h. (let p = of_some P (zip xs ys) h in let x = of_pair R xs ys p.0 all p.1 in some Q xs p.0.0 x.0 ((same p.0.0 p.0.1 x.1).0 p.2)),
+    λ h.
+        (let x = of_some Q xs h in
+        let p = paired R xs ys x.0 all x.1 in
+        some P (zip xs ys) (x.0, p.0) p.2 ((same x.0 p.0 p.1).1 x.2)),
+  )

@@ -1,18 +1,22 @@
 //! Points, and where they lie. A point that is inside no segment is on a segment where it is an end.
-ghost use Rattle.std.specs.Prelude.{◌≡◌, ◌⊎◌, ◌↔◌, IfOk, IsTrue, All, Any, Contains, Err, false};
+ghost use Rattle.std.specs.Prelude.{◌≡◌, ◌⊎◌, ◌↔◌, List, IfOk, IsTrue, All, Any, Contains, Err, false};
 ghost use Rattle.grid_base.specs.declared.kinds.Kind.TheVariants.{Points, Lines, Regions};
+ghost use Rattle.grid_base.specs.Segment.{GridSegment};
+ghost use Rattle.grid_base.specs.Border.{AreNoded};
 ghost use Rattle.grid_base.specs.Odd.{Odd};
 ghost use Rattle.grid_base.specs.Plane.{as_place};
 ghost use Rattle.grid_base.specs.SideOf.{as_rational};
 ghost use Rattle.rose_values.specs.declared.geometry.Geometry.TheVariants.{P, L, R};
 ghost use Rattle.rose_values.specs.Border.{ArePointsAscending};
 ghost use Rattle.rose_values.specs.Kinds.{takes_kinds};
+ghost use Rattle.plane_sweep.specs.Told.{AreOddPoints};
 ghost use Rattle.rose_predicates.specs.Predicates.{AreOutside, IsInside, ShareAPoint, IsTrueOf};
 ghost use Rattle.rose_predicates.specs.declared.answering.HoldsError.TheVariants.{WrongTypes};
 
 use crate::answering::HoldsError;
 use crate::members::{all_points_in, share_point, vertices};
-use grid_base::{NoMemory, Point, Segment, above_at};
+use grid_base::{NoMemory, Point, Segment};
+use plane_sweep::odd_points;
 use rose_overlay::{has_point, lesser_ends_first};
 use rose_values::Pred;
 use std::alloc::Global;
@@ -90,6 +94,7 @@ pub(crate) fn of_points_and_region(
     points: &[Point],
     border: &[Segment],
 ) -> Result<bool, HoldsError>
+    requires noded { AreNoded border.now }
     requires outside { AreOutside points.now border.now }
     ensures holds { IfOk result (λ answer. IsTrue answer ↔ IsTrueOf pred (P points.now) (R border.now)) }
     ensures wrong_types { (result ≡ Err WrongTypes) ↔ (takes_kinds pred Points Regions ≡ false) }
@@ -104,54 +109,56 @@ pub(crate) fn of_points_and_region(
 
 // Whether each of the points is one of the region.
 fn are_inside(alloc: Global, points: &[Point], border: &[Segment]) -> Result<bool, NoMemory>
+    requires noded { AreNoded border.now }
     requires outside { AreOutside points.now border.now }
     ensures { IfOk result (λ answer. IsTrue answer ↔ IsInside (P points.now) (R border.now)) }
 {
     lesser_ends_first(border);
     let vertices = vertices(alloc, border)?;
-    Ok(each_is_of(border, &vertices, points))
+    let odd = odd_points(alloc, border, points)?;
+    Ok(each_is_of(&vertices, points, &odd))
 }
 
 // Whether none of the points is one of the region.
 fn are_outside(alloc: Global, points: &[Point], border: &[Segment]) -> Result<bool, NoMemory>
+    requires noded { AreNoded border.now }
     requires outside { AreOutside points.now border.now }
     ensures { IfOk result (λ answer. IsTrue answer ↔ ¬ ShareAPoint (P points.now) (R border.now)) }
 {
     lesser_ends_first(border);
     let vertices = vertices(alloc, border)?;
-    Ok(!one_is_of(border, &vertices, points))
+    let odd = odd_points(alloc, border, points)?;
+    Ok(!one_is_of(&vertices, points, &odd))
 }
 
-// Whether each of the points is one of the region whose border has these ends.
-fn each_is_of(border: &[Segment], vertices: &[Point], points: &[Point]) -> bool
+// Whether each of the points, of which it is told whether they are odd, is an end of the border or odd.
+fn each_is_of(vertices: &[Point], points: &[Point], odd: &[bool]) -> bool
     requires ascending { ArePointsAscending vertices.now }
-    ensures { IsTrue result
-        ↔ All (λ p. Contains vertices.now p ⊎ Odd border.now (as_place (as_rational p))) points.now }
+    ensures { (border : List GridSegment) → AreOddPoints border points.now odd.now → (IsTrue result
+        ↔ All (λ p. Contains vertices.now p ⊎ Odd border (as_place (as_rational p))) points.now) }
 {
-    points.iter().all(|p| is_point_of(border, vertices, p))
+    points
+        .iter()
+        .zip(odd)
+        .all(|(p, is_odd)| is_point_of(vertices, p, *is_odd))
 }
 
-// Whether some of the points is.
-fn one_is_of(border: &[Segment], vertices: &[Point], points: &[Point]) -> bool
+// Whether some of them is.
+fn one_is_of(vertices: &[Point], points: &[Point], odd: &[bool]) -> bool
     requires ascending { ArePointsAscending vertices.now }
-    ensures { IsTrue result
-        ↔ Any (λ p. Contains vertices.now p ⊎ Odd border.now (as_place (as_rational p))) points.now }
+    ensures { (border : List GridSegment) → AreOddPoints border points.now odd.now → (IsTrue result
+        ↔ Any (λ p. Contains vertices.now p ⊎ Odd border (as_place (as_rational p))) points.now) }
 {
-    points.iter().any(|p| is_point_of(border, vertices, p))
+    points
+        .iter()
+        .zip(odd)
+        .any(|(p, is_odd)| is_point_of(vertices, p, *is_odd))
 }
 
 // Whether the point is an end of the border, or odd.
-fn is_point_of(border: &[Segment], vertices: &[Point], p: &Point) -> bool
+fn is_point_of(vertices: &[Point], p: &Point, is_odd: bool) -> bool
     requires ascending { ArePointsAscending vertices.now }
-    ensures { IsTrue result
-        ↔ (Contains vertices.now p.now ⊎ Odd border.now (as_place (as_rational p.now))) }
+    ensures { IsTrue result ↔ (Contains vertices.now p.now ⊎ IsTrue is_odd) }
 {
-    has_point(vertices, p) || is_odd(border, p)
-}
-
-// Whether an odd number of the segments is strictly above the point.
-fn is_odd(border: &[Segment], p: &Point) -> bool
-    ensures { IsTrue result ↔ Odd border.now (as_place (as_rational p.now)) }
-{
-    border.iter().filter(|s| above_at(s, p)).count() % 2 == 1
+    is_odd || has_point(vertices, p)
 }

@@ -51,7 +51,7 @@ pub none_waits : (waiting : Waiting) (held : List (List ℕ)) → IsWaiting wait
 none_waits waiting [] is none = (refl, is.1)
 none_waits waiting (line ∷ batch) is none = absurd (omega (arith, is.0, none))
 
--- what waits is a batch that isn't read to its end
+-- what waits is a batch that lacks lines still
 pub are_held : (waiting : Waiting) (held : List (List ℕ)) → IsWaiting waiting held → AreHeld held
 are_held waiting [] is = tt
 are_held waiting (line ∷ batch) is = (waiting.missing + length batch, is.1, omega (arith, is.0))

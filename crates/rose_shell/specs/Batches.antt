@@ -1,4 +1,4 @@
--- Lines in batches: `batch N` takes the next N lines, or those that are left, and they are answered together.
+-- Lines in batches: `batch N` is followed by N lines, or fewer at the end of the input, that are answered together.
 use Rattle.std.specs.Prelude.{◌<◌, ◌≤◌, ℕ, List, [], ◌∷◌, length, Option, Some, None, nat_lt, if◌then◌else◌}
 use Rattle.line_grammar.specs.Lines.{Says}
 use Rattle.line_grammar.specs.declared.command.Command.TheVariants as commands
@@ -18,7 +18,7 @@ pub record Opens (line : List ℕ) (size : ℕ) : Type 0 where
 abbrev pub OpensNone : List ℕ → Type 0
 OpensNone line = (size : ℕ) → Opens line size → ⊥
 
--- these lines wait for an answer: none, or those of a batch that isn't read to its end
+-- these lines wait for an answer: none, or those of a batch that lacks some still
 abbrev pub AreHeld : List (List ℕ) → Type 0
 AreHeld [] = Unit {0}
 AreHeld (line ∷ batch) = (size : ℕ) × Opens line size × (length batch < size)

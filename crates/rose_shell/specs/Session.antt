@@ -104,7 +104,7 @@ pub record IsCutOff {S : Type 0} (terms : Terms S) (old new : View) (start : S) 
   pub either : (files : FileName → List ℕ) → ((f : FileName) → new.image f (files f))
       → terms.stands (end_of start before) files ⊎ terms.stands last.after files
 
--- the turns are those of the whole lines among these bytes, but for a batch that isn't read to its end
+-- the turns are those of the whole lines among these bytes, but for a batch that lacks lines still
 pub record AreTurnsOf {S : Type 0} (turns : List (Turn S)) (bytes : List ℕ) : Type 0 where
   pub held : List (List ℕ)
   pub are_held : AreHeld held

@@ -129,7 +129,7 @@ fn start_and_serve<R: Threads + Sync, W: Outside>(rt: &R, alloc: Global, world: 
 }
 
 /// Reads lines to the end of the input, and answers each from this store on. The run ends at the first fault,
-/// at want of memory, and at the first take that gives more after `budget` bytes were taken.
+/// at want of memory, and where a take gives more though `budget` bytes have come.
 pub fn serve<R: Threads + Sync, W: Outside>(
     rt: &R,
     alloc: Global,

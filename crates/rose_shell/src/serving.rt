@@ -20,8 +20,8 @@ use std::thread::Threads;
 
 /// Reads lines to the end of the input, and answers each, with this room for the bytes of one take. What stands
 /// after the last line feed is a line too, where it isn't empty. The lines of a batch are answered once all have come,
-/// or the input has ended. The run ends at the first fault, at want of memory, and at the first take that gives more
-/// after `budget` bytes were taken.
+/// or the input has ended. The run ends at the first fault, at want of memory, and where a take gives more though
+/// `budget` bytes have come.
 pub(crate) fn serve_by_chunks<R: Threads + Sync, G: Gate, W: Outside, D: Desk<W>>(
     rt: &R,
     alloc: Global,

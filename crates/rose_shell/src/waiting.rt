@@ -11,7 +11,7 @@ use line_grammar::{Command, LineError, read_line};
 use query_batch::Line;
 use std::alloc::Global;
 
-/// A batch that isn't read to its end, or none.
+/// A batch some of whose lines are still to come, or none.
 #[derive(Debug, Drop)]
 pub(crate) struct Waiting {
     /// How many of its lines are still to come: 0 where there is no batch.

@@ -20,8 +20,8 @@ static POINT: [u8; 38] = [
     0x00, 0x00, 0x00, 0x00, 0x00, 0x00,
 ];
 
-// A file of this generation, with records of these numbers, each behind an open gate, and these bytes behind them.
-fn file_of(
+/// A file of this generation, with records of these numbers, each behind an open gate, and these bytes behind them.
+pub(crate) fn file_of(
     alloc: Global,
     generation: u8,
     numbers: &[u8],
@@ -37,6 +37,16 @@ fn file_of(
     }
     file.extend_from_slice(behind)?;
     Ok(file)
+}
+
+/// Cuts a file off, and puts bytes at these places of it.
+pub(crate) fn change(file: &mut Vec<u8>, cut: usize, puts: &[(usize, &[u8])]) {
+    file.truncate(cut);
+    for (at, bytes) in puts {
+        for (place, byte) in file.iter_mut().skip(*at).zip(bytes.iter()) {
+            *place = *byte;
+        }
+    }
 }
 
 // The numbers of the records in a file and the bytes behind them; the number of one change more, and its reply.
@@ -78,6 +88,29 @@ fn a_commit_writes_its_record(rt: HostRuntime) {
         let done = look_at_commit(&rt, rt.alloc(), numbers, behind, *number, reply);
         assert!(rt; done.is_ok(), "no memory");
     }
+}
+
+// The first change of all puts a first generation on file A, its record behind it, and nothing on file B.
+fn look_at_first_commit<R: Threads + Sync + Abort>(rt: &R, alloc: Global) -> Result<(), NoMemory> {
+    let place = look(
+        rt,
+        alloc,
+        "point 3 0\n",
+        b"",
+        "ok 1 steps 0 first 1 new 0\n",
+        0,
+    )?;
+    let (a, b) = left(&place.world, place.world.calls(), Leave::New)?;
+    let wanted = file_of(alloc, 1, b"\x01", b"\0")?;
+    assert_eq!(rt; a.len(), 4_135);
+    assert!(rt; a == wanted);
+    assert!(rt; b.is_empty());
+    Ok(())
+}
+
+#[test]
+fn the_first_commit_makes_file_a(rt: HostRuntime) {
+    assert!(rt; look_at_first_commit(&rt, rt.alloc()).is_ok(), "no memory");
 }
 
 // What is told of a whole file: a status, and the number of changes, of the page or of the record.
@@ -262,4 +295,43 @@ fn what_was_made_is_found_again(rt: HostRuntime) {
             Err(NoMemory) => assert!(rt; false, "no memory"),
         }
     }
+}
+
+// The digest of a page that keeps no change and 4,294,967,295 as the next id.
+static OF_LAST_ID: [u8; 32] = [
+    0xf7, 0xb9, 0x15, 0x84, 0x50, 0x42, 0xae, 0x58, 0x1c, 0xc6, 0xbb, 0x24, 0xac, 0xfc, 0xd4, 0x0e,
+    0xf6, 0x57, 0x22, 0x67, 0xc5, 0x1e, 0x6f, 0x10, 0x2f, 0xec, 0xcb, 0x3e, 0x80, 0xa8, 0xeb, 0xf5,
+];
+
+// Its head says one page and 48 bytes of payload, and so does the page, which has number 1.
+static LAST_ID: [(usize, &[u8]); 5] = [
+    (25, b"\x01"),
+    (33, b"0"),
+    (4_103, b"\x01"),
+    (4_105, b"0"),
+    (4_118, b"\xff\xff\xff\xff"),
+];
+
+// A file with this page.
+fn file_at_last_id(alloc: Global) -> Result<Vec<u8>, NoMemory> {
+    let mut file = file_of(alloc, 1, b"", b"")?;
+    file.resize(8_160, 0)?;
+    file.extend_from_slice(&OF_LAST_ID)?;
+    change(&mut file, 8_192, &LAST_ID);
+    Ok(file)
+}
+
+// One segment more gets its id, and the next none.
+fn look_at_last_id<R: Threads + Sync + Abort>(rt: &R, alloc: Global) -> Result<(), NoMemory> {
+    let file = file_at_last_id(alloc)?;
+    let lines = "segment 0 0 1 1\nsegment 5 5 6 6\n";
+    let replies = "ok 1 steps 0 first 4294967295 new 1\nno ids\n";
+    let _ = look(rt, alloc, lines, &file, replies, 0)?;
+    Ok(())
+}
+
+#[test]
+fn the_last_id_is_given_once(rt: HostRuntime) {
+    let done = look_at_last_id(&rt, rt.alloc());
+    assert!(rt; done.is_ok(), "no memory");
 }

@@ -5,6 +5,8 @@
 #[cfg(test)]
 mod crashes;
 #[cfg(test)]
+mod damages;
+#[cfg(test)]
 mod ends;
 #[cfg(test)]
 mod files;

@@ -45,6 +45,14 @@ pub(crate) fn place_of_two(
     Ok(Place { world })
 }
 
+/// A world with this input and two empty files, whose takes and gives move one byte.
+pub(crate) fn place_byte_by_byte(alloc: Global, input: &str) -> Result<Place, NoMemory> {
+    let input = Vec::from_slice(alloc, input.as_bytes())?;
+    let (a, b) = (Vec::new(alloc), Vec::new(alloc));
+    let world = MemoryWorld::in_pieces(alloc, input, a, b, Vec::new(alloc), 1)?;
+    Ok(Place { world })
+}
+
 /// What the program does with these words there, one space between two of them.
 pub(crate) fn run_words<R: Threads + Sync>(
     rt: &R,

@@ -157,7 +157,7 @@ static COMBINED: [(&str, &str); 5] = [
          regions 6\n0 0 0 4\n0 0 4 0\n0 4 2 4\n2 2 2 4\n2 2 4 2\n4 0 4 2\n\
          regions 6\n2 4 2 6\n2 4 4 4\n2 6 6 6\n4 2 4 4\n4 2 6 2\n6 2 6 6\nregions 0\nno no-name\n",
     ),
-    // Two parcels and a road. The side that they share has two owners and is cut for both.
+    // Two parcels and a road, which cuts the side that they share for both of them.
     (
         "regions p 0 0 100 0 100 60 0 60\nregions q 100 0 180 0 180 60 100 60\n\
          lines road 0 30 180 30\nnum area2 p\nask adjacent p q\n\

@@ -14,9 +14,9 @@ above-requires g c =
     let within = c.loop-low.invariant.within in
     let m = low + (high - low) / 2 in
     let inside : m < length status = omega arith in
-    let t = c.index-status-middle.result in
+    let t = c.index.result.now in
     record {
-      comparable = subst (λ u. AreComparable u s) (sym c.index-status-middle.is)
+      comparable = subst (λ u. AreComparable u s) (sym c.index.ensures)
           (compared s status m t (record { noded = c.requires.noded; column = c.requires.column; upward = c.requires.upward }) inside);
     }
 
@@ -37,7 +37,7 @@ loop-low-preserved-then-above g c =
       order = omega arith;
       within = omega arith;
       before = c.loop-low.invariant.before;
-      after = above_after s status m all (at_any (λ u. IsAbove u s) status m c.index-status-middle.result inside c.index-status-middle.is above);
+      after = above_after s status m all (at_any (λ u. IsAbove u s) status m c.index.result.now inside c.index.ensures above);
       left = λ k h.
           let was = c.loop-low.invariant.left k h in
           let f = half_left low high c.loop-low.steps c.args.steps.now k was.0 left was.1 was.2 in
@@ -63,7 +63,7 @@ loop-low-preserved g c =
       order = omega arith;
       within = within;
       before = not_above_before s status m all inside
-          (at_any (λ u. IsAbove u s → ⊥) status m c.index-status-middle.result inside c.index-status-middle.is
+          (at_any (λ u. IsAbove u s → ⊥) status m c.index.result.now inside c.index.ensures
           (λ h. true≢false (sym (c.above.ensures.above.1 h) ∙ c.if-above.false)));
       after = c.loop-low.invariant.after;
       left = λ k h.

@@ -1,15 +1,15 @@
-use Rattle.std.proofs.Common.{◌≡◌, ℕ, ◌+◌, ◌*◌, ◌^◌, ◌<◌, ◌≤◌, Bool, ◌∷◌, All, IsPermutation, drop, drop_of_length-le}
+use Rattle.std.proofs.Common.{◌≡◌, ℕ, ◌+◌, ◌*◌, ◌<◌, ◌≤◌, Bool, All, IsPermutation, drop, drop_of_length-le}
 use Rattle.std.proofs.Common.{take, set, length, length-set, sym, ap, subst, arith, inl, ◌∙◌}
 use Rattle.std.specs.Prelude.{count_by}
 use Rattle.std.specs.List.Sorted.{IsSorted}
-use Rattle.grid_base.specs.Border.{AreNoded}
+use Rattle.grid_base.specs.Odd.{AreSides}
 use Rattle.grid_base.specs.Segment.{GridSegment, segment_cmp}
 use Rattle.plane_sweep.specs.Status.{AreUpward, HasOneMore, HoldsAfter, IsPassed}
 use Rattle.plane_sweep.specs.Events.{AreEvents, ends_by, starts_by, turn_number}
 use Rattle.plane_sweep.specs.declared.events.Turn.TheVariants.{Ask}
 use Rattle.plane_sweep.proofs.Loops.{IsDone, all_steps, all_told, at_turn, column_after, column_end, column_start}
 use Rattle.plane_sweep.proofs.Loops.{done_answered, done_still, last_steps, none_yet, noded_ask, noded_asked}
-use Rattle.plane_sweep.proofs.Loops.{noded_end, noded_start, now_at, short_status, status_length, step_more, told_at}
+use Rattle.plane_sweep.proofs.Loops.{noded_border, noded_end, noded_start, now_at, short_status, status_length, step_more, told_at}
 use Rattle.plane_sweep.proofs.Reached.{all_passed, balanced_ask, balanced_end, balanced_start, ending_there}
 use Rattle.plane_sweep.proofs.sweep.all_sides_by.Goals as goal
 use Rattle.plane_sweep.proofs.sweep.all_sides_by.Goals.{in-End, in-Start+in_ok-put_in-in-Start, in-Ask}
@@ -20,8 +20,8 @@ loop-event-init g c =
     let list = c.args.list.now in
     let all = subst (AreEvents border list (length list)) (sym c.deref-event-items.ensures.value) c.in_ok-events.ensures.events in
     record {
-      upward = subst AreUpward (sym c.new-status.ensures.items) (λ i j d o l. absurd (omega (arith, l)));
-      balanced = λ f. ap (λ l. count_by f l + starts_by f c.deref-event-items.result.now) c.new-status.ensures.items
+      upward = subst AreUpward (sym c.new-status.ensures) (λ i j d o l. absurd (omega (arith, l)));
+      balanced = λ f. ap (λ l. count_by f l + starts_by f c.deref-event-items.result.now) c.new-status.ensures
           ∙ none_yet f border c.deref-event-items.result.now (all.starts f) (all.ends f);
       number = c.in_ok-answers.ensures;
       told = λ k l. inl (all.asked k l);
@@ -35,11 +35,11 @@ take_out-requires g c =
     let items = c.deref-event-items.result.now in
     let i = c.loop-event.event-index in
     let e = c.event-item.result in
-    let status = c.loop-event.status.items in
+    let status = c.loop-event.status in
     let now = now_at border list _ items i e status c.deref-event-items.ensures.value c.in_ok-events.ensures.events
     c.in_ok-events.ensures.sorted c.loop-event-test.true c.event-item.is c.loop-event.invariant.balanced in
     record {
-      noded = noded_end border list (take i items) e (drop (i + 1) items) status c.requires.noded now;
+      noded = noded_end border list (take i items) e (drop (i + 1) items) status (noded_border border list c.requires.noded) now;
       column = column_end border list (take i items) e (drop (i + 1) items) status now c.in-End.is;
       upward = c.loop-event.invariant.upward;
       there = ending_there border list (take i items) e (drop (i + 1) items) status now c.in-End.is;
@@ -52,11 +52,11 @@ put_in-requires g c =
     let items = c.deref-event-items.result.now in
     let i = c.loop-event.event-index in
     let e = c.event-item.result in
-    let status = c.loop-event.status.items in
+    let status = c.loop-event.status in
     let now = now_at border list _ items i e status c.deref-event-items.ensures.value c.in_ok-events.ensures.events
     c.in_ok-events.ensures.sorted c.loop-event-test.true c.event-item.is c.loop-event.invariant.balanced in
     record {
-      noded = noded_start border list (take i items) e (drop (i + 1) items) status c.requires.noded now c.in-Start.is;
+      noded = noded_start border list (take i items) e (drop (i + 1) items) status (noded_border border list c.requires.noded) now c.in-Start.is;
       column = column_start border list (take i items) e (drop (i + 1) items) status now c.in-Start.is;
       upward = c.loop-event.invariant.upward;
     }
@@ -68,7 +68,7 @@ returns-in_err-put_in-in-Start-clause-steps g c k digits =
     let items = c.deref-event-items.result.now in
     let i = c.loop-event.event-index in
     let e = c.event-item.result in
-    let status = c.loop-event.status.items in
+    let status = c.loop-event.status in
     let now = now_at border list _ items i e status c.deref-event-items.ensures.value c.in_ok-events.ensures.events
     c.in_ok-events.ensures.sorted c.loop-event-test.true c.event-item.is c.loop-event.invariant.balanced in
     last_steps (length border) (length list) i (length items) k c.loop-event.steps c.put_in.new.steps c.args.steps.now
@@ -83,7 +83,7 @@ answer-requires g c =
     let items = c.deref-event-items.result.now in
     let i = c.loop-event.event-index in
     let e = c.event-item.result in
-    let status = c.loop-event.status.items in
+    let status = c.loop-event.status in
     let now = now_at border list _ items i e status c.deref-event-items.ensures.value c.in_ok-events.ensures.events
     c.in_ok-events.ensures.sorted c.loop-event-test.true c.event-item.is c.loop-event.invariant.balanced in
     let is = c.in-Ask.is in
@@ -91,12 +91,10 @@ answer-requires g c =
     let at = at_turn border list (take i items) e (drop (i + 1) items) status now Ask is in
     let held = column_after border list (take i items) e (drop (i + 1) items) status now (omega (arith, n)) in
     record {
-      noded = subst (λ l. AreNoded (e.segment ∷ l)) (sym c.deref.ensures.value)
-          (noded_ask border list (take i items) e (drop (i + 1) items) status c.requires.noded now is);
-      column = subst (λ l. All (HoldsAfter e.segment.a.x) l) (sym c.deref.ensures.value)
-          (subst (λ (x : ℕ). All (HoldsAfter x) status) at.0 held);
-      upward = subst AreUpward (sym c.deref.ensures.value) c.loop-event.invariant.upward;
-      sorted = subst (IsSorted segment_cmp) (sym c.deref-in-Ask.ensures.value) c.in_ok-copied.ensures.sorted;
+      noded = noded_ask border list (take i items) e (drop (i + 1) items) status c.requires.noded now is;
+      column = subst (λ (x : ℕ). All (HoldsAfter x) status) at.0 held;
+      upward = c.loop-event.invariant.upward;
+      sorted = subst (IsSorted segment_cmp) (sym c.deref.ensures.value) c.in_ok-copied.ensures.sorted;
     }
 
 pub loop-event-preserved : goal.loop-event-preserved
@@ -107,25 +105,25 @@ loop-event-preserved g c =
     let i = c.loop-event.event-index in
     let e = c.event-item.result in
     let rest = drop (i + 1) items in
-    let status = c.loop-event.status.items in
+    let status = c.loop-event.status in
     let within = c.loop-event-test.true in
     let is = c.event-item.is in
     let now = now_at border list _ items i e status c.deref-event-items.ensures.value c.in_ok-events.ensures.events
     c.in_ok-events.ensures.sorted within is c.loop-event.invariant.balanced in
     let few = c.loop-event.invariant.few in
     let short = status_length border list (take i items) e rest status now in
-    let told = λ (k : ℕ) (l : k < length list). told_at border list items i e c.loop-event.answers.items k within is (c.loop-event.invariant.told k l) in
+    let told = λ (k : ℕ) (l : k < length list). told_at (AreSides border) list items i e c.loop-event.answers.items k within is (c.loop-event.invariant.told k l) in
     elim c.match-event.branch [
       | in-End w ↦
           (let steps = w.steps-is in
           let turn : turn_number e.turn ≡ 0 = ap turn_number w.in-End.is in
           record {
-            upward = subst (λ v. AreUpward v.items) (sym w.status-is) w.take_out.ensures.upward;
-            balanced = balanced_end e rest status c.match-event.status.items w.in-End.is
-                (subst (λ v. HasOneMore v.items e.segment status) (sym w.status-is) w.take_out.ensures.less) now.balanced;
+            upward = subst (λ v. AreUpward v) (sym w.status-is) w.take_out.ensures.upward;
+            balanced = balanced_end e rest status c.match-event.status w.in-End.is
+                (subst (λ v. HasOneMore v e.segment status) (sym w.status-is) w.take_out.ensures.less) now.balanced;
             number = ap (λ v. length v.items) w.answers-is ∙ c.loop-event.invariant.number;
-            told = λ k l. subst (λ v. IsDone border list rest v.items k) (sym w.answers-is)
-                (done_still border list e rest c.loop-event.answers.items k (omega (arith, turn)) (told k l));
+            told = λ k l. subst (λ v. IsDone (AreSides border) list rest v.items k) (sym w.answers-is)
+                (done_still (AreSides border) list e rest c.loop-event.answers.items k (omega (arith, turn)) (told k l));
             few = λ k digits. subst (λ v. v ≤ c.args.steps.now + (i + 1) * k) (sym steps)
                 (step_more i k c.loop-event.steps w.take_out.new.steps c.args.steps.now (few k digits)
                 (w.take_out.ensures.steps k (short_status (length border) k status digits short)));
@@ -134,12 +132,12 @@ loop-event-preserved g c =
           (let steps = w.steps-is in
           let turn : turn_number e.turn ≡ 1 = ap turn_number w.in-Start.is in
           record {
-            upward = subst (λ v. AreUpward v.items) (sym w.status-is) w.in_ok-put_in-in-Start.ensures.upward;
-            balanced = balanced_start e rest status c.match-event.status.items w.in-Start.is
-                (subst (λ v. HasOneMore status e.segment v.items) (sym w.status-is) w.in_ok-put_in-in-Start.ensures.more) now.balanced;
+            upward = subst (λ v. AreUpward v) (sym w.status-is) w.in_ok-put_in-in-Start.ensures.upward;
+            balanced = balanced_start e rest status c.match-event.status w.in-Start.is
+                (subst (λ v. HasOneMore status e.segment v) (sym w.status-is) w.in_ok-put_in-in-Start.ensures.more) now.balanced;
             number = ap (λ v. length v.items) w.answers-is ∙ c.loop-event.invariant.number;
-            told = λ k l. subst (λ v. IsDone border list rest v.items k) (sym w.answers-is)
-                (done_still border list e rest c.loop-event.answers.items k (omega (arith, turn)) (told k l));
+            told = λ k l. subst (λ v. IsDone (AreSides border) list rest v.items k) (sym w.answers-is)
+                (done_still (AreSides border) list e rest c.loop-event.answers.items k (omega (arith, turn)) (told k l));
             few = λ k digits. subst (λ v. v ≤ c.args.steps.now + (i + 1) * k) (sym steps)
                 (step_more i k c.loop-event.steps w.put_in.new.steps c.args.steps.now (few k digits)
                 (w.in_ok-put_in-in-Start.ensures.steps k (short_status (length border) k status digits short)));
@@ -152,21 +150,21 @@ loop-event-preserved g c =
           let number = c.loop-event.invariant.number in
           let inside : e.index < length c.loop-event.answers.items = omega (arith, index, number) in
           let answers : c.match-event.answers.items ≡ set c.loop-event.answers.items e.index w.answer.result = ap (λ v. v.items) w.answers-is in
-          let passed = subst (λ l. IsPassed e.x border l) (sym w.deref.ensures.value) (all_passed border list (take i items) e rest status now turn) in
+          let passed = all_passed border list (take i items) e rest status now turn in
           let sides = w.answer.ensures.sides border
-          (subst (IsPermutation border) (sym w.deref-in-Ask.ensures.value) c.in_ok-copied.ensures.same)
-          (subst (λ (x : ℕ). IsPassed x border w.deref.result.now) at.0 passed)
+          (subst (IsPermutation border) (sym w.deref.ensures.value) c.in_ok-copied.ensures.same)
+          (subst (λ (x : ℕ). IsPassed x border status) at.0 passed)
           (noded_asked border list (take i items) e rest status c.requires.noded now turn) c.requires.even c.in_ok-events.ensures.ordered in
           record {
-            upward = subst (λ v. AreUpward v.items) (sym w.status-is) c.loop-event.invariant.upward;
-            balanced = subst (λ v. (f : GridSegment → Bool) → count_by f v.items + starts_by f rest ≡ ends_by f rest) (sym w.status-is)
+            upward = subst (λ v. AreUpward v) (sym w.status-is) c.loop-event.invariant.upward;
+            balanced = subst (λ v. (f : GridSegment → Bool) → count_by f v + starts_by f rest ≡ ends_by f rest) (sym w.status-is)
                 (balanced_ask e rest status turn now.balanced);
             number = ap length answers ∙ length-set c.loop-event.answers.items e.index w.answer.result ∙ number;
-            told = λ k l. subst (λ v. IsDone border list rest v k) (sym answers)
-                (done_answered border list e rest c.loop-event.answers.items w.answer.result k index inside at.2 sides (told k l));
+            told = λ k l. subst (λ v. IsDone (AreSides border) list rest v k) (sym answers)
+                (done_answered (AreSides border) list e.segment e rest c.loop-event.answers.items w.answer.result k index inside at.2 sides (told k l));
             few = λ k digits. subst (λ v. v ≤ c.args.steps.now + (i + 1) * k) (sym steps)
                 (step_more i k c.loop-event.steps w.answer.new.steps c.args.steps.now (few k digits)
-                (w.answer.ensures.steps k (subst (λ l. length l < 2 ^ k) (sym w.deref.ensures.value) (short_status (length border) k status digits short))));
+                (w.answer.ensures.steps k (short_status (length border) k status digits short)));
           })
     ]
 
@@ -176,8 +174,8 @@ returns-clause-sides g c =
     let list = c.args.list.now in
     let items = c.deref-event-items.result.now in
     let i = c.loop-event.event-index in
-    all_told border list c.loop-event.answers.items c.loop-event.invariant.number
-    (λ k l. subst (λ r. IsDone border list r c.loop-event.answers.items k) (drop_of_length-le items c.loop-event-test.false) (c.loop-event.invariant.told k l))
+    all_told (AreSides border) list c.loop-event.answers.items c.loop-event.invariant.number
+    (λ k l. subst (λ r. IsDone (AreSides border) list r c.loop-event.answers.items k) (drop_of_length-le items c.loop-event-test.false) (c.loop-event.invariant.told k l))
 
 pub returns-clause-steps : goal.returns-clause-steps
 returns-clause-steps g c k digits =

@@ -1,8 +1,14 @@
 use Rattle.std.proofs.Common.{sym, subst}
+use Rattle.grid_base.specs.Border.{AreNoded}
 use Rattle.rose_values.specs.Border.{IsBorder}
 use Rattle.rose_predicates.proofs.answering.holds.Goals as goal
 
 -- the segments of a region are a border
+pub of_points_and_region-requires-clause-noded : goal.of_points_and_region-requires-clause-noded
+of_points_and_region-requires-clause-noded c =
+    let e = c.segments-in-P-R.ensures in
+    subst AreNoded (sym e.segments) e.noded
+
 pub of_lines_and_region-requires-clause-border : goal.of_lines_and_region-requires-clause-border
 of_lines_and_region-requires-clause-border c =
     let e = c.segments-in-L-R-2.ensures in

@@ -1,0 +1,149 @@
+//! The real world: standard input, standard output, and two files of the current folder. It is the trusted
+//! edge: what the system does isn't told to any contract, so no clause on content speaks of this world. It
+//! only counts how often a call failed.
+ghost use Rattle.std.specs.Prelude.{◌≡◌, ◌≤◌, OnErr};
+ghost use Rattle.outside_world.specs.Counts.{Rose};
+ghost use Rattle.process_world.specs.Untold.{untold};
+
+use crate::real_file::{read_from, size_of, sync_of, write_to};
+use outside_world::{Failed, FileName, Outside};
+use std::io::Read;
+use std::rt::Files;
+
+/// The name of the one file,
+const A: &str = "realm.a";
+
+/// and of the other.
+const B: &str = "realm.b";
+
+/// The letter of a file, with which its name ends.
+pub fn letter_of(file: FileName) -> &'static str {
+    match file {
+        FileName::A => "a",
+        FileName::B => "b",
+    }
+}
+
+/// Standard input, standard output and the two files, with counts of their faults. A file is opened at its
+/// first use, and made where it is missing.
+#[derive(Drop)]
+pub struct FileWorld<R: Files + Input + Print + Drop> {
+    rt: R,
+    input: <R as Input>::Reader,
+    a: Option<<R as Files>::File>,
+    b: Option<<R as Files>::File>,
+    source_faults: u64,
+    sink_faults: u64,
+    disk_faults: u64,
+}
+
+impl<R: Files + Input + Print + Drop> FileWorld<R> {
+    /// The world of this runtime. Nothing is read before the first take, and no file is opened before its
+    /// first use.
+    pub fn new(rt: R) -> FileWorld<R> {
+        let input = rt.reader();
+        FileWorld {
+            rt,
+            input,
+            a: None,
+            b: None,
+            source_faults: 0,
+            sink_faults: 0,
+            disk_faults: 0,
+        }
+    }
+}
+
+impl<R: Files + Input + Print + Drop> Outside for FileWorld<R> {
+    ghost tells = { λ _. ⊥ };
+
+    ghost view = { λ _. untold };
+
+    ghost source_faults = { λ w. w.source_faults };
+
+    ghost sink_faults = { λ w. w.sink_faults };
+
+    ghost disk_faults = { λ w. w.disk_faults };
+
+    ghost reads_an_image = { λ w f told. absurd told };
+
+    ghost byte_by_byte = { λ w told. absurd told };
+
+    ghost counts_now = { λ w t m told le may. absurd told };
+
+    ghost only_now = { λ w m told left. absurd told };
+
+    ghost none_asked = { λ w a told asked. absurd told };
+
+    fn take(&mut self, buf: &mut [u8]) -> Result<usize, Failed> {
+        match self.input.read(buf) {
+            Ok(count) => Ok(count),
+            Err(_) => {
+                self.source_faults = risen(self.source_faults);
+                Err(Failed)
+            }
+        }
+    }
+
+    fn give(&mut self, bytes: &[u8]) -> Result<usize, Failed> {
+        match self.rt.write_some(bytes) {
+            Ok(count) if count > 0 || bytes.is_empty() => Ok(count),
+            _ => {
+                self.sink_faults = risen(self.sink_faults);
+                Err(Failed)
+            }
+        }
+    }
+
+    fn size(&mut self, file: FileName) -> Result<u64, Failed> {
+        let done = match file {
+            FileName::A => size_of(&self.rt, &mut self.a, A),
+            FileName::B => size_of(&self.rt, &mut self.b, B),
+        };
+        counted(done, &mut self.disk_faults)
+    }
+
+    fn read_at(&mut self, file: FileName, at: u64, buf: &mut [u8]) -> Result<usize, Failed> {
+        let done = match file {
+            FileName::A => read_from(&self.rt, &mut self.a, A, at, buf),
+            FileName::B => read_from(&self.rt, &mut self.b, B, at, buf),
+        };
+        counted(done, &mut self.disk_faults)
+    }
+
+    fn write_at(&mut self, file: FileName, at: u64, bytes: &[u8]) -> Result<(), Failed> {
+        let done = match file {
+            FileName::A => write_to(&self.rt, &mut self.a, A, at, bytes),
+            FileName::B => write_to(&self.rt, &mut self.b, B, at, bytes),
+        };
+        counted(done, &mut self.disk_faults)
+    }
+
+    fn sync(&mut self, file: FileName) -> Result<(), Failed> {
+        let done = match file {
+            FileName::A => sync_of(&self.rt, &mut self.a, A),
+            FileName::B => sync_of(&self.rt, &mut self.b, B),
+        };
+        counted(done, &mut self.disk_faults)
+    }
+}
+
+// The same answer, whose failure is counted.
+fn counted<T>(done: Result<T, Failed>, faults: &mut u64) -> Result<T, Failed>
+    ensures same { result ≡ done }
+    ensures later { faults.old ≤ faults.new }
+    ensures rose { OnErr result (Rose faults.old faults.new) }
+{
+    if done.is_err() {
+        *faults = risen(*faults);
+    }
+    done
+}
+
+// A count with one fault more. At the end of its type it stays.
+fn risen(count: u64) -> u64
+    ensures rose { Rose count result }
+    ensures later { count ≤ result }
+{
+    count.saturating_add(1)
+}

@@ -1,0 +1,33 @@
+//! The words that the program was started with.
+use std::alloc::Global;
+use std::env;
+use std::io::ErrorKind;
+use std::rt::Env;
+
+/// Why the words aren't known.
+#[derive(Clone, Copy, Debug, PartialEq, Eq)]
+pub enum WordsError {
+    /// A word isn't text in UTF-8.
+    NotText,
+    /// Memory ran out.
+    NoMemory,
+}
+
+/// The words after the program's name.
+pub fn words_of<R: Env + AllocGlobal>(rt: &R) -> Result<Vec<String>, WordsError> {
+    match env::args(rt) {
+        Ok(all) => rest_of(rt.alloc(), all),
+        Err(error) if error.kind() == ErrorKind::OutOfMemory => Err(WordsError::NoMemory),
+        Err(_) => Err(WordsError::NotText),
+    }
+}
+
+fn rest_of(alloc: Global, all: env::Args) -> Result<Vec<String>, WordsError> {
+    let mut words = Vec::new(alloc);
+    for word in all.skip(1) {
+        if words.push(word).is_err() {
+            return Err(WordsError::NoMemory);
+        }
+    }
+    Ok(words)
+}

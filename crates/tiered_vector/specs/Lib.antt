@@ -1,0 +1,2 @@
+-- a list in blocks, for this crate's own proofs
+pub mod Blocks

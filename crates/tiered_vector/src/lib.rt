@@ -1,0 +1,10 @@
+//! A vector in blocks: an insert or a removal moves the elements of one block alone.
+//! Begin at `TieredVector`.
+#![tactic(auto)]
+
+mod blocks;
+#[cfg(test)]
+mod tests;
+mod vector;
+
+pub use vector::TieredVector;
