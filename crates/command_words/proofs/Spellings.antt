@@ -1,5 +1,6 @@
 -- This file shows that the parser refuses no command, and tells the words that it takes.
-use Rattle.std.proofs.Common.{◌≡◌, ◌≢◌, ◌≤◌, ◌<◌, ◌^◌, ◌∙◌, ℕ, List, [], ◌∷◌, Option, Some, None, true, refl, sym, ap, subst, inl, inr, arith, slice_index}
+use Rattle.std.proofs.Common.{◌≡◌, ◌≢◌, ◌≤◌, ◌<◌, ◌^◌, ◌∙◌, ℕ, List, [], ◌∷◌, Option, Some, None, true, refl, sym, ap, subst}
+use Rattle.std.proofs.Common.{inl, inr, arith, slice_index}
 use Rattle.std.specs.List.{All}
 use Rattle.std.specs.Fmt.{decimal}
 use Rattle.std.specs.Prelude.{option_map, codes}
@@ -15,7 +16,9 @@ use Rattle.command_words.specs.Parsing.{IsNoFlag, IsSpelled, commands, texts_of,
 use Rattle.command_words.specs.declared.parsing.Spelling.{Spelling}
 use Rattle.command_words.specs.declared.word.Word.{Word}
 use Rattle.command_words.specs.declared.word.Word.TheVariants.{Run, Check, Gen}
-use Rattle.command_words.proofs.Levels.{check_passes, generate_passes, run_passes, told_again}
+use Rattle.command_words.proofs.Levels.{check_passes, gen_passes, run_passes, told_again}
+
+-- ---- the words of a command
 
 -- a first byte from 48 on is no hyphen, and no text has it that is empty
 from_digit : (text : List ℕ) → 48 ≤ slice_index text 0 → IsNoFlag text
@@ -32,42 +35,49 @@ number_is_no_flag n fits = elim (cases_lt 0 n) [
       subst IsNoFlag (sym text) (omega arith, λ e. omega (arith, e))
 ]
 
--- what the parser's clauses ask of the commands: no argument has a rule on another, and none changes how words are read
-pub commands_are_free : is_simple_and_free commands ≡ true
-unfolding clap_on_literals
-commands_are_free = refl
+alone_is_no_flag : (word : List ℕ) → IsNoFlag word → All IsNoFlag (word ∷ [])
+alone_is_no_flag word plain = All-cons IsNoFlag word [] plain (All-nil IsNoFlag)
 
-pub commands_are_simple : is_simple commands ≡ true
-unfolding clap_on_literals
-commands_are_simple = refl
+-- no word of a command is a flag
+pub command_has_no_flag : (word : Word) → IsAllowed word → All IsNoFlag (words_of word)
+command_has_no_flag Run allowed = alone_is_no_flag (codes "run") (omega arith, λ e. omega (arith, e))
+command_has_no_flag Check allowed = alone_is_no_flag (codes "check") (omega arith, λ e. omega (arith, e))
+command_has_no_flag (Gen lines start) allowed =
+    let start_alone = alone_is_no_flag (decimal start) (number_is_no_flag start (omega arith)) in
+    All-cons IsNoFlag (codes "gen") (decimal lines ∷ decimal start ∷ []) (omega arith, λ e. omega (arith, e))
+    (All-cons IsNoFlag (decimal lines) (decimal start ∷ []) (number_is_no_flag lines (omega arith)) start_alone)
 
 -- the parser refuses no command
 command_passes : (word : Word) → IsAllowed word → fault_of commands (words_of word) ≡ []
 command_passes Run allowed = run_passes
 command_passes Check allowed = check_passes
 command_passes (Gen lines start) allowed =
-    generate_passes (decimal lines) (decimal start) (number_is_no_flag lines (omega arith)) (number_is_no_flag start (omega arith))
-
--- no word of a command is a flag
-pub command_has_no_flag : (word : Word) → IsAllowed word → All IsNoFlag (words_of word)
-command_has_no_flag Run allowed = All-cons IsNoFlag (codes "run") [] (omega arith, λ e. omega (arith, e)) (All-nil IsNoFlag)
-command_has_no_flag Check allowed = All-cons IsNoFlag (codes "check") [] (omega arith, λ e. omega (arith, e)) (All-nil IsNoFlag)
-command_has_no_flag (Gen lines start) allowed =
-    All-cons IsNoFlag (codes "gen") (decimal lines ∷ decimal start ∷ []) (omega arith, λ e. omega (arith, e))
-    (All-cons IsNoFlag (decimal lines) (decimal start ∷ []) (number_is_no_flag lines (omega arith))
-    (All-cons IsNoFlag (decimal start) [] (number_is_no_flag start (omega arith)) (All-nil IsNoFlag)))
+    gen_passes (decimal lines) (decimal start) (number_is_no_flag lines (omega arith)) (number_is_no_flag start (omega arith))
 
 no_words : IsNoCommand []
 no_words Run is = let e = is.0 in cc
 no_words Check is = let e = is.0 in cc
 no_words (Gen lines start) is = let e = is.0 in cc
 
+-- ---- what the parser's clauses say of the commands
+
+-- no argument has a rule on another
+pub commands_are_free : is_simple_and_free commands ≡ true
+unfolding clap_on_literals
+commands_are_free = refl
+
+-- and no setting changes how words are read
+pub commands_are_simple : is_simple commands ≡ true
+unfolding clap_on_literals
+commands_are_simple = refl
+
 nothing_told : told (subcommand_of commands []) ≡ None
 unfolding clap_on_literals
 nothing_told = refl
 
 -- an error that isn't want of memory comes only where the words are no command
-pub refused_is_no_command : (words : List (List ℕ)) (error : Error) → kind_of error ≢ OutOfMemory → HasKind (fault_of commands words) error → IsNoCommand words
+pub refused_is_no_command : (words : List (List ℕ)) (error : Error) → kind_of error ≢ OutOfMemory
+    → HasKind (fault_of commands words) error → IsNoCommand words
 refused_is_no_command words error other has = λ word is.
     let none : fault_of commands words ≡ [] = ap (fault_of commands) is.0 ∙ command_passes word is.1 in
     elim (subst (λ kinds. HasKind kinds error) none has) [

@@ -37,7 +37,7 @@ pub(crate) fn parsed<'a>(
     }
 }
 
-// The commands, as the parser is told of them. It makes no texts of help.
+// What the parser is told: the commands, and no help.
 fn rose<'a>(alloc: Global) -> Result<Command<'a>, AllocError>
     ensures { IfOk result (λ command. app_of command ≡ commands) }
 {
@@ -65,12 +65,12 @@ fn spelling_of<'a>(matches: &ArgMatches<'a>) -> Option<Spelling<'a>>
     } else if name == "check" {
         Some(Spelling::Check)
     } else {
-        with_numbers(matches)
+        gen_spelling(matches)
     }
 }
 
-// The command with the numbers that the parser met.
-fn with_numbers<'a>(matches: &ArgMatches<'a>) -> Option<Spelling<'a>>
+// The command `gen` with the numbers that the parser met.
+fn gen_spelling<'a>(matches: &ArgMatches<'a>) -> Option<Spelling<'a>>
     ensures { option_map texts_of result ≡ numbers_told (rows_of (found_of matches.now)) }
 {
     let lines = matches.get_str("N")?;

@@ -11,15 +11,16 @@ pub returns-in-Ok : goal.returns-in-Ok
 returns-in-Ok c =
     let words = map string_bytes c.args.words.now in
     let app_is : app_of c.in_ok-command.command ≡ commands = c.in_ok-command.ensures in
-    let fails_not = subst (λ a. fault_of a words ≡ []) app_is (c.in-Ok.ensures.kinds (ap is_simple_and_free app_is ∙ commands_are_free)) in
+    let none = c.in-Ok.ensures.kinds (ap is_simple_and_free app_is ∙ commands_are_free) in
     let met = (c.in-Ok.ensures.matches (ap is_simple app_is ∙ commands_are_simple)).1 in
-    taken_is_spelled words c.spelling_of.result (All-map IsNoFlag string_bytes c.args.words.now c.requires.no_flags) fails_not
-    (c.spelling_of.ensures ∙ ap told (met ∙ ap (λ a. subcommand_of a words) app_is))
+    taken_is_spelled words c.spelling_of.result (All-map IsNoFlag string_bytes c.args.words.now c.requires.no_flags)
+    (subst (λ a. fault_of a words ≡ []) app_is none) (c.spelling_of.ensures ∙ ap told (met ∙ ap (λ a. subcommand_of a words) app_is))
 
 -- and no command fails
 pub returns : goal.returns
 returns c =
     let words = map string_bytes c.args.words.now in
     let app_is : app_of c.in_ok-command.command ≡ commands = c.in_ok-command.ensures in
-    let fails = subst (λ a. HasKind (fault_of a words) c.in-Err.error) app_is (c.in-Err.ensures.kinds (ap is_simple_and_free app_is ∙ commands_are_free)) in
-    refused_is_no_command words c.in-Err.error (λ memory. c.in_default.not-OutOfMemory (c.kind.ensures ∙ memory)) fails
+    let some = c.in-Err.ensures.kinds (ap is_simple_and_free app_is ∙ commands_are_free) in
+    refused_is_no_command words c.in-Err.error (λ memory. c.in_default.not-OutOfMemory (c.kind.ensures ∙ memory))
+    (subst (λ a. HasKind (fault_of a words) c.in-Err.error) app_is some)

@@ -5,7 +5,7 @@ use Rattle.clap.specs.Words.{Text, first_value, found_of, rows_of}
 use Rattle.clap.specs.declared.parser.matches.Found.{Found}
 use Rattle.clap.proofs.WalkLemmas.{first_value-rows}
 use Rattle.command_words.specs.Parsing.{numbers_told}
-use Rattle.command_words.proofs.parsing.with_numbers.Goals as goal
+use Rattle.command_words.proofs.parsing.gen_spelling.Goals as goal
 
 abbrev both : Option Text → Option Text → Option (List Text)
 both lines start = option_and_then (λ l. option_map (λ s. codes "gen" ∷ l ∷ s ∷ []) start) lines
@@ -22,7 +22,11 @@ returns-in_err-lines c =
 
 pub returns-in_err-start : goal.returns-in_err-start
 returns-in_err-start c =
-    rw c.from_residual-in_err-start.ensures (both_told (found_of c.args.matches.now) (Some c.in_ok-lines.lines.now) None c.in_ok-lines.ensures c.in_err-start.ensures)
+    let f = found_of c.args.matches.now in
+    let lines = Some c.in_ok-lines.lines.now in
+    rw c.from_residual-in_err-start.ensures (both_told f lines None c.in_ok-lines.ensures c.in_err-start.ensures)
 
 pub returns : goal.returns
-returns c = both_told (found_of c.args.matches.now) (Some c.in_ok-lines.lines.now) (Some c.in_ok-start.start.now) c.in_ok-lines.ensures c.in_ok-start.ensures
+returns c =
+    let f = found_of c.args.matches.now in
+    both_told f (Some c.in_ok-lines.lines.now) (Some c.in_ok-start.start.now) c.in_ok-lines.ensures c.in_ok-start.ensures
