@@ -1,6 +1,7 @@
 -- This file shows which words that are no flags the parser takes, and that its matches tell these words again: a
 -- name alone, and `gen` with two words behind it.
-use Rattle.std.proofs.Common.{◌≡◌, ◌⊎◌, ◌∙◌, Bool, List, [], ◌∷◌, Some, None, true, false, refl, sym, ap, subst, inl, inr, codes}
+use Rattle.std.proofs.Common.{◌≡◌, ◌⊎◌, ◌∙◌, Bool, List, [], ◌∷◌, Some, true, false, refl, sym, ap, subst, inl, inr}
+use Rattle.std.proofs.Common.{codes}
 use Rattle.std.specs.List.{All}
 use Rattle.std.specs.Str.{bytes_eq}
 use Rattle.std.proofs.lemmas.List.Elements.{All-head, All-tail}
@@ -12,18 +13,15 @@ use Rattle.clap.specs.Faults.{check_fault, defaults_fault, entered_fault, fault_
 use Rattle.clap.proofs.FaultLemmas.{past}
 use Rattle.clap.proofs.OnLiterals.{clap_on_literals}
 use Rattle.command_words.specs.Parsing.{IsNoFlag, commands, needed, told}
-use Rattle.command_words.proofs.Steps.{at, fails_as_rest, given, level_parts, name_walked, rest_passes, stray_word_fails, value_walked}
+use Rattle.command_words.proofs.Steps.{IsUnnamed, at, fails_as_rest, given, level_parts, name_walked, rest_passes, stray_word_fails, value_walked}
 
 -- ---- the first word
 
 abbrev names : Names
 names = (codes "run", []) ∷ (codes "check", []) ∷ (codes "gen", []) ∷ []
 
-abbrev IsUnnamed : Text → Type 0
-IsUnnamed word = subcommand_met names idle word ≡ None
-
 abbrev IsNamedOrNot : Text → Type 0
-IsNamedOrNot word = (word ≡ codes "run") ⊎ ((word ≡ codes "check") ⊎ ((word ≡ codes "gen") ⊎ IsUnnamed word))
+IsNamedOrNot word = (word ≡ codes "run") ⊎ ((word ≡ codes "check") ⊎ ((word ≡ codes "gen") ⊎ IsUnnamed names word))
 
 -- a word is one of the three names, or the parser knows it by none
 named_or_not : (word : Text) → IsNamedOrNot word
@@ -58,7 +56,8 @@ abbrev top : Shape
 top = (built commands).top
 
 -- a command without numbers takes no word behind its name
-no_more : (name : Text) (rest : List Text) → All IsNoFlag rest → level_fault (leaf name []) [] nothing_held rest false [] ≡ [] → rest ≡ []
+no_more : (name : Text) (rest : List Text) → All IsNoFlag rest → level_fault (leaf name []) [] nothing_held rest false [] ≡ []
+    → rest ≡ []
 no_more name [] plain none = refl
 no_more name (x ∷ xs) plain none =
     let parts = level_parts (leaf name []) [] (x ∷ xs) false [] none in

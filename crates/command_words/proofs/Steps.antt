@@ -58,7 +58,11 @@ stray_fails s none = go s.is_leaf none
     go true e = cc
     go false e = cc
 
-module _ (names : Names) (h : Held) (position : ℕ) (word : Text) (plain : IsNoFlag word) (unnamed : subcommand_met names idle word ≡ None) where
+-- the parser knows the word by none of the names
+abbrev pub IsUnnamed : Names → Text → Type 0
+IsUnnamed names word = subcommand_met names idle word ≡ None
+
+module _ (names : Names) (h : Held) (position : ℕ) (word : Text) (plain : IsNoFlag word) (unnamed : IsUnnamed names word) where
   value_met : (c : List Rule) → word_met c names false idle position word h ≡ (h, value)
   value_met c = ap (λ o. subcommand_or_other c o idle position word h) unnamed
       ∙ rw (no_dashes word plain, no_long word plain, no_short word plain) refl
