@@ -3,6 +3,7 @@
 
 mod laws;
 mod numbers;
+mod parsing;
 mod reading;
 #[cfg(test)]
 mod tests;

@@ -1,9 +1,14 @@
 //! Reading the words of a command.
-ghost use Rattle.std.specs.Prelude.{map, string_bytes, [], ◌∷◌};
+ghost use Rattle.std.specs.Prelude.{◌≡◌, ◌↔◌, IfOk, IsTrue, map, string_bytes, codes, [], ◌∷◌};
+ghost use Rattle.std.specs.List.{All};
 ghost use Rattle.command_words.specs.Written.{IsFound};
+ghost use Rattle.command_words.specs.Parsing.{IsNoFlag, texts_of};
 
 use crate::numbers::number_of;
+use crate::parsing::{Spelling, parsed};
 use crate::word::Word;
+use grid_base::NoMemory;
+use std::alloc::Global;
 
 /// How many lines `gen` makes at most.
 const MOST_LINES: u64 = 100_000;
@@ -13,37 +18,52 @@ const LONGEST: u64 = 9_999_999_999_999_999_999;
 
 /// The command that these words are, which are those behind the program's name; none where they are no
 /// command. A command has one text: nothing stands before, between or behind its words, and a number has no
-/// sign and no leading zero. Takes no memory.
-pub fn read_words(words: &[String]) -> Option<Word>
-    ensures { IsFound (map string_bytes words.now) result }
+/// sign and no leading zero. Want of memory may end each call, also at words that are no command.
+pub fn read_words(alloc: Global, words: &[String]) -> Result<Option<Word>, NoMemory>
+    ensures { IfOk result (λ found. IsFound (map string_bytes words.now) found) }
 {
-    match words {
-        [name] => without_numbers(name.as_str()),
-        [name, lines, start] => with_numbers(name.as_str(), lines.as_str(), start.as_str()),
-        _ => None,
+    if !are_no_flags(words) {
+        return Ok(None);
+    }
+    match parsed(alloc, words)? {
+        Some(spelling) => Ok(word_of(spelling)),
+        None => Ok(None),
     }
 }
 
-// The command that this word is alone.
-fn without_numbers(name: &str) -> Option<Word>
-    ensures { IsFound (name.now ∷ []) result }
+// Whether each word is no flag.
+fn are_no_flags(words: &[String]) -> bool
+    ensures { IsTrue result ↔ All (λ word. IsNoFlag (string_bytes word)) words.now }
 {
-    if name == "run" {
-        Some(Word::Run)
-    } else if name == "check" {
-        Some(Word::Check)
-    } else {
-        None
+    words.iter().all(|word| is_no_flag(word.as_bytes()))
+}
+
+// Whether the word is not empty, and begins with no hyphen.
+fn is_no_flag(word: &[u8]) -> bool
+    ensures { IsTrue result ↔ IsNoFlag word.now }
+{
+    match word {
+        [] => false,
+        [b'-', ..] => false,
+        _ => true,
     }
 }
 
-// The command that this word is with two numbers behind it.
-fn with_numbers(name: &str, lines: &str, start: &str) -> Option<Word>
-    ensures { IsFound (name.now ∷ lines.now ∷ start.now ∷ []) result }
+// The command that is spelled so; none where a number is not written as its own text.
+fn word_of(spelling: Spelling<'_>) -> Option<Word>
+    ensures { IsFound (texts_of spelling.entry) result }
 {
-    if name != "gen" {
-        return None;
+    match spelling {
+        Spelling::Run => Some(Word::Run),
+        Spelling::Check => Some(Word::Check),
+        Spelling::Gen { lines, start } => with_numbers(lines, start),
     }
+}
+
+// The command `gen` with these numbers.
+fn with_numbers(lines: &str, start: &str) -> Option<Word>
+    ensures { IsFound (codes "gen" ∷ lines.now ∷ start.now ∷ []) result }
+{
     let lines = number_of(lines, MOST_LINES)?;
     let start = number_of(start, LONGEST)?;
     Some(Word::Gen { lines, start })

@@ -16,7 +16,7 @@ fn parts(alloc: Global, text: &str) -> Result<Vec<String>, NoMemory> {
 // What is found: 0 for nothing, 1 for `run`, 2 for `check`, and 3 with both numbers for `gen`.
 fn found(alloc: Global, text: &str) -> Result<(u8, u64, u64), NoMemory> {
     let words = parts(alloc, text)?;
-    Ok(match read_words(words.as_slice()) {
+    Ok(match read_words(alloc, words.as_slice())? {
         None => (0, 0, 0),
         Some(Word::Run) => (1, 0, 0),
         Some(Word::Check) => (2, 0, 0),
@@ -52,6 +52,13 @@ fn worked_words(rt: HostRuntime) -> Result<(), Fail> {
         ("check|x", 0, 0, 0),
         ("help", 0, 0, 0),
         ("--help", 0, 0, 0),
+        ("help|run", 0, 0, 0),
+        ("run|--help", 0, 0, 0),
+        ("run|--", 0, 0, 0),
+        ("--|run", 0, 0, 0),
+        ("gen|--|1|7", 0, 0, 0),
+        ("run|run", 0, 0, 0),
+        ("ru", 0, 0, 0),
         ("gen", 0, 0, 0),
         ("gen|1", 0, 0, 0),
         ("gen|1|7|", 0, 0, 0),
@@ -70,6 +77,6 @@ fn worked_words(rt: HostRuntime) -> Result<(), Fail> {
         assert!(rt; is_found(alloc, text, kind, lines, start));
     }
     let none: Vec<String> = Vec::new(alloc);
-    assert!(rt; read_words(none.as_slice()).is_none());
+    assert!(rt; matches!(read_words(alloc, none.as_slice()), Ok(None)));
     Ok(())
 }

@@ -1,0 +1,6 @@
+-- how the parser takes one word that is no flag
+pub mod Steps
+-- which words the parser takes, and what it tells of them
+pub mod Levels
+-- what that says of the commands
+pub mod Spellings
