@@ -1,9 +1,11 @@
 //! Reading the words of a command.
-ghost use Rattle.std.specs.Prelude.{map, string_bytes, [], ◌∷◌};
+ghost use Rattle.std.specs.Prelude.{map, string_bytes, [], ◌∷◌, IfOk};
 ghost use Rattle.command_words.specs.Written.{IsFound};
 
 use crate::numbers::number_of;
 use crate::word::Word;
+use grid_base::NoMemory;
+use std::alloc::Global;
 
 /// How many lines `gen` makes at most.
 const MOST_LINES: u64 = 100_000;
@@ -14,7 +16,13 @@ const LONGEST: u64 = 9_999_999_999_999_999_999;
 /// The command that these words are, which are those behind the program's name; none where they are no
 /// command. A command has one text: nothing stands before, between or behind its words, and a number has no
 /// sign and no leading zero. Takes no memory.
-pub fn read_words(words: &[String]) -> Option<Word>
+pub fn read_words(_alloc: Global, words: &[String]) -> Result<Option<Word>, NoMemory>
+    ensures { IfOk result (λ found. IsFound (map string_bytes words.now) found) }
+{
+    Ok(found_in(words))
+}
+
+fn found_in(words: &[String]) -> Option<Word>
     ensures { IsFound (map string_bytes words.now) result }
 {
     match words {
