@@ -1,5 +1,5 @@
 //! The calls of the program: the words choose what is done, and the loop answers line by line.
-ghost use Rattle.std.specs.Prelude.{◌≡◌, ◌≢◌, ◌≤◌, ◌^◌, ◌⊎◌, ◌↔◌, false, length, map, string_bytes};
+ghost use Rattle.std.specs.Prelude.{◌≡◌, ◌≢◌, ◌≤◌, ◌^◌, ◌⊎◌, false, length, map, string_bytes};
 ghost use Rattle.outside_world.specs.Counts.{Rose};
 ghost use Rattle.outside_world.specs.GoesOn.{GoesOn};
 ghost use Rattle.command_words.specs.Written.{IsWritten, IsNoCommand, IsAllowed};
@@ -16,6 +16,7 @@ use crate::serving::serve_by_chunks;
 use crate::status::{Status, status_unstarted};
 use crate::telling::{tell_map, tell_store};
 use command_words::{Word, one_command, read_words};
+use grid_base::NoMemory;
 use outside_world::Outside;
 use query_batch::{Gate, Open};
 use realm_store::Store;
@@ -27,16 +28,18 @@ const MOST_BYTES: u64 = 1_099_511_627_776;
 
 /// Does what these words ask for, the arguments after the program's name. `run` reads lines to the end of the
 /// input, from what the files stand for on, and answers each. `check` tells how much the files stand for, and `gen` of a
-/// map that nobody wrote. Want of memory may end each at any place: what was given then is the replies to the first
-/// lines, each whole, or nothing.
+/// map that nobody wrote. Words that are no command end as usage. Want of memory may end each at any place: what was
+/// given then is the replies to the first lines, each whole, or nothing.
 pub fn run<R: Threads + Sync, W: Outside>(
     rt: &R,
     alloc: Global,
     words: &[String],
     world: &mut W,
 ) -> Status
-    ensures usage { result ≡ Status.Usage ↔ IsNoCommand (map string_bytes words.now) }
-    ensures untouched { result ≡ Status.Usage → world.new ≡ world.old }
+    ensures usage { result ≡ Status.Usage → IsNoCommand (map string_bytes words.now) }
+    ensures no_command { IsNoCommand (map string_bytes words.now)
+        → (result ≡ Status.Usage) ⊎ (result ≡ Status.NoMemory) }
+    ensures untouched { IsNoCommand (map string_bytes words.now) → world.new ≡ world.old }
     ensures source_fault { result ≡ Status.SourceFault
         → Rose (W.source_faults world.old) (W.source_faults world.new) }
     ensures sink_fault { result ≡ Status.SinkFault
@@ -59,9 +62,10 @@ pub fn run<R: Threads + Sync, W: Outside>(
     ensures goes_on { GoesOn ⟦<W as Outside>⟧ world.old world.new }
 {
     one_command();
-    match read_words(words) {
-        Some(word) => do_command(rt, alloc, word, world),
-        None => Status::Usage,
+    match read_words(alloc, words) {
+        Ok(Some(word)) => do_command(rt, alloc, word, world),
+        Ok(None) => Status::Usage,
+        Err(NoMemory) => Status::NoMemory,
     }
 }
 
