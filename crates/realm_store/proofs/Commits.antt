@@ -18,6 +18,7 @@ use Rattle.realm_store.specs.declared.error.CommitError.TheVariants.{Disk, NoMem
 use Rattle.realm_store.specs.Leading.{Leads}
 use Rattle.realm_store.specs.Keeping.{Kept, SpendableKept, AllRest, with_state}
 use Rattle.realm_store.specs.Replies.{ok_reply}
+use Rattle.realm_store.specs.Sound.{IsSound}
 use Rattle.realm_store.specs.Making.{IsMade, next_gate, record_of, kept_behind}
 use Rattle.realm_store.specs.Committing.{Committed, IsWritten, Keeps}
 
@@ -57,7 +58,7 @@ disk_not_memory (Err e) is = λ same. cc
 
 -- A store keeps this of the files, and the engine makes the change from its state by these steps.
 module _ {start : Kept} {spent : Bool} {self : SpendableKept} (is : record { kept = start; spent = spent } ≡ self)
-    {c : Change} {steps : List Step} {state : State} (next : Next start.state c steps state) where
+    {c : Change} {steps : List Step} {state : State} (next : Next start.state c steps state) (sound : IsSound state) where
   abbrev new_record : Record
   new_record = record_of c steps state.changes
 
@@ -86,6 +87,7 @@ module _ {start : Kept} {spent : Bool} {self : SpendableKept} (is : record { kep
       has_gate = refl;
       room = room;
     };
+    sound = sound;
     reply_is = says;
   })
 

@@ -4,6 +4,8 @@ pub mod Leading
 pub mod Stands
 -- files that stand for no state
 pub mod Damages
+-- what every state of a store is like
+pub mod Sound
 -- what is kept of the files
 pub mod Keeping
 -- the reply to a change

@@ -11,6 +11,7 @@ use Rattle.realm_insert.specs.declared.refusal.Refusal.{Refusal}
 use Rattle.realm_insert.specs.declared.refusal.Refusal.TheVariants.{Full}
 use Rattle.realm_files.specs.declared.place.Place.{Place}
 use Rattle.realm_files.specs.Writing.{place_or_first, with_gate}
+use Rattle.realm_store.specs.Sound.{IsSound}
 use Rattle.realm_store.specs.Keeping.{Kept}
 use Rattle.realm_store.specs.Replies.{ok_reply}
 
@@ -38,10 +39,11 @@ pub record Makes (c : Change) (steps : List Step) (old new : Kept) : Type 0 wher
   -- its file had room for it
   pub room : next_gate old < 2 ^ 61
 
--- the change is made by some steps, and gets this reply
+-- the change is made by some steps, which leads to a sound state, and gets this reply
 pub record IsMade (c : Change) (old : Kept) (reply : List ℕ) (new : Kept) : Type 0 where
   pub steps : List Step
   pub makes : Makes c steps old new
+  pub sound : IsSound new.state
   pub reply_is : reply ≡ ok_reply new.state.changes (length steps) old.state.next_id (new.state.next_id - old.state.next_id)
 
 -- no record more may be written: the place of its gate would be too far

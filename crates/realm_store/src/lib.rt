@@ -7,6 +7,7 @@
 mod committing;
 mod error;
 mod laws;
+mod looking;
 mod opening;
 mod renewing;
 mod replaying;

@@ -9,6 +9,7 @@ ghost use Rattle.realm_insert.specs.State.{State};
 ghost use Rattle.realm_files.specs.Writing.{generation_of};
 ghost use Rattle.realm_store.specs.Leading.{Leads};
 ghost use Rattle.realm_store.specs.Keeping.{Kept, AllRest, with_state};
+ghost use Rattle.realm_store.specs.Sound.{IsSound};
 ghost use Rattle.realm_store.specs.Replies.{ok_reply};
 ghost use Rattle.realm_store.specs.Making.{next_gate, record_of, kept_behind, IsMade, IsFull, IsRefusedFor};
 ghost use Rattle.realm_store.specs.Committing.{IsWritten, Keeps, Stays};
@@ -17,6 +18,7 @@ ghost use Rattle.realm_store.specs.Starting.{Started};
 
 use crate::committing::{make_ready, place_or_first, write_behind};
 use crate::error::{CheckpointError, CommitError, StartError};
+use crate::looking::is_sound;
 use crate::opening::open_newest;
 use crate::renewing::{generation_of, next_file, prepare_state};
 use crate::writing::put_next;
@@ -104,12 +106,14 @@ impl Store {
         }
     }
 
-    /// The state.
+    /// The state, which is sound.
     pub fn state(&self) -> &Engine
         requires ready { self.now.spent ≡ false }
         ensures state { result.now.state ≡ self.now.kept.state }
         ensures ready { result.now.spent ≡ false }
+        ensures sound { IsSound self.now.kept.state }
     {
+        is_sound(&self.engine);
         &self.engine
     }
 
@@ -151,7 +155,10 @@ impl Store {
             return Err(self.refuse_full(rt, c));
         }
         match self.engine.change(rt, c) {
-            Ok(applied) => self.keep(world, c, applied),
+            Ok(applied) => {
+                is_sound(&self.engine);
+                self.keep(world, c, applied)
+            }
             Err(ChangeError::Refused(word)) => Err(CommitError::Refused(word)),
             Err(ChangeError::NoMemory) => {
                 self.spent = true;

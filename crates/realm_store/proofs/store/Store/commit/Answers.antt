@@ -26,26 +26,26 @@ keep-requires-clause-rest g c = (
 -- the steps are those of the engine, and the next gate isn't too far
 pub returns-in-Ok-clause-made : goal.returns-in-Ok-clause-made
 returns-in-Ok-clause-made g c =
-    made c.self.view_is c.in-Ok.ensures.next (omega (arith, ap (λ (p : Place). p.next) c.place_or_first.ensures, c.if-place_or_first-ge-NO_PLACE.false))
+    made c.self.view_is c.in-Ok.ensures.next c.is_sound.ensures (omega (arith, ap (λ (p : Place). p.next) c.place_or_first.ensures, c.if-place_or_first-ge-NO_PLACE.false))
     c.keep.new.self.kept c.in-Ok.applied.first c.in-Ok.applied.added c.keep.result c.keep.ensures.kept c.in-Ok.ensures.numbers
     c.keep.ensures.reply
 
 -- and its record leads on from the state before
 pub returns-in-Ok-clause-rest : goal.returns-in-Ok-clause-rest
 returns-in-Ok-clause-rest g c =
-    rests c.self.view_is c.in-Ok.ensures.next c.requires.spellable (g.W.Outside.view c.args.world.now)
+    rests c.self.view_is c.in-Ok.ensures.next c.is_sound.ensures c.requires.spellable (g.W.Outside.view c.args.world.now)
     (g.W.Outside.view c.keep.new.world) (λ t. c.requires.rest (c.keep.ensures.goes_on.tells t)) c.keep.result c.keep.ensures.told
     c.keep.new.self.kept c.keep.ensures.kept
 
 pub returns-in-Ok-clause-written : goal.returns-in-Ok-clause-written
 returns-in-Ok-clause-written g c =
-    is_written c.self.view_is c.in-Ok.ensures.next c.requires.spellable (g.W.Outside.view c.args.world.now)
+    is_written c.self.view_is c.in-Ok.ensures.next c.is_sound.ensures c.requires.spellable (g.W.Outside.view c.args.world.now)
     (g.W.Outside.view c.keep.new.world) (λ t. c.requires.rest (c.keep.ensures.goes_on.tells t)) c.keep.result c.keep.ensures.told
     c.keep.new.self.kept c.keep.ensures.kept
 
 pub returns-in-Ok-clause-cut_off : goal.returns-in-Ok-clause-cut_off
 returns-in-Ok-clause-cut_off g c =
-    cut_off c.self.view_is c.in-Ok.ensures.next c.requires.spellable (g.W.Outside.view c.args.world.now)
+    cut_off c.self.view_is c.in-Ok.ensures.next c.is_sound.ensures c.requires.spellable (g.W.Outside.view c.args.world.now)
     (g.W.Outside.view c.keep.new.world) (λ t. c.requires.rest (c.keep.ensures.goes_on.tells t)) c.keep.result c.keep.ensures.told
     (omega (arith, ap (λ (p : Place). p.next) c.place_or_first.ensures, c.if-place_or_first-ge-NO_PLACE.false))
 
