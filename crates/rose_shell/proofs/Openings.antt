@@ -67,6 +67,7 @@ module _ {old mid : View} (now : (t : ℕ) (m : Moment) → t ≤ old.moment →
             others = is.others;
             some = is.some;
             taken = is.taken ∙ ap (λ (l : List ℕ). l ++ is.bytes) asks.takes.taken;
+            in_budget = is.in_budget;
             answered = is.answered;
             given = is.given ∙ ap (λ (l : List ℕ). l ++ replies is.done) asks.given;
           }));

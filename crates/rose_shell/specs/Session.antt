@@ -111,13 +111,15 @@ pub record AreTurnsOf {S : Type 0} (turns : List (Turn S)) (bytes : List ℕ) : 
   pub lines : lines_of turns ++ held ≡ whole_lines bytes
   pub full : AreFull ⊥ turns
 
--- a take began when the turns of the bytes taken had been made, and nothing else
-pub record IsAnswered {S : Type 0} (old : View) (turns : List (Turn S)) (a : Asked) : Type 0 where
+-- a take began when the turns of the bytes taken had been made, and nothing else; these are within the budget
+pub record IsAnswered {S : Type 0} (old : View) (budget : ℕ) (turns : List (Turn S)) (a : Asked)
+    : Type 0 where
   pub bytes : List ℕ
   pub done : List (Turn S)
   pub others : List (Turn S)
   pub some : turns ≡ done ++ others
   pub taken : a.taken ≡ old.taken ++ bytes
+  pub in_budget : length bytes ≤ budget
   pub answered : AreTurnsOf done bytes
   pub given : a.given ≡ old.given ++ replies done
 
@@ -143,7 +145,7 @@ pub record Served {S : Type 0} (terms : Terms S) (old new : View) (start end : S
   pub given : new.given ++ unsent ≡ old.given ++ replies turns
   pub ends : status ≢ NoMemory → status ≢ DiskFault → end ≡ end_of start turns
   -- at each take, at each crash since the start, and at a crash now
-  pub asked : OnlyAdds old.moment old.asked_since new.asked_since (IsAnswered old turns)
+  pub asked : OnlyAdds old.moment old.asked_since new.asked_since (IsAnswered old budget turns)
   pub crash : LeavesOnly old new (IsMoment terms.stands start turns old.given)
   pub rest : status ≢ DiskFault → AllRest terms new (end_of start turns)
   -- what each status means
