@@ -1,9 +1,10 @@
 //! The calls of the program: the words choose what is done, and the loop answers line by line.
-ghost use Rattle.std.specs.Prelude.{◌≡◌, ◌≢◌, ◌≤◌, ◌^◌, ◌⊎◌, false, length, map, string_bytes};
+ghost use Rattle.std.specs.Prelude.{◌≡◌, ◌≢◌, ◌≤◌, ◌^◌, ◌⊎◌, ℕ, false, length, map, string_bytes};
 ghost use Rattle.outside_world.specs.Counts.{Rose};
 ghost use Rattle.outside_world.specs.GoesOn.{GoesOn};
 ghost use Rattle.command_words.specs.Written.{IsWritten, IsNoCommand, IsAllowed};
 ghost use Rattle.command_words.specs.declared.word.Word.{Word as Command};
+ghost use Rattle.command_words.specs.declared.word.Word.TheVariants.{Gen};
 ghost use Rattle.realm_insert.specs.State.{State};
 ghost use Rattle.realm_store.specs.Stands.{StandsFor};
 ghost use Rattle.realm_store.specs.Keeping.{AllRest};
@@ -50,6 +51,9 @@ pub fn run<R: Threads + Sync, W: Outside>(
         → IsDamaged d (W.view world.old).reads }
     ensures told { (command : Command) → IsWritten (map string_bytes words.now) command
         → W.tells world.new → HasDone command (W.view world.old) (W.view world.new) result }
+    // `gen` makes no call on a file: each may raise the count.
+    ensures no_file { (lines start : ℕ) → IsWritten (map string_bytes words.now) (Gen lines start)
+        → W.disk_faults world.new ≡ W.disk_faults world.old }
     // Where no call fails, the files stand for a state and the input ends within the budget, as far as the command
     // asks for them, nothing but memory can be wanting.
     ensures complete { (command : Command) → IsWritten (map string_bytes words.now) command
@@ -87,6 +91,8 @@ fn do_command<R: Threads + Sync, W: Outside>(
     ensures damaged { (d : Damage) → result ≡ Status.Damaged d → W.tells world.new
         → IsDamaged d (W.view world.old).reads }
     ensures told { W.tells world.new → HasDone word (W.view world.old) (W.view world.new) result }
+    ensures no_file { (lines start : ℕ) → word ≡ Gen lines start
+        → W.disk_faults world.new ≡ W.disk_faults world.old }
     ensures complete { W.tells world.new
         → ¬ (Rose (W.source_faults world.old) (W.source_faults world.new))
         → ¬ (Rose (W.sink_faults world.old) (W.sink_faults world.new))

@@ -2,6 +2,7 @@ use Rattle.std.proofs.Common.{inr, refl, subst, map}
 use Rattle.std.specs.Prelude.{string_bytes}
 use Rattle.command_words.specs.Written.{IsWritten, IsNoCommand}
 use Rattle.command_words.specs.declared.word.Word.{Word}
+use Rattle.command_words.specs.declared.word.Word.TheVariants.{Gen}
 use Rattle.rose_shell.specs.Telling.{HasDone, CanBeDone}
 use Rattle.rose_shell.proofs.Results.{at_some, at_none}
 use Rattle.rose_shell.proofs.Tellings.{none_done}
@@ -39,6 +40,13 @@ returns-in-Ok-Some-clause-complete g c = λ command written tells source sink di
     (subst (λ (w : Word). CanBeDone w (g.W.Outside.view c.args.world.now))
     (c.one_command.ensures _ command read.word written is) can)
 
+pub returns-in-Ok-Some-clause-no_file : goal.returns-in-Ok-Some-clause-no_file
+returns-in-Ok-Some-clause-no_file g c = λ lines start written.
+    let read = c.in-Ok-Some in
+    let is = at_some (IsNoCommand (map string_bytes c.args.words.now)) (IsWritten (map string_bytes c.args.words.now))
+    read.field-0-is read.ensures in
+    c.do_command.ensures.no_file lines start (c.one_command.ensures _ read.word (Gen lines start) is written)
+
 -- and where none was read they are those of none
 pub returns-in-Ok-None-clause-usage : goal.returns-in-Ok-None-clause-usage
 returns-in-Ok-None-clause-usage g c = λ _.
@@ -56,6 +64,12 @@ returns-in-Ok-None-clause-complete g c = λ command written tells source sink di
     let read = c.in-Ok-None in
     absurd (at_none (IsNoCommand (map string_bytes c.args.words.now)) (IsWritten (map string_bytes c.args.words.now))
     read.field-0-is read.ensures command written)
+
+pub returns-in-Ok-None-clause-no_file : goal.returns-in-Ok-None-clause-no_file
+returns-in-Ok-None-clause-no_file g c = λ lines start written.
+    let read = c.in-Ok-None in
+    absurd (at_none (IsNoCommand (map string_bytes c.args.words.now)) (IsWritten (map string_bytes c.args.words.now))
+    read.field-0-is read.ensures (Gen lines start) written)
 
 -- and where memory ran out nothing was done
 pub returns-in-Err-clause-told : goal.returns-in-Err-clause-told
