@@ -1,5 +1,5 @@
 //! The calls of the program: the words choose what is done, and the loop answers line by line.
-ghost use Rattle.std.specs.Prelude.{◌≡◌, ◌≢◌, ◌≤◌, ◌^◌, ◌⊎◌, ℕ, false, length, map, string_bytes};
+ghost use Rattle.std.specs.Prelude.{◌≡◌, ◌≢◌, ◌≤◌, ◌^◌, ◌⊎◌, ℕ, true, false, length, map, string_bytes};
 ghost use Rattle.outside_world.specs.Counts.{Rose};
 ghost use Rattle.outside_world.specs.GoesOn.{GoesOn};
 ghost use Rattle.command_words.specs.Written.{IsWritten, IsNoCommand, IsAllowed};
@@ -166,8 +166,9 @@ pub fn serve<R: Threads + Sync, W: Outside>(
         → ¬ (Rose (W.disk_faults world.old) (W.disk_faults world.new))
         → length (W.view world.old).left ≤ budget
         → (result ≡ Status.Done) ⊎ (result ≡ Status.NoMemory) }
-    // But for want of memory and a disk fault it can go on.
+    // But for want of memory and a disk fault it can go on; after a disk fault it can't.
     ensures ready { result ≢ Status.NoMemory → result ≢ Status.DiskFault → store.new.spent ≡ false }
+    ensures spent { result ≡ Status.DiskFault → store.new.spent ≡ true }
     ensures rest { result ≢ Status.NoMemory → result ≢ Status.DiskFault → W.tells world.new
         → AllRest store.new.kept (W.view world.new) }
     ensures goes_on { GoesOn ⟦<W as Outside>⟧ world.old world.new }
@@ -203,8 +204,9 @@ pub fn serve_gated<R: Threads + Sync, W: Outside, G: Gate>(
         → ¬ (Rose (W.disk_faults world.old) (W.disk_faults world.new))
         → length (W.view world.old).left ≤ budget
         → (result ≡ Status.Done) ⊎ (result ≡ Status.NoMemory) }
-    // But for want of memory and a disk fault it can go on.
+    // But for want of memory and a disk fault it can go on; after a disk fault it can't.
     ensures ready { result ≢ Status.NoMemory → result ≢ Status.DiskFault → store.new.spent ≡ false }
+    ensures spent { result ≡ Status.DiskFault → store.new.spent ≡ true }
     ensures rest { result ≢ Status.NoMemory → result ≢ Status.DiskFault → W.tells world.new
         → AllRest store.new.kept (W.view world.new) }
     ensures goes_on { GoesOn ⟦<W as Outside>⟧ world.old world.new }
