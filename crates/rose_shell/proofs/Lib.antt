@@ -44,6 +44,8 @@ mod Sessions
 mod Openings
 -- how a run ends that counts no fault
 mod Rises
+-- files that were synced before they were read are stable
+mod Syncs
 -- what is told where a store isn't started
 mod Unstarted
 -- lines that are given after nothing but questions of the files

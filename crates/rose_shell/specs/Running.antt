@@ -15,6 +15,7 @@ use Rattle.realm_journal.specs.Reading.{OnlyAsks}
 use Rattle.realm_store.specs.Stands.{StandsFor}
 use Rattle.realm_store.specs.Keeping.{Kept, SpendableKept, RestsAt, AllRest}
 use Rattle.realm_files.specs.Keeping.{KnowsGate}
+use Rattle.realm_files.specs.Syncing.{AllStable}
 use Rattle.realm_store.specs.Damages.{IsDamaged}
 use Rattle.realm_pages.specs.declared.damage.Damage.{Damage}
 use Rattle.query_batch.specs.Answers.{TellsLine}
@@ -74,12 +75,12 @@ pub record HasServed (old new : View) (start end : SpendableKept) (budget : ℕ)
   pub prefix : start.kept.has_gate ≡ true → LeavesOnly old new (IsCrashOf start session.turns old.given)
   pub rest : status ≢ DiskFault → AllRest (end_of start session.turns).kept new
 
--- Both files were synced and read, and nothing else happened: the disk failed meanwhile, memory ran out, or the
--- files are damaged as is told.
+-- Nothing was taken, given or written: the disk failed, memory ran out, or the files are damaged as is told,
+-- and a crash now leaves each as it reads.
 pub record IsNotBegun (old new : View) (status : Status) : Type 0 where
   pub asks : OnlyAsks old new
   pub cause : (status ≡ DiskFault) ⊎ ((status ≡ NoMemory)
-      ⊎ ((d : Damage) × (status ≡ Damaged d) × IsDamaged d old.reads))
+      ⊎ ((d : Damage) × (status ≡ Damaged d) × IsDamaged d old.reads × AllStable new))
 
 -- a store that keeps this and isn't spent
 abbrev pub ready_store : Kept → SpendableKept
