@@ -16,7 +16,7 @@ use Rattle.rose_shell.specs.Session.{lines_of, IsCutOff, Served}
 use Rattle.rose_shell.specs.Loop.{IsWaiting, Went, Stopped, status_at}
 use Rattle.rose_shell.proofs.Turns.{full_wider, full-append, given_in_part_behind, cut_off_behind}
 use Rattle.rose_shell.proofs.Cuts.{lines_from-append}
-use Rattle.rose_shell.proofs.Runs.{run_then, ends_then, replies_then, crash_then}
+use Rattle.rose_shell.proofs.Runs.{run_then, ends_then, replies_then, crash_then, still_then}
 use Rattle.rose_shell.proofs.Batches.{none_waits}
 use Rattle.rose_shell.proofs.Halts.{other_halts, sink_halts, disk_halts, memory_halts}
 use Rattle.rose_shell.proofs.Halts.{halt_is_not_done, halt_is_no_source_fault, halt_is_no_limit}
@@ -51,6 +51,7 @@ module _ {S : Type 0} {terms : Terms S} where
     asked = ahead.asked;
     crash = ahead.made.crash;
     rest = λ _. subst (λ (s : S). AllRest terms new s) ahead.made.ends ahead.rest;
+    still = ahead.made.still;
     done = λ is. absurd (cc);
     source = λ _. (ahead.answered, refl);
     sink = λ is. absurd (cc);
@@ -90,6 +91,7 @@ module _ {S : Type 0} {terms : Terms S} where
         asked = ahead.asked;
         crash = ahead.made.crash;
         rest = λ _. subst (λ (s : S). AllRest terms new s) ahead.made.ends ahead.rest;
+        still = ahead.made.still;
         done = λ is. absurd (cc);
         source = λ is. absurd (cc);
         sink = λ is. absurd (cc);
@@ -127,6 +129,7 @@ module _ {S : Type 0} {terms : Terms S} where
         ends = λ _ _. went.ends ∙ ends_then ahead.made us;
         asked = asked_then ahead went.takes us;
         crash = crash_then ahead.made us new went.crash;
+        still = still_then ahead.made us went.still;
         rest = λ _. subst (λ (s : S). AllRest terms new s) (went.ends ∙ ends_then ahead.made us) went.rest;
         done = λ _. (over, refl, refl);
         source = λ is. absurd (cc);
@@ -174,6 +177,7 @@ module _ {S : Type 0} {terms : Terms S} where
         ends = λ memory disk. (stopped.sink (other_halts halt memory disk)).0 ∙ ends_then ahead.made us;
         asked = asked_then ahead stopped.takes us;
         crash = crash_then ahead.made us new stopped.crash;
+        still = still_then ahead.made us stopped.still;
         rest = λ other.
             subst (λ (s : S). AllRest terms new s) (ends_then ahead.made us) (stopped.rest (λ is. other (ap status_at is)));
         done = λ is. absurd (halt_is_not_done halt is);

@@ -4,6 +4,8 @@ mod Traces
 mod ChangeAnswers
 -- a batch whose number is out of range is refused
 mod RefusedBatches
+-- runs of calls that leave the files as they were
+mod KeptFiles
 -- a store keeps its terms at the desk
 mod Stores
 -- a checkpoint is an answer to its line

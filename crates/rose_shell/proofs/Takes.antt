@@ -15,7 +15,8 @@ use Rattle.rose_shell.specs.Loop.{IsWaiting, Went}
 use Rattle.outside_world.proofs.Moments.{only_nothing, only_wider, only_then, only_of_adds}
 use Rattle.rose_shell.proofs.Turns.{lines_behind, full-append, moment_now}
 use Rattle.rose_shell.proofs.Cuts.{lines_from-append, part_from-append}
-use Rattle.rose_shell.proofs.Runs.{Made, run_then, ends_then, replies_then, crash_then}
+use Rattle.rose_shell.proofs.KeptFiles.{keeps_files, keeps_then, keeps_by_taking}
+use Rattle.rose_shell.proofs.Runs.{Made, run_then, ends_then, replies_then, crash_then, still_then}
 use Rattle.rose_shell.proofs.OneTurn.{still_rest}
 use Rattle.rose_shell.proofs.Batches.{are_held}
 
@@ -67,7 +68,14 @@ module _ {S : Type 0} {terms : Terms S} where
     bytes = [];
     ahead = record {
       turns = [];
-      made = record { is_run = tt; ends = refl; given = sym (append-nil v.given); later = omega arith; crash = only_nothing };
+      made = record {
+        is_run = tt;
+        ends = refl;
+        given = sym (append-nil v.given);
+        later = omega arith;
+        crash = only_nothing;
+        still = λ _. keeps_files;
+      };
       answered = record { held = []; are_held = tt; lines = refl; full = tt };
       left = refl;
       taken = sym (append-nil v.taken);
@@ -101,6 +109,7 @@ module _ {S : Type 0} {terms : Terms S} where
               (λ m may. moment_now terms.stands start turns old.given m (may.0 ∙ given_now)
               (subst (λ (s : S). terms.stands s m.files) made.ends
               (terms.rest_stands end m.files (rest.each m.files may.1)))));
+          still = λ stay. keeps_then made.later (made.still stay) (keeps_by_taking ticks files);
         };
         answered = ahead.answered;
         left = ahead.left ∙ ap (λ (l : List ℕ). bytes ++ l) left;
@@ -171,6 +180,7 @@ module _ {S : Type 0} {terms : Terms S} where
           given = went.given ∙ replies_then ahead.made us;
           later = omega (arith, ahead.made.later, went.takes.later);
           crash = crash_then ahead.made us new went.crash;
+          still = still_then ahead.made us went.still;
         };
         answered = record {
           held = went.held;

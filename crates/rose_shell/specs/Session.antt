@@ -7,7 +7,7 @@ use Rattle.outside_world.specs.Since.{OnlyAdds, LeavesOnly}
 use Rattle.rose_shell.specs.declared.status.Status.{Status}
 use Rattle.rose_shell.specs.declared.status.Status.TheVariants.{Done, SourceFault, SinkFault}
 use Rattle.rose_shell.specs.declared.status.Status.TheVariants.{DiskFault, NoMemory, InputLimit}
-use Rattle.rose_shell.specs.Desk.{Rule, Stands, Terms, AllRest}
+use Rattle.rose_shell.specs.Desk.{Rule, Stands, Terms, AllRest, KeepsFiles}
 use Rattle.query_batch.specs.Joined.{AreJoined}
 use Rattle.query_batch.specs.Replies.{too_long_reply}
 use Rattle.rose_shell.specs.Lines.{longest_line, whole_lines, all_lines}
@@ -61,6 +61,11 @@ AreFull none_left (turn ∷ turns) =
 abbrev pub end_of : {S : Type 0} → S → List (Turn S) → S
 end_of start [] = start
 end_of start (turn ∷ turns) = end_of turn.after turns
+
+-- each of them has left the state as it was
+abbrev pub Stay : {S : Type 0} → S → List (Turn S) → Type 0
+Stay start [] = Unit {0}
+Stay start (turn ∷ turns) = (turn.after ≡ start) × Stay turn.after turns
 
 -- their replies, one after another
 abbrev pub replies : {S : Type 0} → List (Turn S) → List ℕ
@@ -148,6 +153,8 @@ pub record Served {S : Type 0} (terms : Terms S) (old new : View) (start end : S
   pub asked : OnlyAdds old.moment old.asked_since new.asked_since (IsAnswered old budget turns)
   pub crash : LeavesOnly old new (IsMoment terms.stands start turns old.given)
   pub rest : status ≢ DiskFault → AllRest terms new (end_of start turns)
+  -- turns that all leave the state as it was leave the files as they were
+  pub still : Stay start turns → KeepsFiles old new
   -- what each status means
   pub done : status ≡ Done → (new.left ≡ []) × (unread ≡ []) × (unsent ≡ [])
   pub source : status ≡ SourceFault → AreTurnsOf turns bytes × (unsent ≡ [])
