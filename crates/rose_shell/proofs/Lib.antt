@@ -1,5 +1,3 @@
--- what settles a drawing leaves no violation
-mod Traces
 -- what the store answers to a change is an answer to its line
 mod ChangeAnswers
 -- a batch whose number is out of range is refused

@@ -99,7 +99,7 @@ module _ {old mid : View} (now : (t : ℕ) (m : Moment) → t ≤ old.moment →
           end = end;
           served = record {
             session = served_from served.session;
-            realms = served.realms;
+            sound = served.sound;
             counted = served.counted;
             prefix = λ has. crash_behind new (λ given m. IsCrashOf first turns given m) (served.prefix has);
             rest = served.rest;

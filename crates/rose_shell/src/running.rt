@@ -211,8 +211,8 @@ pub fn serve_gated<R: Threads + Sync, W: Outside, G: Gate>(
         → AllRest store.new.kept (W.view world.new) }
     ensures goes_on { GoesOn ⟦<W as Outside>⟧ world.old world.new }
 {
-    // The session begins with a realm.
-    let _drawing = store.state().drawing();
+    // The session begins with a sound state.
+    let _state = store.state();
     let mut chunk = [0u8; 65_536];
     serve_by_chunks(rt, alloc, gate, store, world, budget, &mut chunk)
 }
