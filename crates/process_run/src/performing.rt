@@ -1,5 +1,5 @@
 //! What the program does in a world, and the number that it ends with.
-ghost use Rattle.std.specs.Prelude.{◌≡◌, ◌↔◌, IfOk, IsErrOf, map, string_bytes};
+ghost use Rattle.std.specs.Prelude.{◌≡◌, ◌⊎◌, IfOk, IsErrOf, map, string_bytes};
 ghost use Rattle.std.specs.Process.{exit_status};
 ghost use Rattle.outside_world.specs.Counts.{Rose};
 ghost use Rattle.outside_world.specs.GoesOn.{GoesOn};
@@ -27,7 +27,11 @@ pub fn perform<R: Threads + Sync, W: Outside>(
     ensures not_text { IsErrOf words WordsError.NotText → result ≡ Status.Usage }
     ensures no_memory { IsErrOf words WordsError.NoMemory → result ≡ Status.NoMemory }
     ensures usage { IfOk words
-        (λ known. result ≡ Status.Usage ↔ IsNoCommand (map string_bytes known.items)) }
+        (λ known. result ≡ Status.Usage → IsNoCommand (map string_bytes known.items)) }
+    ensures no_command { IfOk words (λ known. IsNoCommand (map string_bytes known.items)
+        → (result ≡ Status.Usage) ⊎ (result ≡ Status.NoMemory)) }
+    ensures untouched { IfOk words
+        (λ known. IsNoCommand (map string_bytes known.items) → world.new ≡ world.old) }
     ensures told { IfOk words (λ known. (command : Word) → IsWritten (map string_bytes known.items) command
         → W.tells world.new → HasDone command (W.view world.old) (W.view world.new) result) }
     ensures source_fault { result ≡ Status.SourceFault

@@ -1,10 +1,11 @@
 -- This file shows what a checkpoint is as an answer to its line.
-use Rattle.std.proofs.Common.{◌≡◌, inl, inr, true, false, List, ℕ, refl, ap, ◌∙◌}
-use Rattle.std.specs.Prelude.{Ok, Err}
+use Rattle.std.proofs.Common.{◌≡◌, inl, inr, true, false, List, ℕ, refl, sym, ap, ◌∙◌, arith}
+use Rattle.std.specs.Prelude.{◌≢◌, Ok, Err}
 use Rattle.outside_world.specs.View.{View}
 use Rattle.outside_world.proofs.Moments.{only_wider}
 use Rattle.line_grammar.specs.Spelling.{text_of}
 use Rattle.line_grammar.specs.declared.command.Command.TheVariants as commands
+use Rattle.realm_files.specs.Writing.{generation_of, next_generation}
 use Rattle.realm_store.specs.Keeping.{Kept, SpendableKept, AllRest as FilesRest}
 use Rattle.realm_store.specs.Committing.{Stays}
 use Rattle.realm_store.specs.Renewing.{IsRenewed, HasLastGeneration}
@@ -38,16 +39,24 @@ module _ {old new : SpendableKept} {reply : List ℕ} (ready : old.spent ≡ fal
     });
   }
 
+-- a checkpoint that is made changes what is kept, by the number of the generation
+renewed_moves : {old new : Kept} → IsRenewed old new → new ≢ old
+renewed_moves {old} renewed same =
+    let next : generation_of old.place ≡ next_generation old.place =
+    ap (λ (k : Kept). generation_of k.place) (sym same) ∙ ap generation_of renewed.place in
+    omega (arith, next)
+
 -- while it was made the files stood for the state all the time
-pub checkpoint_written : {old new : View} {start end : SpendableKept} {line reply : List ℕ} → Stays old new start.kept.state
-    → FilesRest end.kept new → Answered StoreTerms old new start end line (Ok reply)
-checkpoint_written stays rest = record {
+pub checkpoint_written : {old new : View} {start end : SpendableKept} {line reply : List ℕ} → IsRenewed start.kept end.kept
+    → Stays old new start.kept.state → FilesRest end.kept new → Answered StoreTerms old new start end line (Ok reply)
+checkpoint_written renewed stays rest = record {
   takes = stays.takes;
   given = stays.given;
   rest = rests_at_desk rest;
   crash = only_wider stays.crash (λ m is. (is.0, inl (λ _. is.1)));
   memory = λ is. absurd (cc);
   disk = λ is. absurd (cc);
+  still = λ same. absurd (renewed_moves renewed (ap (λ (s : SpendableKept). s.kept) same));
 }
 
 -- and so they did where the disk failed meanwhile
@@ -71,5 +80,7 @@ checkpoint_cut_off {after = after} ready renewed stays = record {
     may_write = inr (tt, refl);
     crash = only_wider stays.crash (λ m is. (is.0, inl (λ _. is.1)));
     either = λ files image. inl (λ _. stays.now files image);
+    still = λ same. absurd (renewed_moves renewed (ap (λ (s : SpendableKept). s.kept) same));
   };
+  still = tt;
 }

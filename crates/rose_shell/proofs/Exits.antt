@@ -16,11 +16,12 @@ use Rattle.rose_shell.specs.Session.{lines_of, IsCutOff, Served}
 use Rattle.rose_shell.specs.Loop.{IsWaiting, Went, Stopped, status_at}
 use Rattle.rose_shell.proofs.Turns.{full_wider, full-append, given_in_part_behind, cut_off_behind}
 use Rattle.rose_shell.proofs.Cuts.{lines_from-append}
-use Rattle.rose_shell.proofs.Runs.{run_then, ends_then, replies_then, crash_then}
+use Rattle.rose_shell.proofs.Runs.{run_then, ends_then, replies_then, crash_then, still_then}
 use Rattle.rose_shell.proofs.Batches.{none_waits}
 use Rattle.rose_shell.proofs.Halts.{other_halts, sink_halts, disk_halts, memory_halts}
 use Rattle.rose_shell.proofs.Halts.{halt_is_not_done, halt_is_no_source_fault, halt_is_no_limit}
-use Rattle.rose_shell.proofs.Takes.{Ahead, Keeping, took, took_some, took_none, took_empty, asked_then, left_then, lines_then}
+use Rattle.rose_shell.proofs.Takes.{Ahead, Keeping, within_budget, took, took_some, took_none, took_empty}
+use Rattle.rose_shell.proofs.Takes.{asked_then, left_then, lines_then}
 
 -- a take of no byte into a buffer with room finds the input at its end
 input_ended : {mid between : View} {buf : List ℕ} {n : ℕ} → Took mid between buf (Ok n) → n ≡ 0 → 0 < length buf
@@ -30,7 +31,7 @@ input_ended {between = between} {buf} call none wide =
 
 module _ {S : Type 0} {terms : Terms S} where
   -- the source fails when all whole lines were answered
-  source_failed : {old new : View} {start end : S} {bytes : List ℕ} {budget : ℕ} → Ahead terms old new start end bytes []
+  source_failed : {old new : View} {start end : S} {bytes : List ℕ} {budget : ℕ} → Ahead terms old new start end budget bytes []
       → length bytes ≤ budget → Served terms old new start end budget SourceFault
   source_failed {old} {new} {bytes = bytes} ahead within = record {
     bytes = bytes;
@@ -50,6 +51,7 @@ module _ {S : Type 0} {terms : Terms S} where
     asked = ahead.asked;
     crash = ahead.made.crash;
     rest = λ _. subst (λ (s : S). AllRest terms new s) ahead.made.ends ahead.rest;
+    still = ahead.made.still;
     done = λ is. absurd (cc);
     source = λ _. (ahead.answered, refl);
     sink = λ is. absurd (cc);
@@ -60,7 +62,7 @@ module _ {S : Type 0} {terms : Terms S} where
   }
 
   -- more comes after the budget, and isn't read
-  limited : {old new : View} {start end : S} {bytes more : List ℕ} {budget : ℕ} → Ahead terms old new start end bytes more
+  limited : {old new : View} {start end : S} {bytes more : List ℕ} {budget : ℕ} → Ahead terms old new start end budget bytes more
       → length bytes ≡ budget → 0 < length more → Served terms old new start end budget InputLimit
   limited {old} {new} {bytes = bytes} {more} ahead all some =
       let rest = lines_from (part_from [] bytes) more in
@@ -89,6 +91,7 @@ module _ {S : Type 0} {terms : Terms S} where
         asked = ahead.asked;
         crash = ahead.made.crash;
         rest = λ _. subst (λ (s : S). AllRest terms new s) ahead.made.ends ahead.rest;
+        still = ahead.made.still;
         done = λ is. absurd (cc);
         source = λ is. absurd (cc);
         sink = λ is. absurd (cc);
@@ -100,7 +103,7 @@ module _ {S : Type 0} {terms : Terms S} where
 
   -- the input has ended, and what had come of a line and of a batch is answered
   ended : {old mid new : View} {start between end : S} {bytes : List ℕ} {budget : ℕ} {waiting : Waiting}
-      (ahead : Ahead terms old mid start between bytes []) → mid.left ≡ [] → length bytes ≤ budget
+      (ahead : Ahead terms old mid start between budget bytes []) → mid.left ≡ [] → length bytes ≤ budget
       → Went terms Unit mid new between end (ahead.answered.held ++ last_line (part_from [] bytes)) waiting
       → waiting.missing ≡ 0 → Served terms old new start end budget Done
   ended {old} {mid} {new} {bytes = bytes} {waiting = waiting} ahead none within went no_more =
@@ -126,6 +129,7 @@ module _ {S : Type 0} {terms : Terms S} where
         ends = λ _ _. went.ends ∙ ends_then ahead.made us;
         asked = asked_then ahead went.takes us;
         crash = crash_then ahead.made us new went.crash;
+        still = still_then ahead.made us went.still;
         rest = λ _. subst (λ (s : S). AllRest terms new s) (went.ends ∙ ends_then ahead.made us) went.rest;
         done = λ _. (over, refl, refl);
         source = λ is. absurd (cc);
@@ -138,7 +142,7 @@ module _ {S : Type 0} {terms : Terms S} where
 
   -- the run halts at a line among those that end in the bytes ahead, or at the last one where the input has ended
   halted : {old mid new : View} {start between end : S} {bytes more : List ℕ} {budget : ℕ} {none_left : Type 0}
-      (halt : Halt) (lines rest : List (List ℕ)) (ahead : Ahead terms old mid start between bytes more)
+      (halt : Halt) (lines rest : List (List ℕ)) (ahead : Ahead terms old mid start between budget bytes more)
       → Stopped terms none_left mid new between end (ahead.answered.held ++ lines) halt
       → whole_lines bytes ++ (lines ++ rest) ≡ all_lines (bytes ++ more)
       → (mid.left ≡ []) ⊎ (whole_lines bytes ++ lines ≡ whole_lines (bytes ++ more))
@@ -173,6 +177,7 @@ module _ {S : Type 0} {terms : Terms S} where
         ends = λ memory disk. (stopped.sink (other_halts halt memory disk)).0 ∙ ends_then ahead.made us;
         asked = asked_then ahead stopped.takes us;
         crash = crash_then ahead.made us new stopped.crash;
+        still = still_then ahead.made us stopped.still;
         rest = λ other.
             subst (λ (s : S). AllRest terms new s) (ends_then ahead.made us) (stopped.rest (λ is. other (ap status_at is)));
         done = λ is. absurd (halt_is_not_done halt is);
@@ -190,14 +195,16 @@ module _ {S : Type 0} {terms : Terms S} where
   pub served_source : {old mid new : View} {start end : S} {waiting : Waiting} {kept buf : List ℕ} {e : Failed} {room budget : ℕ}
       → Keeping terms old mid start end waiting kept room budget → Took mid new buf (Err e)
       → Served terms old new start end budget SourceFault
-  served_source keeping call = source_failed (took_none keeping.ahead call) (omega (arith, keeping.spent))
+  served_source keeping call =
+      let within = within_budget keeping in
+      source_failed (took_none keeping.ahead within call) within
 
   -- it gives more than is left of the budget
   pub served_limit : {old mid new : View} {start end : S} {waiting : Waiting} {kept buf : List ℕ} {n room budget : ℕ}
       → Keeping terms old mid start end waiting kept room budget → Took mid new buf (Ok n) → room ≡ 0 → 0 < n
       → n ≤ length buf → Served terms old new start end budget InputLimit
   served_limit {buf = buf} {n} keeping call none some in_buf =
-      limited (took_some keeping.ahead call) (omega (arith, keeping.spent)) (omega (arith, length-take n buf))
+      limited (took_some keeping.ahead (within_budget keeping) call) (omega (arith, keeping.spent)) (omega (arith, length-take n buf))
 
   -- one of its lines halts the run
   pub served_halt : {old mid between new : View} {start before end : S} {waiting : Waiting} {kept buf : List ℕ} {n room budget : ℕ}
@@ -215,7 +222,7 @@ module _ {S : Type 0} {terms : Terms S} where
       sym (append_assoc (whole_lines bytes) (lines_from (part_from [] bytes) more) rest)
       ∙ ap (λ (l : List (List ℕ)). l ++ rest) (sym (lines_from-append [] bytes more)) in
       subst (λ (s : Status). Served terms old new start end budget s) (sym is)
-      (halted halt (lines_from (part_from [] bytes) more) rest (took_some keeping.ahead call)
+      (halted halt (lines_from (part_from [] bytes) more) rest (took_some keeping.ahead (within_budget keeping) call)
       (stopped (part_from [] bytes) keeping.ahead.answered.held keeping.part keeping.waits) all
       (inr (sym (lines_from-append [] bytes more))) (λ never. absurd never)
       (omega (arith, keeping.spent, length-append bytes more, length-take n buf, in_buf, in_room)))
@@ -229,8 +236,9 @@ module _ {S : Type 0} {terms : Terms S} where
       → later_waiting.missing ≡ 0 → Served terms old new start end budget Done
   unfolding took took_empty
   served_all keeping call none wide went no_more =
-      let ahead = took_empty keeping.ahead call none in
-      ended ahead (input_ended call none wide) (omega (arith, keeping.spent))
+      let within = within_budget keeping in
+      let ahead = took_empty keeping.ahead within call none in
+      ended ahead (input_ended call none wide) within
       (went (part_from [] keeping.bytes) ahead.answered.held keeping.part keeping.waits) no_more
 
   -- or halts the run
@@ -244,7 +252,8 @@ module _ {S : Type 0} {terms : Terms S} where
   served_last {old} {new = new} {start} {end = end} {budget = budget} {halt} is keeping call none wide stopped =
       let bytes = keeping.bytes in
       let last = last_line (part_from [] bytes) in
-      let ahead = took_empty keeping.ahead call none in
+      let within = within_budget keeping in
+      let ahead = took_empty keeping.ahead within call none in
       let no_more : bytes ≡ bytes ++ [] = sym (append-nil bytes) in
       let all : whole_lines bytes ++ (last ++ []) ≡ all_lines (bytes ++ []) =
       ap (λ (l : List (List ℕ)). whole_lines bytes ++ l) (append-nil last) ∙ ap (λ (l : List ℕ). all_lines l) no_more in
@@ -252,4 +261,4 @@ module _ {S : Type 0} {terms : Terms S} where
       (halted halt last [] ahead
       (stopped (part_from [] bytes) ahead.answered.held keeping.part keeping.waits) all
       (inl (input_ended call none wide)) (λ _. (input_ended call none wide, refl))
-      (subst (λ (l : List ℕ). length l ≤ budget) no_more (omega (arith, keeping.spent))))
+      (subst (λ (l : List ℕ). length l ≤ budget) no_more within))

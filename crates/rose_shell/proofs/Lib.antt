@@ -1,9 +1,9 @@
--- what settles a drawing leaves no violation
-mod Traces
 -- what the store answers to a change is an answer to its line
 mod ChangeAnswers
 -- a batch whose number is out of range is refused
 mod RefusedBatches
+-- runs of calls that leave the files as they were
+mod KeptFiles
 -- a store keeps its terms at the desk
 mod Stores
 -- a checkpoint is an answer to its line
@@ -44,6 +44,8 @@ mod Sessions
 mod Openings
 -- how a run ends that counts no fault
 mod Rises
+-- files that were synced before they were read are stable
+mod Syncs
 -- what is told where a store isn't started
 mod Unstarted
 -- lines that are given after nothing but questions of the files

@@ -15,6 +15,7 @@ use Rattle.rose_shell.specs.Batches.{OpensNone}
 use Rattle.rose_shell.specs.Session.{Turn, Treats, IsSingle, IsBatch, IsFull, IsMoment}
 use Rattle.rose_shell.specs.Loop.{IsWaiting, Went, Stopped, halt_at}
 use Rattle.outside_world.proofs.Moments.{only_wider, only_then, none_taken_then}
+use Rattle.rose_shell.proofs.KeptFiles.{keeps_then, keeps_by_giving}
 
 -- files to which no image has come are at rest for the same state
 pub still_rest : {S : Type 0} {terms : Terms S} {old new : View} {s : S}
@@ -60,6 +61,7 @@ module _ {S : Type 0} {terms : Terms S} where
     takes = none_taken_then answered.takes gave.takes;
     rest = still_rest gave.files.images answered.rest;
     crash = turn_crash terms turn answered gave;
+    still = λ stay. keeps_then answered.takes.later (answered.still stay.0) (keeps_by_giving gave);
   }
 
   -- or in part
@@ -80,6 +82,7 @@ module _ {S : Type 0} {terms : Terms S} where
         takes = none_taken_then answered.takes gave.takes;
         rest = λ _. still_rest gave.files.images answered.rest;
         crash = turn_crash terms turn answered gave;
+        still = λ stay. keeps_then answered.takes.later (answered.still stay.0) (keeps_by_giving gave);
         sink = λ _. (refl, record { before = []; last = turn; sent = gave.sent; in_order = refl; split = gave.split });
         disk = λ is. absurd (cc);
         memory = λ is. absurd (cc);
@@ -100,6 +103,7 @@ module _ {S : Type 0} {terms : Terms S} where
     takes = answered.takes;
     rest = λ _. (answered.memory refl).0;
     crash = only_wider (answered.memory refl).1 here;
+    still = λ _. (answered.memory refl).2;
     sink = λ is. absurd (cc);
     disk = λ is. absurd (cc);
     memory = λ _. refl;
@@ -130,6 +134,7 @@ module _ {S : Type 0} {terms : Terms S} where
         takes = answered.takes;
         rest = λ other. absurd (other refl);
         crash = only_wider begun.crash (while_answered terms old start turn);
+        still = λ stay. begun.still stay.0;
         sink = λ is. absurd (cc);
         disk = λ _. record {
           before = [];

@@ -15,6 +15,7 @@ use Rattle.rose_shell.specs.declared.status.Status.{Status}
 use Rattle.rose_shell.specs.Desk.{Terms}
 use Rattle.rose_shell.specs.Session.{Turn, replies, IsMoment, IsCutOff, Served}
 use Rattle.rose_shell.specs.Running.{state_in, is_accepted, StandForState, IsCrashOf, HasServed, HasBegun, ready_store}
+use Rattle.rose_shell.proofs.KeptFiles.{keeps_then, keeps_by_asking}
 use Rattle.rose_shell.proofs.Prefixes.{start_is_prefix}
 
 -- what a crash could leave at the call counts as left before it
@@ -67,11 +68,13 @@ module _ {old mid : View} (now : (t : ℕ) (m : Moment) → t ≤ old.moment →
             others = is.others;
             some = is.some;
             taken = is.taken ∙ ap (λ (l : List ℕ). l ++ is.bytes) asks.takes.taken;
+            in_budget = is.in_budget;
             answered = is.answered;
             given = is.given ∙ ap (λ (l : List ℕ). l ++ replies is.done) asks.given;
           }));
       crash = crash_behind new (λ given m. IsMoment terms.stands start served.turns given m) served.crash;
       rest = served.rest;
+      still = λ stay. keeps_then asks.takes.later (keeps_by_asking asks) (served.still stay);
       done = served.done;
       source = served.source;
       sink = served.sink;
@@ -96,7 +99,7 @@ module _ {old mid : View} (now : (t : ℕ) (m : Moment) → t ≤ old.moment →
           end = end;
           served = record {
             session = served_from served.session;
-            realms = served.realms;
+            sound = served.sound;
             counted = served.counted;
             prefix = λ has. crash_behind new (λ given m. IsCrashOf first turns given m) (served.prefix has);
             rest = served.rest;

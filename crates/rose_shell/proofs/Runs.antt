@@ -6,11 +6,12 @@ use Rattle.outside_world.specs.Since.{LeavesOnly}
 use Rattle.rose_shell.specs.declared.feeding.Halt.{Halt}
 use Rattle.rose_shell.specs.declared.feeding.Halt.TheVariants as halts
 use Rattle.rose_shell.specs.declared.waiting.Waiting.{Waiting}
-use Rattle.rose_shell.specs.Desk.{Terms, AllRest}
-use Rattle.rose_shell.specs.Session.{Turn, IsRun, end_of, replies, lines_of, IsMoment, IsCutOff}
+use Rattle.rose_shell.specs.Desk.{Terms, AllRest, KeepsFiles}
+use Rattle.rose_shell.specs.Session.{Turn, IsRun, Stay, end_of, replies, lines_of, IsMoment, IsCutOff}
 use Rattle.rose_shell.specs.Loop.{IsWaiting, Went, Stopped}
 use Rattle.outside_world.proofs.Moments.{only_nothing, only_wider, only_then, none_taken, none_taken_then}
-use Rattle.rose_shell.proofs.Turns.{end_of-append, replies-append, lines_behind, full_wider, full-append, run-append}
+use Rattle.rose_shell.proofs.KeptFiles.{keeps_files, keeps_then}
+use Rattle.rose_shell.proofs.Turns.{end_of-append, stay-append, replies-append, lines_behind, full_wider, full-append, run-append}
 use Rattle.rose_shell.proofs.Turns.{given_in_part_behind, cut_off_behind, moment_before, moment_behind}
 
 -- these turns were made, and their replies given whole
@@ -21,6 +22,7 @@ pub record Made {S : Type 0} (terms : Terms S) (old new : View) (start end : S)
   pub given : new.given ≡ old.given ++ replies turns
   pub later : old.moment ≤ new.moment
   pub crash : LeavesOnly old new (IsMoment terms.stands start turns old.given)
+  pub still : Stay start turns → KeepsFiles old new
 
 -- more turns behind these
 module _ {S : Type 0} {terms : Terms S} {old mid : View} {start between : S} {ts : List (Turn S)}
@@ -47,6 +49,11 @@ module _ {S : Type 0} {terms : Terms S} {old mid : View} {start between : S} {ts
   crash_then new crash =
       only_then (only_wider made.crash (moment_before terms.stands start ts us old.given)) made.later (only_wider crash moment_then)
 
+  pub still_then : {new : View} → (Stay between us → KeepsFiles mid new) → Stay start (ts ++ us) → KeepsFiles old new
+  still_then still stay =
+      let parts = stay-append start ts us stay in
+      keeps_then made.later (made.still parts.0) (still (subst (λ (s : S). Stay s us) (sym made.ends) parts.1))
+
 module _ {S : Type 0} {terms : Terms S} where
   -- no line is answered, and all wait
   pub went_none : {v : View} {s : S} {lines : List (List ℕ)} {waiting : Waiting} {none_left : Type 0} → AllRest terms v s
@@ -63,6 +70,7 @@ module _ {S : Type 0} {terms : Terms S} where
     takes = none_taken;
     rest = rest;
     crash = only_nothing;
+    still = λ _. keeps_files;
   }
 
   -- memory runs out before any line is answered
@@ -79,6 +87,7 @@ module _ {S : Type 0} {terms : Terms S} where
     takes = none_taken;
     rest = λ _. rest;
     crash = only_nothing;
+    still = λ _. keeps_files;
     sink = λ is. absurd (cc);
     disk = λ is. absurd (cc);
     memory = λ _. refl;
@@ -105,6 +114,7 @@ module _ {S : Type 0} {terms : Terms S} where
     takes = went.takes;
     rest = went.rest;
     crash = went.crash;
+    still = went.still;
   }
 
   pub stopped_to_end : {old new : View} {start end : S} {lines : List (List ℕ)} {halt : Halt} {none_left : Type 0}
@@ -120,6 +130,7 @@ module _ {S : Type 0} {terms : Terms S} where
     takes = stopped.takes;
     rest = stopped.rest;
     crash = stopped.crash;
+    still = stopped.still;
     sink = stopped.sink;
     disk = stopped.disk;
     memory = stopped.memory;
@@ -139,6 +150,7 @@ module _ {S : Type 0} {terms : Terms S} where
     takes = went.takes;
     rest = λ _. subst (λ (s : S). AllRest terms new s) went.ends went.rest;
     crash = went.crash;
+    still = went.still;
     sink = λ is. absurd (cc);
     disk = λ is. absurd (cc);
     memory = λ _. refl;
@@ -158,6 +170,7 @@ module _ {S : Type 0} {terms : Terms S} where
     takes = stopped.takes;
     rest = stopped.rest;
     crash = stopped.crash;
+    still = stopped.still;
     sink = stopped.sink;
     disk = stopped.disk;
     memory = stopped.memory;
@@ -165,7 +178,14 @@ module _ {S : Type 0} {terms : Terms S} where
 
   made_by : {old new : View} {start end : S} {lines : List (List ℕ)} {waiting : Waiting} {none_left : Type 0}
       (went : Went terms none_left old new start end lines waiting) → Made terms old new start end went.turns
-  made_by went = record { is_run = went.is_run; ends = went.ends; given = went.given; later = went.takes.later; crash = went.crash }
+  made_by went = record {
+    is_run = went.is_run;
+    ends = went.ends;
+    given = went.given;
+    later = went.takes.later;
+    crash = went.crash;
+    still = went.still;
+  }
 
   -- lines after others
   pub went_then : {old mid new : View} {start between end : S} {lines : List (List ℕ)} {before after : Waiting}
@@ -187,6 +207,7 @@ module _ {S : Type 0} {terms : Terms S} where
         takes = none_taken_then first.takes second.takes;
         rest = second.rest;
         crash = crash_then made us new second.crash;
+        still = still_then made us second.still;
       }
 
   pub stopped_then : {old mid new : View} {start between end : S} {lines : List (List ℕ)} {before : Waiting} {halt : Halt}
@@ -207,6 +228,7 @@ module _ {S : Type 0} {terms : Terms S} where
         takes = none_taken_then first.takes second.takes;
         rest = λ other. subst (λ (s : S). AllRest terms new s) (ends_then made us) (second.rest other);
         crash = crash_then made us new second.crash;
+        still = still_then made us second.still;
         sink = λ is. ((second.sink is).0 ∙ ends_then made us, given_in_part_behind first.turns (second.sink is).1);
         disk = λ is.
             cut_off_behind start first.turns made.given

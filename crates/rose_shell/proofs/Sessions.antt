@@ -1,18 +1,17 @@
--- This file shows that each turn of a session is one step, so each state on the way is a realm, its changes are counted, and
+-- This file shows that each turn of a session is one step, so each state on the way is sound, its changes are counted, and
 -- each crash leaves the state after a prefix of them.
 use Rattle.std.proofs.Common.{◌≡◌, ◌⊎◌, inl, inr, nat_lt, ℕ, ◌+◌, ◌<◌, Bool, true, false, MatchBool, List, [], ◌∷◌, ◌++◌, length, All}
-use Rattle.std.proofs.Common.{sym, ◌∙◌, ap, subst, arith}
+use Rattle.std.proofs.Common.{sym, ap, subst, arith}
 use Rattle.std.specs.Prelude.{◌≢◌}
 use Rattle.std.proofs.lemmas.Bool.Decides.{nat_tests}
 use Rattle.std.proofs.lemmas.List.Elements.{All-nil, All-cons}
-use Rattle.grid_base.specs.Drawing.{IsDrawnRealm}
-use Rattle.grid_base.proofs.RealmLaw.{drawn_realm_by}
 use Rattle.outside_world.specs.View.{View, Moment}
 use Rattle.outside_world.specs.Since.{LeavesOnly}
 use Rattle.outside_world.proofs.Moments.{only_wider}
 use Rattle.realm_insert.specs.State.{State}
 use Rattle.realm_store.specs.Stands.{StandsFor}
 use Rattle.realm_store.specs.Keeping.{Kept, SpendableKept, AllRest}
+use Rattle.realm_store.specs.Sound.{IsSound}
 use Rattle.rose_shell.specs.declared.status.Status.{Status}
 use Rattle.rose_shell.specs.declared.status.Status.TheVariants.{DiskFault, NoMemory}
 use Rattle.rose_shell.specs.Lines.{longest_line}
@@ -42,19 +41,18 @@ turn_steps : (old : SpendableKept) (turn : Turn SpendableKept)
 turn_steps old turn (inl single) = treated_steps old turn.line turn.reply turn.after single.treats
 turn_steps old turn (inr batch) = inl (stays_by (ap (λ (s : SpendableKept). s.kept) batch.stays))
 
--- a step leads from a realm to a realm
-step_realm : (old : Kept) (reply : List ℕ) (new : Kept) → IsOneStep old reply new → IsDrawnRealm old.state.drawing
-    → IsDrawnRealm new.state.drawing
-step_realm old reply new (inl stays) realm = subst (λ (s : State). IsDrawnRealm s.drawing) (sym stays.state) realm
-step_realm old reply new (inr accepted) realm = drawn_realm_by new.state.drawing accepted.settled
+-- a step leads from a sound state to a sound state
+step_sound : (old : Kept) (reply : List ℕ) (new : Kept) → IsOneStep old reply new → IsSound old.state → IsSound new.state
+step_sound old reply new (inl stays) sound = subst (λ (s : State). IsSound s) (sym stays.state) sound
+step_sound old reply new (inr accepted) sound = accepted.sound
 
-run_realms : (start : SpendableKept) (turns : List (Turn SpendableKept)) → IsRun StoreTerms start turns
-    → IsDrawnRealm start.kept.state.drawing → All (λ turn. IsDrawnRealm turn.after.kept.state.drawing) turns
-run_realms start [] run realm = All-nil (λ turn. IsDrawnRealm turn.after.kept.state.drawing)
-run_realms start (turn ∷ turns) run realm =
+run_sound : (start : SpendableKept) (turns : List (Turn SpendableKept)) → IsRun StoreTerms start turns
+    → IsSound start.kept.state → All (λ turn. IsSound turn.after.kept.state) turns
+run_sound start [] run sound = All-nil (λ turn. IsSound turn.after.kept.state)
+run_sound start (turn ∷ turns) run sound =
     let step = turn_steps start turn run.0 in
-    let after = step_realm start.kept turn.reply turn.after.kept step realm in
-    All-cons (λ t. IsDrawnRealm t.after.kept.state.drawing) turn turns after (run_realms turn.after turns run.1 after)
+    let after = step_sound start.kept turn.reply turn.after.kept step sound in
+    All-cons (λ t. IsSound t.after.kept.state) turn turns after (run_sound turn.after turns run.1 after)
 
 -- the test of the numbers of changes
 is_same : (m n : ℕ) → n ≡ m → nat_lt m n ≡ false
@@ -112,12 +110,12 @@ run_prefix old new start turns run crash has =
     (λ s files stands. stands) start turns old.given m (moment_stands start turns old.given m run has is)
     (run_counted start turns run))
 
--- what a store has served that begins with a realm
-pub has_served : (old new : View) (start end : SpendableKept) (budget : ℕ) (status : Status) → IsDrawnRealm start.kept.state.drawing
+-- what a store has served that begins with a sound state
+pub has_served : (old new : View) (start end : SpendableKept) (budget : ℕ) (status : Status) → IsSound start.kept.state
     → Served StoreTerms old new start end budget status → HasServed old new start end budget status
-has_served old new start end budget status realm served = record {
+has_served old new start end budget status sound served = record {
   session = served;
-  realms = run_realms start served.turns served.is_run realm;
+  sound = (sound, run_sound start served.turns served.is_run sound);
   counted = run_counted start served.turns served.is_run;
   prefix = run_prefix old new start served.turns served.is_run served.crash;
   rest = λ no_fault. (served.rest no_fault).each;

@@ -1,21 +1,20 @@
--- This file shows that an answer is one step: the state stays, or one change more was accepted, which leaves no violation.
+-- This file shows that an answer is one step: the state stays, or one change more was accepted, which leaves a sound state.
 use Rattle.std.proofs.Common.{◌≡◌, ◌⊎◌, inl, inr, ℕ, ◌+◌, ◌-◌, ◌<◌, true, List, [], ◌∷◌, ◌++◌, length, codes}
 use Rattle.std.proofs.Common.{refl, sym, ◌∙◌, ap, subst, arith, length-append}
 use Rattle.std.specs.Fmt.{decimal}
-use Rattle.grid_base.specs.Drawing.{HasViolation}
 use Rattle.line_grammar.specs.declared.command.Command.TheVariants as commands
 use Rattle.line_grammar.specs.declared.command.Change.{Change}
 use Rattle.realm_store.specs.Keeping.{Kept}
 use Rattle.realm_store.specs.Making.{IsMade}
+use Rattle.realm_store.specs.Sound.{IsSound}
 use Rattle.realm_store.specs.Replies.{ok_reply}
 use Rattle.rose_shell.specs.Answers.{RefusesChange, AnswersCommand, AnswersLine}
-use Rattle.rose_shell.proofs.Traces.{settled_by}
 
 -- of a change that was accepted
 pub record IsAccepted (old : Kept) (reply : List ℕ) (new : Kept) : Type 0 where
   pub changes : new.state.changes ≡ old.state.changes + 1
   pub has_reply : 0 < length reply
-  pub settled : HasViolation new.state.drawing → ⊥
+  pub sound : IsSound new.state
   pub has_gate : new.has_gate ≡ true
 
 -- the state stays, and a gate that was there is there
@@ -42,7 +41,7 @@ reply_has_bytes change steps first added =
     let word : length (codes "ok ") ≡ 3 = refl in
     omega (arith, length-append (codes "ok ") rest, word)
 
--- a change is refused, or is one more and ends with a drawing without a violation
+-- a change is refused, or is one more and ends with a sound state
 made_steps : (c : Change) (old : Kept) (reply : List ℕ) (new : Kept)
     → RefusesChange c old reply new ⊎ IsMade c old reply new → IsOneStep old reply new
 made_steps c old reply new (inl refused) = inl (stays_by refused.kept_stays)
@@ -52,7 +51,7 @@ made_steps c old reply new (inr made) =
       changes = next.changes;
       has_reply = subst (λ (l : List ℕ). 0 < length l) (sym made.reply_is)
           (reply_has_bytes new.state.changes (length made.steps) old.state.next_id (new.state.next_id - old.state.next_id));
-      settled = settled_by next.changed made.steps new.state.drawing next.settles;
+      sound = made.sound;
       has_gate = made.makes.has_gate;
     }
 

@@ -1,5 +1,5 @@
 -- This file shows that a store keeps its terms at the desk.
-use Rattle.std.proofs.Common.{◌≡◌, ◌⊎◌, inl, inr, ⊎_elim, ℕ, List, Bool, true, false, refl, sym, subst}
+use Rattle.std.proofs.Common.{◌≡◌, ◌⊎◌, inl, inr, ⊎_elim, ℕ, List, Bool, true, false, refl, sym, ap, subst, arith}
 use Rattle.std.specs.Prelude.{◌≢◌, Result, Ok, Err}
 use Rattle.outside_world.specs.View.{View}
 use Rattle.outside_world.proofs.Moments.{only_nothing, only_wider, none_taken}
@@ -14,6 +14,7 @@ use Rattle.rose_shell.specs.declared.desk.Stop.{Stop}
 use Rattle.rose_shell.specs.declared.desk.Stop.TheVariants.{Disk, NoMemory}
 use Rattle.rose_shell.specs.Desk.{AllRest, Answered}
 use Rattle.rose_shell.specs.Running.{StoreTerms, ready_store}
+use Rattle.rose_shell.proofs.KeptFiles.{keeps_files}
 
 -- what the store keeps of the files is what the desk asks of them
 pub rests_at_desk : {v : View} {s : SpendableKept} → FilesRest s.kept v → AllRest StoreTerms v s
@@ -29,14 +30,16 @@ still_answered (Ok reply) never rest = record {
   crash = only_nothing;
   memory = λ is. absurd (cc);
   disk = λ is. absurd (cc);
+  still = λ _. keeps_files;
 }
 still_answered (Err NoMemory) never rest = record {
   takes = none_taken;
   given = refl;
   rest = tt;
   crash = tt;
-  memory = λ _. (rests_at_desk rest, only_nothing);
+  memory = λ _. (rests_at_desk rest, only_nothing, keeps_files);
   disk = λ is. absurd (cc);
+  still = tt;
 }
 still_answered (Err Disk) never rest = absurd (never refl)
 
@@ -48,8 +51,9 @@ store_stopped rest = record {
   given = refl;
   rest = tt;
   crash = tt;
-  memory = λ _. (rests_at_desk rest, only_nothing);
+  memory = λ _. (rests_at_desk rest, only_nothing, keeps_files);
   disk = λ is. absurd (cc);
+  still = tt;
 }
 
 -- the same where the world and the store are as they were,
@@ -70,16 +74,22 @@ either_stands : (has : Bool) (P Q E : Type 0) → (has ≡ true → P ⊎ Q) →
 either_stands true P Q E two = ⊎_elim (λ p. inl (λ _. p)) (λ q. inr (λ _. q)) (two refl)
 either_stands false P Q E two = inl (λ is. absurd (cc))
 
+-- a change that is made changes the state, by its number
+made_moves : {c : Change} {old new : Kept} {reply : List ℕ} → IsMade c old reply new → new ≢ old
+made_moves made same = omega (arith, made.makes.next.changes, ap (λ (k : Kept). k.state.changes) same)
+
 -- a change was made, and is stable
-pub change_written : {old new : View} {start end : SpendableKept} {line reply : List ℕ} → IsWritten old new start.kept end.kept
-    → FilesRest end.kept new → Answered StoreTerms old new start end line (Ok reply)
-change_written {start = start} written rest = record {
+pub change_written : {old new : View} {start end : SpendableKept} {line reply : List ℕ} (c : Change)
+    → IsMade c start.kept reply end.kept → IsWritten old new start.kept end.kept → FilesRest end.kept new
+    → Answered StoreTerms old new start end line (Ok reply)
+change_written {start = start} c made written rest = record {
   takes = written.takes;
   given = written.given;
   rest = rests_at_desk rest;
   crash = only_wider written.crash (λ m is. (is.0, either_stands start.kept.has_gate _ _ _ is.1));
   memory = λ is. absurd (cc);
   disk = λ is. absurd (cc);
+  still = λ same. absurd (made_moves made (ap (λ (s : SpendableKept). s.kept) same));
 }
 
 -- or the disk failed meanwhile
@@ -103,5 +113,7 @@ change_cut_off {start = start} {reply = reply} {after} c spellable ready made wr
     may_write = inl (c, (spellable, refl));
     crash = only_wider written.crash (λ m is. (is.0, either_stands start.kept.has_gate _ _ _ is.1));
     either = λ files image. either_stands start.kept.has_gate _ _ _ (λ has. written.either has files image);
+    still = λ same. absurd (made_moves made (ap (λ (s : SpendableKept). s.kept) same));
   };
+  still = tt;
 }

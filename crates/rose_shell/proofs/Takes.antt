@@ -15,12 +15,13 @@ use Rattle.rose_shell.specs.Loop.{IsWaiting, Went}
 use Rattle.outside_world.proofs.Moments.{only_nothing, only_wider, only_then, only_of_adds}
 use Rattle.rose_shell.proofs.Turns.{lines_behind, full-append, moment_now}
 use Rattle.rose_shell.proofs.Cuts.{lines_from-append, part_from-append}
-use Rattle.rose_shell.proofs.Runs.{Made, run_then, ends_then, replies_then, crash_then}
+use Rattle.rose_shell.proofs.KeptFiles.{keeps_files, keeps_then, keeps_by_taking}
+use Rattle.rose_shell.proofs.Runs.{Made, run_then, ends_then, replies_then, crash_then, still_then}
 use Rattle.rose_shell.proofs.OneTurn.{still_rest}
 use Rattle.rose_shell.proofs.Batches.{are_held}
 
--- the whole lines among these bytes were answered, and more bytes were taken
-pub record Ahead {S : Type 0} (terms : Terms S) (old new : View) (start end : S)
+-- the whole lines among these bytes were answered, and more bytes were taken; no take has begun behind the budget
+pub record Ahead {S : Type 0} (terms : Terms S) (old new : View) (start end : S) (budget : ℕ)
     (bytes more : List ℕ) : Type 0 where
   pub turns : List (Turn S)
   pub made : Made terms old new start end turns
@@ -28,31 +29,38 @@ pub record Ahead {S : Type 0} (terms : Terms S) (old new : View) (start end : S)
   pub left : old.left ≡ bytes ++ (more ++ new.left)
   pub taken : new.taken ≡ old.taken ++ (bytes ++ more)
   pub rest : AllRest terms new end
-  pub asked : OnlyAdds old.moment old.asked_since new.asked_since (IsAnswered old turns)
+  pub asked : OnlyAdds old.moment old.asked_since new.asked_since (IsAnswered old budget turns)
 
 -- between two takes no bytes are ahead, what has come of a line is kept, as are the lines of a batch, and this room is left of
 -- the budget
 pub record Keeping {S : Type 0} (terms : Terms S) (old new : View) (start end : S)
     (waiting : Waiting) (kept : List ℕ) (room budget : ℕ) : Type 0 where
   pub bytes : List ℕ
-  pub ahead : Ahead terms old new start end bytes []
+  pub ahead : Ahead terms old new start end budget bytes []
   pub waits : IsWaiting waiting ahead.answered.held
   pub part : IsKept kept (part_from [] bytes)
   pub spent : length bytes + room ≡ budget
 
 -- what was answered at a take is the beginning of a longer run too
-answered_more : {S : Type 0} {old : View} (ts us : List (Turn S)) (a : Asked) → IsAnswered old ts a → IsAnswered old (ts ++ us) a
+answered_more : {S : Type 0} {old : View} {budget : ℕ} (ts us : List (Turn S)) (a : Asked) → IsAnswered old budget ts a
+    → IsAnswered old budget (ts ++ us) a
 answered_more {S} ts us a is = record {
   bytes = is.bytes;
   done = is.done;
   others = is.others ++ us;
   some = ap (λ (l : List (Turn S)). l ++ us) is.some ∙ append_assoc is.done is.others us;
   taken = is.taken;
+  in_budget = is.in_budget;
   answered = is.answered;
   given = is.given;
 }
 
 module _ {S : Type 0} {terms : Terms S} where
+  -- the bytes that were taken are within the budget
+  pub within_budget : {old new : View} {start end : S} {waiting : Waiting} {kept : List ℕ} {room budget : ℕ}
+      (keeping : Keeping terms old new start end waiting kept room budget) → length keeping.bytes ≤ budget
+  within_budget keeping = omega (arith, keeping.spent)
+
   -- before the first take
   pub keeping_none : {v : View} {s : S} {waiting : Waiting} {kept : List ℕ} (budget : ℕ) → IsWaiting waiting [] → kept ≡ []
       → AllRest terms v s → Keeping terms v v s s waiting kept budget budget
@@ -60,7 +68,14 @@ module _ {S : Type 0} {terms : Terms S} where
     bytes = [];
     ahead = record {
       turns = [];
-      made = record { is_run = tt; ends = refl; given = sym (append-nil v.given); later = omega arith; crash = only_nothing };
+      made = record {
+        is_run = tt;
+        ends = refl;
+        given = sym (append-nil v.given);
+        later = omega arith;
+        crash = only_nothing;
+        still = λ _. keeps_files;
+      };
       answered = record { held = []; are_held = tt; lines = refl; full = tt };
       left = refl;
       taken = sym (append-nil v.taken);
@@ -72,11 +87,12 @@ module _ {S : Type 0} {terms : Terms S} where
     spent = omega arith;
   }
 
-  -- one take, whether it gives anything or fails: all whole lines had been answered when it began
-  unfoldable pub took : {old mid new : View} {start end : S} {bytes : List ℕ} (more : List ℕ) → Ahead terms old mid start end bytes []
-      → Ticks (Asks mid) mid new → SameFiles mid new → new.given ≡ mid.given → mid.left ≡ more ++ new.left
-      → new.taken ≡ mid.taken ++ more → Ahead terms old new start end bytes more
-  took {old} {mid} {new} {start} {end} {bytes} more ahead ticks files given left taken =
+  -- one take within the budget, whether it gives anything or fails: all whole lines had been answered when it began
+  unfoldable pub took : {old mid new : View} {start end : S} {budget : ℕ} {bytes : List ℕ} (more : List ℕ)
+      → Ahead terms old mid start end budget bytes [] → length bytes ≤ budget → Ticks (Asks mid) mid new → SameFiles mid new
+      → new.given ≡ mid.given → mid.left ≡ more ++ new.left → new.taken ≡ mid.taken ++ more
+      → Ahead terms old new start end budget bytes more
+  took {old} {mid} {new} {start} {end} {budget} {bytes} more ahead within ticks files given left taken =
       let turns = ahead.turns in
       let made = ahead.made in
       let all_taken : mid.taken ≡ old.taken ++ bytes = ahead.taken ∙ ap (λ (l : List ℕ). old.taken ++ l) (append-nil bytes) in
@@ -93,6 +109,7 @@ module _ {S : Type 0} {terms : Terms S} where
               (λ m may. moment_now terms.stands start turns old.given m (may.0 ∙ given_now)
               (subst (λ (s : S). terms.stands s m.files) made.ends
               (terms.rest_stands end m.files (rest.each m.files may.1)))));
+          still = λ stay. keeps_then made.later (made.still stay) (keeps_by_taking ticks files);
         };
         answered = ahead.answered;
         left = ahead.left ∙ ap (λ (l : List ℕ). bytes ++ l) left;
@@ -105,30 +122,36 @@ module _ {S : Type 0} {terms : Terms S} where
               others = [];
               some = sym (append-nil turns);
               taken = asks.0 ∙ all_taken;
+              in_budget = within;
               answered = ahead.answered;
               given = asks.1 ∙ made.given;
             }));
       }
 
-  unfoldable pub took_some : {old mid new : View} {start end : S} {bytes buf : List ℕ} {n : ℕ} → Ahead terms old mid start end bytes []
-      → Took mid new buf (Ok n) → Ahead terms old new start end bytes (take n buf)
-  took_some {buf = buf} {n} ahead call = took (take n buf) ahead call.ticks call.files call.given call.moved.left call.moved.taken
+  unfoldable pub took_some : {old mid new : View} {start end : S} {budget : ℕ} {bytes buf : List ℕ} {n : ℕ}
+      → Ahead terms old mid start end budget bytes [] → length bytes ≤ budget → Took mid new buf (Ok n)
+      → Ahead terms old new start end budget bytes (take n buf)
+  took_some {buf = buf} {n} ahead within call =
+      took (take n buf) ahead within call.ticks call.files call.given call.moved.left call.moved.taken
 
-  pub took_none : {old mid new : View} {start end : S} {bytes buf : List ℕ} {e : Failed}
-      → Ahead terms old mid start end bytes [] → Took mid new buf (Err e) → Ahead terms old new start end bytes []
-  took_none ahead call = took [] ahead call.ticks call.files call.given call.failed.left call.failed.taken
+  pub took_none : {old mid new : View} {start end : S} {budget : ℕ} {bytes buf : List ℕ} {e : Failed}
+      → Ahead terms old mid start end budget bytes [] → length bytes ≤ budget → Took mid new buf (Err e)
+      → Ahead terms old new start end budget bytes []
+  took_none ahead within call = took [] ahead within call.ticks call.files call.given call.failed.left call.failed.taken
 
-  unfoldable pub took_empty : {old mid new : View} {start end : S} {bytes buf : List ℕ} {n : ℕ}
-      → Ahead terms old mid start end bytes [] → Took mid new buf (Ok n) → n ≡ 0 → Ahead terms old new start end bytes []
-  took_empty {mid = mid} {new} {buf = buf} ahead call none =
-      took [] ahead call.ticks call.files call.given
+  unfoldable pub took_empty : {old mid new : View} {start end : S} {budget : ℕ} {bytes buf : List ℕ} {n : ℕ}
+      → Ahead terms old mid start end budget bytes [] → length bytes ≤ budget → Took mid new buf (Ok n) → n ≡ 0
+      → Ahead terms old new start end budget bytes []
+  took_empty {mid = mid} {new} {buf = buf} ahead within call none =
+      took [] ahead within call.ticks call.files call.given
       (call.moved.left ∙ ap (λ (k : ℕ). take k buf ++ new.left) none)
       (call.moved.taken ∙ ap (λ (k : ℕ). mid.taken ++ take k buf) none)
 
   -- turns after those so far
-  module _ {old mid new : View} {start between : S} {bytes more : List ℕ}
-      (ahead : Ahead terms old mid start between bytes more) (takes : TakesNone mid new) where
-    pub asked_then : (us : List (Turn S)) → OnlyAdds old.moment old.asked_since new.asked_since (IsAnswered old (ahead.turns ++ us))
+  module _ {old mid new : View} {start between : S} {budget : ℕ} {bytes more : List ℕ}
+      (ahead : Ahead terms old mid start between budget bytes more) (takes : TakesNone mid new) where
+    pub asked_then : (us : List (Turn S))
+        → OnlyAdds old.moment old.asked_since new.asked_since (IsAnswered old budget (ahead.turns ++ us))
     asked_then us =
         only_then (only_wider ahead.asked (answered_more ahead.turns us)) ahead.made.later
         (only_wider takes.asked (λ a never. absurd never))
@@ -143,10 +166,10 @@ module _ {S : Type 0} {terms : Terms S} where
         lines_behind ahead.turns us ahead.answered.held later lines ahead.answered.lines second
 
   -- the lines that end in the bytes ahead are heard
-  fed : {old mid new : View} {start between end : S} {bytes more : List ℕ} {waiting : Waiting}
-      (ahead : Ahead terms old mid start between bytes more)
+  fed : {old mid new : View} {start between end : S} {budget : ℕ} {bytes more : List ℕ} {waiting : Waiting}
+      (ahead : Ahead terms old mid start between budget bytes more)
       → Went terms ⊥ mid new between end (ahead.answered.held ++ lines_from (part_from [] bytes) more) waiting
-      → Ahead terms old new start end (bytes ++ more) []
+      → Ahead terms old new start end budget (bytes ++ more) []
   fed {old} {new = new} {bytes = bytes} {more} {waiting} ahead went =
       let us = went.turns in
       record {
@@ -157,6 +180,7 @@ module _ {S : Type 0} {terms : Terms S} where
           given = went.given ∙ replies_then ahead.made us;
           later = omega (arith, ahead.made.later, went.takes.later);
           crash = crash_then ahead.made us new went.crash;
+          still = still_then ahead.made us went.still;
         };
         answered = record {
           held = went.held;
@@ -185,7 +209,7 @@ module _ {S : Type 0} {terms : Terms S} where
       let then = went (part_from [] bytes) keeping.ahead.answered.held keeping.part keeping.waits in
       record {
         bytes = bytes ++ more;
-        ahead = fed (took_some keeping.ahead call) then;
+        ahead = fed (took_some keeping.ahead (within_budget keeping) call) then;
         waits = then.waits;
         part = subst (λ (l : List ℕ). IsKept later_kept l) (sym (part_from-append [] bytes more))
             (part (part_from [] bytes) keeping.part);

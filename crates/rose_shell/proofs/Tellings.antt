@@ -1,12 +1,16 @@
 -- This file shows that lines which are given after nothing but questions of the files are given from before.
-use Rattle.std.proofs.Common.{ℕ, List, [], ◌++◌, refl, sym, ◌∙◌, ap}
+use Rattle.std.proofs.Common.{ℕ, List, [], ◌++◌, inl, inr, refl, sym, ◌∙◌, ap}
 use Rattle.std.proofs.lemmas.List.{append-nil}
 use Rattle.outside_world.specs.View.{View}
 use Rattle.outside_world.proofs.Moments.{only_nothing, only_wider, only_then, none_taken, none_taken_then}
+use Rattle.command_words.specs.declared.word.Word.{Word}
+use Rattle.command_words.specs.declared.word.Word.TheVariants.{Run, Check, Gen}
 use Rattle.realm_journal.specs.Reading.{OnlyAsks}
 use Rattle.rose_shell.specs.declared.status.Status.{Status}
+use Rattle.rose_shell.specs.declared.status.Status.TheVariants.{NoMemory}
 use Rattle.rose_shell.specs.Giving.{GaveSome}
-use Rattle.rose_shell.specs.Telling.{GivesLines}
+use Rattle.rose_shell.specs.Running.{IsNotBegun}
+use Rattle.rose_shell.specs.Telling.{GivesLines, HasDone}
 
 -- nothing was asked
 pub none_asked : {v : View} → OnlyAsks v v
@@ -16,6 +20,15 @@ none_asked = record {
   given = refl;
   crash = only_nothing;
 }
+
+-- so where memory runs out before anything is done
+none_begun : {v : View} → IsNotBegun v v NoMemory
+none_begun = record { asks = none_asked; cause = inr (inl refl) }
+
+pub none_done : (v : View) (command : Word) → HasDone command v v NoMemory
+none_done v Run = inl none_begun
+none_done v Check = inl none_begun
+none_done v (Gen count start) = inl (refl, none_asked)
 
 module _ {old mid new : View} (asks : OnlyAsks old mid) where
   some_behind : {lines unsent : List ℕ} → GaveSome mid new lines unsent → GaveSome old new lines unsent

@@ -15,6 +15,7 @@ use Rattle.rose_shell.specs.Desk.{Rule, Terms, AllRest, Answered}
 use Rattle.rose_shell.specs.Session.{Turn, Treats}
 use Rattle.rose_shell.specs.Loop.{IsWaiting, Went, Stopped, halt_at}
 use Rattle.outside_world.proofs.Moments.{only_nothing, none_taken}
+use Rattle.rose_shell.proofs.KeptFiles.{keeps_files}
 use Rattle.rose_shell.proofs.Keeps.{kept_is_line, kept_is_long}
 use Rattle.rose_shell.proofs.OneTurn.{went_one, stopped_one, stopped_before}
 
@@ -56,6 +57,7 @@ module _ {S : Type 0} {terms : Terms S} where
     crash = only_nothing;
     memory = λ is. absurd (cc);
     disk = λ is. absurd (cc);
+    still = λ _. keeps_files;
   }
 
 -- a line by itself

@@ -3,12 +3,19 @@ use Rattle.std.proofs.Common.{◌≡◌, ◌⊎◌, inl, inr, ⊎_elim, ℕ, Lis
 use Rattle.std.proofs.lemmas.List.{append-nil}
 use Rattle.outside_world.specs.View.{View, Moment}
 use Rattle.rose_shell.specs.Desk.{Stands, Terms}
-use Rattle.rose_shell.specs.Session.{Turn, IsRun, IsFull, AreFull, end_of, replies, lines_of, IsMoment, IsGivenInPart, IsCutOff}
+use Rattle.rose_shell.specs.Session.{Turn, IsRun, IsFull, AreFull, Stay, end_of, replies, lines_of, IsMoment, IsGivenInPart, IsCutOff}
 
 module _ {S : Type 0} where
   pub end_of-append : (start : S) (ts us : List (Turn S)) → end_of start (ts ++ us) ≡ end_of (end_of start ts) us
   end_of-append start [] us = refl
   end_of-append start (t ∷ ts) us = end_of-append t.after ts us
+
+  -- turns that all leave the state as it was do so before and behind
+  pub stay-append : (start : S) (ts us : List (Turn S)) → Stay start (ts ++ us) → Stay start ts × Stay (end_of start ts) us
+  stay-append start [] us stay = (tt, stay)
+  stay-append start (t ∷ ts) us stay =
+      let behind = stay-append t.after ts us stay.1 in
+      ((stay.0, behind.0), behind.1)
 
   pub replies-append : (ts us : List (Turn S)) → replies (ts ++ us) ≡ replies ts ++ replies us
   replies-append [] us = refl

@@ -3,6 +3,7 @@ use Rattle.std.proofs.Common.{◌≡◌, inl, inr, refl, sym, ◌∙◌}
 use Rattle.outside_world.specs.View.{View}
 use Rattle.realm_journal.specs.Reading.{OnlyAsks}
 use Rattle.realm_pages.specs.declared.damage.Damage.{Damage}
+use Rattle.realm_files.specs.Syncing.{AllStable}
 use Rattle.realm_store.specs.Damages.{IsDamaged}
 use Rattle.realm_store.specs.declared.error.StartError.{StartError}
 use Rattle.realm_store.specs.declared.error.StartError.TheVariants as starts
@@ -21,7 +22,9 @@ damaged_at_start starts.NoMemory status d is told = let other : ends.NoMemory �
 
 -- nothing is served, for one of three causes
 pub not_begun : {old new : View} (error : StartError) (status : Status) → status ≡ status_unstarted error → OnlyAsks old new
-    → ((d : Damage) → error ≡ starts.Damaged d → IsDamaged d old.reads) → IsNotBegun old new status
+    → ((d : Damage) → error ≡ starts.Damaged d → IsDamaged d old.reads × AllStable new) → IsNotBegun old new status
 not_begun starts.Disk status is asks damaged = record { asks = asks; cause = inl is }
-not_begun (starts.Damaged d) status is asks damaged = record { asks = asks; cause = inr (inr (d, is, damaged d refl)) }
+not_begun (starts.Damaged d) status is asks damaged =
+    let told = damaged d refl in
+    record { asks = asks; cause = inr (inr (d, is, told.0, told.1)) }
 not_begun starts.NoMemory status is asks damaged = record { asks = asks; cause = inr (inl is) }

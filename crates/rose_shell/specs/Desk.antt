@@ -2,6 +2,7 @@
 use Rattle.std.specs.Prelude.{◌≡◌, ◌⊎◌, ℕ, List, Option, Result, Err, OnOk}
 use Rattle.outside_world.specs.declared.world.FileName.{FileName}
 use Rattle.outside_world.specs.View.{View, Moment}
+use Rattle.outside_world.specs.Calls.{SameFiles}
 use Rattle.outside_world.specs.Since.{TakesNone, LeavesOnly}
 use Rattle.rose_shell.specs.declared.desk.Stop.{Stop}
 use Rattle.rose_shell.specs.declared.desk.Stop.TheVariants.{Disk, NoMemory}
@@ -31,12 +32,17 @@ pub record Terms (S : Type 0) : Type 1 where
 pub record AllRest {S : Type 0} (terms : Terms S) (v : View) (s : S) : Type 0 where
   pub each : (files : FileName → List ℕ) → ((f : FileName) → v.image f (files f)) → terms.rests s files
 
+-- the files read as they did, and each crash since leaves of them what one could leave then
+pub record KeepsFiles (old new : View) : Type 0 where
+  pub files : SameFiles old new
+  pub crash : LeavesOnly old new (λ m. (f : FileName) → old.image f (m.files f))
+
 -- while one answer is made, nothing is given, and the files stand for the state before it or after it
 abbrev pub IsAnswering : {S : Type 0} → Terms S → View → S → S → Moment → Type 0
 IsAnswering terms v start end m = (m.given ≡ v.given) × (terms.stands start m.files ⊎ terms.stands end m.files)
 
 -- An answer that was begun when the disk failed: the line may write, there is a reply to it, and the files
--- have stood for the state before it or after it all the time, and still do.
+-- have stood for the state before it or after it all the time, and still do. Where the state stays they do too.
 pub record Begun {S : Type 0} (terms : Terms S) (old new : View) (start : S) (line : List ℕ) : Type 0 where
   pub reply : List ℕ
   pub after : S
@@ -45,9 +51,11 @@ pub record Begun {S : Type 0} (terms : Terms S) (old new : View) (start : S) (li
   pub crash : LeavesOnly old new (IsAnswering terms old start after)
   pub either : (files : FileName → List ℕ) → ((f : FileName) → new.image f (files f))
       → terms.stands start files ⊎ terms.stands after files
+  pub still : after ≡ start → KeepsFiles old new
 
 -- A line was answered, or memory ran out, or the disk failed, and nothing was taken or given. Where memory
--- ran out, the files have stood for the state before the line all the time, and still do.
+-- ran out, the files have stood for the state before the line all the time, and still do. An answer that leaves
+-- the state as it was, and want of memory, leave the files as they were.
 pub record Answered {S : Type 0} (terms : Terms S) (old new : View) (start end : S) (line : List ℕ)
     (result : Result (List ℕ) Stop) : Type 0 where
   pub takes : TakesNone old new
@@ -55,5 +63,6 @@ pub record Answered {S : Type 0} (terms : Terms S) (old new : View) (start end :
   pub rest : OnOk result (AllRest terms new end)
   pub crash : OnOk result (LeavesOnly old new (IsAnswering terms old start end))
   pub memory : result ≡ Err NoMemory
-      → AllRest terms new start × LeavesOnly old new (IsAnswering terms old start start)
+      → AllRest terms new start × LeavesOnly old new (IsAnswering terms old start start) × KeepsFiles old new
   pub disk : result ≡ Err Disk → Begun terms old new start line
+  pub still : OnOk result (end ≡ start → KeepsFiles old new)

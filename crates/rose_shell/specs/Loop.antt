@@ -14,8 +14,9 @@ use Rattle.rose_shell.specs.declared.waiting.Waiting.{Waiting}
 use Rattle.query_batch.specs.Joined.{AreJoined}
 use Rattle.rose_shell.specs.Giving.{GaveSome}
 use Rattle.rose_shell.specs.Batches.{Opens, heard}
-use Rattle.rose_shell.specs.Desk.{Terms, AllRest}
-use Rattle.rose_shell.specs.Session.{Turn, IsRun, AreFull, end_of, replies, lines_of, IsMoment, IsGivenInPart, IsCutOff}
+use Rattle.rose_shell.specs.Desk.{Terms, AllRest, KeepsFiles}
+use Rattle.rose_shell.specs.Session.{Turn, IsRun, AreFull, Stay, end_of, replies, lines_of, IsMoment}
+use Rattle.rose_shell.specs.Session.{IsGivenInPart, IsCutOff}
 
 -- this much is kept of these lines that wait for an answer
 abbrev pub IsWaiting : Waiting → List (List ℕ) → Type 0
@@ -38,6 +39,7 @@ pub record Went {S : Type 0} (terms : Terms S) (none_left : Type 0) (old new : V
   pub takes : TakesNone old new
   pub rest : AllRest terms new end
   pub crash : LeavesOnly old new (IsMoment terms.stands start turns old.given)
+  pub still : Stay start turns → KeepsFiles old new
 
 -- some of these lines were, until the sink failed within a reply, the disk within an answer, or memory ran
 -- out before the next one
@@ -53,6 +55,7 @@ pub record Stopped {S : Type 0} (terms : Terms S) (none_left : Type 0) (old new 
   pub takes : TakesNone old new
   pub rest : halt ≢ halts.Disk → AllRest terms new (end_of start turns)
   pub crash : LeavesOnly old new (IsMoment terms.stands start turns old.given)
+  pub still : Stay start turns → KeepsFiles old new
   pub sink : halt ≡ halts.Sink → (end ≡ end_of start turns) × IsGivenInPart turns unsent
   pub disk : halt ≡ halts.Disk → IsCutOff terms old new start turns unsent
   pub memory : halt ≡ halts.NoMemory → unsent ≡ []

@@ -1,12 +1,11 @@
--- What is promised of the word `run`, and of `serve`: each line is answered by the table of lines, each state on the way is a
--- realm, and each crash leaves files that stand for the state after the changes answered so far, or after one
--- more.
+-- What is promised of the word `run`, and of `serve`: each line is answered by the table of lines, each state on
+-- the way is sound, and each crash leaves files that stand for the state after the changes answered so far, or
+-- after one more.
 use Rattle.std.specs.Prelude.{◌≡◌, ◌≢◌, ◌⊎◌, ◌≤◌, ◌^◌, ℕ, Bool, true, false}
 use Rattle.std.specs.Prelude.{List, All, nat_lt}
 use Rattle.outside_world.specs.View.{View, Moment}
 use Rattle.outside_world.specs.Since.{LeavesOnly}
 use Rattle.outside_world.specs.declared.world.FileName.{FileName}
-use Rattle.grid_base.specs.Drawing.{IsDrawnRealm}
 use Rattle.line_grammar.specs.Lines.{Says}
 use Rattle.line_grammar.specs.declared.command.Change.{Change}
 use Rattle.line_grammar.specs.declared.command.Command.TheVariants as commands
@@ -14,7 +13,9 @@ use Rattle.realm_insert.specs.State.{State}
 use Rattle.realm_journal.specs.Reading.{OnlyAsks}
 use Rattle.realm_store.specs.Stands.{StandsFor}
 use Rattle.realm_store.specs.Keeping.{Kept, SpendableKept, RestsAt, AllRest}
+use Rattle.realm_store.specs.Sound.{IsSound}
 use Rattle.realm_files.specs.Keeping.{KnowsGate}
+use Rattle.realm_files.specs.Syncing.{AllStable}
 use Rattle.realm_store.specs.Damages.{IsDamaged}
 use Rattle.realm_pages.specs.declared.damage.Damage.{Damage}
 use Rattle.query_batch.specs.Answers.{TellsLine}
@@ -62,24 +63,24 @@ StandForState state files = StandsFor files state
 abbrev pub IsCrashOf : SpendableKept → List (Turn SpendableKept) → List ℕ → Moment → Type 0
 IsCrashOf start turns given m = IsPrefixMoment state_in is_accepted StandForState start turns given m
 
--- The store has served the world. After each line its drawing is a realm. Each turn was an accepted change
--- with a reply, or has left the state as it was. Where the byte of the next gate was there at the start,
+-- The store has served the world. Its state is sound at the start and after each turn. Each turn was an accepted
+-- change with a reply, or has left the state as it was. Where the byte of the next gate was there at the start,
 -- each crash since is one of this session. But for a disk fault all is at rest in the end, as it is kept
 -- after the last line.
 pub record HasServed (old new : View) (start end : SpendableKept) (budget : ℕ) (status : Status)
     : Type 0 where
   pub session : Served StoreTerms old new start end budget status
-  pub realms : All (λ turn. IsDrawnRealm turn.after.kept.state.drawing) session.turns
+  pub sound : IsSound start.kept.state × All (λ turn. IsSound turn.after.kept.state) session.turns
   pub counted : IsCounted state_in is_accepted start session.turns
   pub prefix : start.kept.has_gate ≡ true → LeavesOnly old new (IsCrashOf start session.turns old.given)
   pub rest : status ≢ DiskFault → AllRest (end_of start session.turns).kept new
 
--- Both files were synced and read, and nothing else happened: the disk failed meanwhile, memory ran out, or the
--- files are damaged as is told.
+-- Nothing was taken, given or written: the disk failed, memory ran out, or the files are damaged as is told,
+-- and a crash now leaves each as it reads.
 pub record IsNotBegun (old new : View) (status : Status) : Type 0 where
   pub asks : OnlyAsks old new
   pub cause : (status ≡ DiskFault) ⊎ ((status ≡ NoMemory)
-      ⊎ ((d : Damage) × (status ≡ Damaged d) × IsDamaged d old.reads))
+      ⊎ ((d : Damage) × (status ≡ Damaged d) × IsDamaged d old.reads × AllStable new))
 
 -- a store that keeps this and isn't spent
 abbrev pub ready_store : Kept → SpendableKept

@@ -7,7 +7,7 @@ use Rattle.outside_world.specs.Since.{OnlyAdds, LeavesOnly}
 use Rattle.rose_shell.specs.declared.status.Status.{Status}
 use Rattle.rose_shell.specs.declared.status.Status.TheVariants.{Done, SourceFault, SinkFault}
 use Rattle.rose_shell.specs.declared.status.Status.TheVariants.{DiskFault, NoMemory, InputLimit}
-use Rattle.rose_shell.specs.Desk.{Rule, Stands, Terms, AllRest}
+use Rattle.rose_shell.specs.Desk.{Rule, Stands, Terms, AllRest, KeepsFiles}
 use Rattle.query_batch.specs.Joined.{AreJoined}
 use Rattle.query_batch.specs.Replies.{too_long_reply}
 use Rattle.rose_shell.specs.Lines.{longest_line, whole_lines, all_lines}
@@ -62,6 +62,11 @@ abbrev pub end_of : {S : Type 0} → S → List (Turn S) → S
 end_of start [] = start
 end_of start (turn ∷ turns) = end_of turn.after turns
 
+-- each of them has left the state as it was
+abbrev pub Stay : {S : Type 0} → S → List (Turn S) → Type 0
+Stay start [] = Unit {0}
+Stay start (turn ∷ turns) = (turn.after ≡ start) × Stay turn.after turns
+
 -- their replies, one after another
 abbrev pub replies : {S : Type 0} → List (Turn S) → List ℕ
 replies [] = []
@@ -111,13 +116,15 @@ pub record AreTurnsOf {S : Type 0} (turns : List (Turn S)) (bytes : List ℕ) : 
   pub lines : lines_of turns ++ held ≡ whole_lines bytes
   pub full : AreFull ⊥ turns
 
--- a take began when the turns of the bytes taken had been made, and nothing else
-pub record IsAnswered {S : Type 0} (old : View) (turns : List (Turn S)) (a : Asked) : Type 0 where
+-- a take began when the turns of the bytes taken had been made, and nothing else; these are within the budget
+pub record IsAnswered {S : Type 0} (old : View) (budget : ℕ) (turns : List (Turn S)) (a : Asked)
+    : Type 0 where
   pub bytes : List ℕ
   pub done : List (Turn S)
   pub others : List (Turn S)
   pub some : turns ≡ done ++ others
   pub taken : a.taken ≡ old.taken ++ bytes
+  pub in_budget : length bytes ≤ budget
   pub answered : AreTurnsOf done bytes
   pub given : a.given ≡ old.given ++ replies done
 
@@ -143,9 +150,11 @@ pub record Served {S : Type 0} (terms : Terms S) (old new : View) (start end : S
   pub given : new.given ++ unsent ≡ old.given ++ replies turns
   pub ends : status ≢ NoMemory → status ≢ DiskFault → end ≡ end_of start turns
   -- at each take, at each crash since the start, and at a crash now
-  pub asked : OnlyAdds old.moment old.asked_since new.asked_since (IsAnswered old turns)
+  pub asked : OnlyAdds old.moment old.asked_since new.asked_since (IsAnswered old budget turns)
   pub crash : LeavesOnly old new (IsMoment terms.stands start turns old.given)
   pub rest : status ≢ DiskFault → AllRest terms new (end_of start turns)
+  -- turns that all leave the state as it was leave the files as they were
+  pub still : Stay start turns → KeepsFiles old new
   -- what each status means
   pub done : status ≡ Done → (new.left ≡ []) × (unread ≡ []) × (unsent ≡ [])
   pub source : status ≡ SourceFault → AreTurnsOf turns bytes × (unsent ≡ [])

@@ -7,6 +7,7 @@ use Rattle.state_counts.specs.Counts.{TellsCounts}
 use Rattle.generated_map.specs.Told.{TellsMap}
 use Rattle.realm_insert.specs.State.{State}
 use Rattle.realm_journal.specs.Reading.{OnlyAsks}
+use Rattle.realm_files.specs.Syncing.{AllStable}
 use Rattle.realm_store.specs.Stands.{StandsFor}
 use Rattle.rose_shell.specs.Giving.{GaveSome}
 use Rattle.rose_shell.specs.Running.{IsNotBegun, HasRun}
@@ -19,13 +20,13 @@ pub record GivesLines (old new : View) (lines : List ℕ) (status : Status) : Ty
   pub some : GaveSome old new lines unsent
   pub ends : ((status ≡ Done) × (unsent ≡ [])) ⊎ (status ≡ SinkFault)
 
--- both files were synced and read, and the lines that tell how much they stand for were given; or nothing was given, since
--- the disk failed, memory ran out or the files are damaged as is told
+-- The lines that tell how much the files stand for were given, and a crash now leaves each file as it reads.
+-- Or nothing was given, since the disk failed, memory ran out or the files are damaged as is told.
 abbrev pub HasChecked : View → View → Status → Type 0
 HasChecked old new status =
     IsNotBegun old new status
     ⊎ ((state : State) × (lines : List ℕ) × StandsFor old.reads state × TellsCounts state lines
-    × GivesLines old new lines status)
+    × GivesLines old new lines status × AllStable new)
 
 -- the lines that tell of the map were given, or nothing happened since memory ran out
 abbrev pub HasGenerated : ℕ → ℕ → View → View → Status → Type 0

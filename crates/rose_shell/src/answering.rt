@@ -1,7 +1,7 @@
 //! The store at the desk that the loop serves: what it answers a line. A change is stable in its file
 //! before its reply is there to be given. Want of memory within a change, and a disk fault, leave the store
 //! spent.
-ghost use Rattle.std.specs.Prelude.{◌≡◌, ◌≢◌, ◌≤◌, length, false, Err, IfOk, IsErrOf, MatchResult};
+ghost use Rattle.std.specs.Prelude.{◌≡◌, ◌≢◌, ◌≤◌, length, true, false, Err, IfOk, IsErrOf, MatchResult};
 ghost use Rattle.outside_world.specs.Counts.{Rose};
 ghost use Rattle.outside_world.specs.GoesOn.{GoesOn};
 ghost use Rattle.line_grammar.specs.Spelling.{text_of, change_text};
@@ -61,6 +61,7 @@ fn answer_line<R: Threads + Sync, W: Outside>(
     ensures answer { IfOk result (λ reply. StoreAnswers store.old line.now reply store.new) }
     ensures disk_fault { IsErrOf result Stop.Disk
         → Rose (W.disk_faults world.old) (W.disk_faults world.new) }
+    ensures spent { IsErrOf result Stop.Disk → store.new.spent ≡ true }
     ensures goes_on { GoesOn ⟦<W as Outside>⟧ world.old world.new }
     ensures told { W.tells world.new → Answered StoreTerms (W.view world.old) (W.view world.new)
         store.old store.new line.now result }
@@ -88,6 +89,7 @@ fn execute<R: Threads + Sync, W: Outside>(
     ensures answer { IfOk result (λ reply. Unspent (AnswersCommand command.now) store.old reply store.new) }
     ensures disk_fault { IsErrOf result Stop.Disk
         → Rose (W.disk_faults world.old) (W.disk_faults world.new) }
+    ensures spent { IsErrOf result Stop.Disk → store.new.spent ≡ true }
     ensures goes_on { GoesOn ⟦<W as Outside>⟧ world.old world.new }
     ensures told { W.tells world.new → Answered StoreTerms (W.view world.old) (W.view world.new)
         store.old store.new (text_of command.now) result }
@@ -115,6 +117,7 @@ fn answer_change<R: Threads + Sync, W: Outside>(
     ensures answer { IfOk result (λ reply. Unspent (AnswersChange change.now) store.old reply store.new) }
     ensures disk_fault { IsErrOf result Stop.Disk
         → Rose (W.disk_faults world.old) (W.disk_faults world.new) }
+    ensures spent { IsErrOf result Stop.Disk → store.new.spent ≡ true }
     ensures goes_on { GoesOn ⟦<W as Outside>⟧ world.old world.new }
     ensures told { W.tells world.new → Answered StoreTerms (W.view world.old) (W.view world.new)
         store.old store.new (change_text change.now) result }
@@ -138,6 +141,7 @@ fn answer_checkpoint<W: Outside>(
     ensures answer { IfOk result (λ reply. Unspent AnswersCheckpoint store.old reply store.new) }
     ensures disk_fault { IsErrOf result Stop.Disk
         → Rose (W.disk_faults world.old) (W.disk_faults world.new) }
+    ensures spent { IsErrOf result Stop.Disk → store.new.spent ≡ true }
     ensures goes_on { GoesOn ⟦<W as Outside>⟧ world.old world.new }
     ensures told { W.tells world.new → Answered StoreTerms (W.view world.old) (W.view world.new)
         store.old store.new (text_of TheCheckpoint) result }
@@ -161,6 +165,7 @@ fn write_checkpoint<W: Outside>(
     ensures answer { IfOk result (λ reply. Unspent AnswersCheckpoint store.old reply store.new) }
     ensures disk_fault { IsErrOf result Stop.Disk
         → Rose (W.disk_faults world.old) (W.disk_faults world.new) }
+    ensures spent { IsErrOf result Stop.Disk → store.new.spent ≡ true }
     ensures goes_on { GoesOn ⟦<W as Outside>⟧ world.old world.new }
     ensures told { W.tells world.new → Answered StoreTerms (W.view world.old) (W.view world.new)
         store.old store.new (text_of TheCheckpoint) result }

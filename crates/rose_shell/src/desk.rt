@@ -25,7 +25,7 @@ pub enum Stop {
 
 /// What answers lines one by one. Its state is the value itself.
 pub trait Desk<W: Outside> {
-    /// Whether it can answer. After a line that got no reply it may be spent.
+    /// Whether it can answer. After a line that got no reply it may be spent, and after a disk fault it is.
     ghost ready: { Self → Type 0 };
 
     /// What it answers, and what the files are to it.
@@ -48,6 +48,7 @@ pub trait Desk<W: Outside> {
         ensures ready { OnOk result (ready self.new) }
         ensures disk_fault { IsErrOf result Stop.Disk
             → Rose (W.disk_faults world.old) (W.disk_faults world.new) }
+        ensures spent { IsErrOf result Stop.Disk → ¬ (ready self.new) }
         ensures goes_on { GoesOn ⟦<W as Outside>⟧ world.old world.new }
         ensures told { W.tells world.new
             → Answered terms (W.view world.old) (W.view world.new) self.old self.new line.now result };

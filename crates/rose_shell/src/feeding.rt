@@ -58,6 +58,7 @@ pub(crate) fn feed<R: Threads + Sync, G: Gate, W: Outside, D: Desk<W>>(
     ensures disk_fault { IsErrOf result Halt.Disk
         → Rose (W.disk_faults world.old) (W.disk_faults world.new) }
     ensures ready { result ≢ Err Halt.NoMemory → result ≢ Err Halt.Disk → D.ready desk.new }
+    ensures spent { IsErrOf result Halt.Disk → ¬ (D.ready desk.new) }
     ensures rest { OnOk result (W.tells world.new → AllRest D.terms (W.view world.new) desk.new) }
     ensures goes_on { GoesOn ⟦<W as Outside>⟧ world.old world.new }
 {
@@ -111,6 +112,7 @@ fn end_line<R: Threads + Sync, G: Gate, W: Outside, D: Desk<W>>(
     ensures disk_fault { IsErrOf result Halt.Disk
         → Rose (W.disk_faults world.old) (W.disk_faults world.new) }
     ensures ready { result ≢ Err Halt.NoMemory → result ≢ Err Halt.Disk → D.ready desk.new }
+    ensures spent { IsErrOf result Halt.Disk → ¬ (D.ready desk.new) }
     ensures rest { OnOk result (W.tells world.new → AllRest D.terms (W.view world.new) desk.new) }
     ensures goes_on { GoesOn ⟦<W as Outside>⟧ world.old world.new }
 {

@@ -49,6 +49,7 @@ pub(crate) fn answer_end<R: Threads + Sync, G: Gate, W: Outside, D: Desk<W>>(
     ensures disk_fault { IsErrOf result Halt.Disk
         → Rose (W.disk_faults world.old) (W.disk_faults world.new) }
     ensures ready { result ≢ Err Halt.NoMemory → result ≢ Err Halt.Disk → D.ready desk.new }
+    ensures spent { IsErrOf result Halt.Disk → ¬ (D.ready desk.new) }
     ensures goes_on { GoesOn ⟦<W as Outside>⟧ world.old world.new }
 {
     match answer_last(rt, alloc, gate, desk, world, waiting, kept) {
@@ -86,6 +87,7 @@ fn answer_last<R: Threads + Sync, G: Gate, W: Outside, D: Desk<W>>(
     ensures disk_fault { IsErrOf result Halt.Disk
         → Rose (W.disk_faults world.old) (W.disk_faults world.new) }
     ensures ready { result ≢ Err Halt.NoMemory → result ≢ Err Halt.Disk → D.ready desk.new }
+    ensures spent { IsErrOf result Halt.Disk → ¬ (D.ready desk.new) }
     ensures rest { OnOk result (W.tells world.new → AllRest D.terms (W.view world.new) desk.new) }
     ensures goes_on { GoesOn ⟦<W as Outside>⟧ world.old world.new }
 {
@@ -120,6 +122,7 @@ pub(crate) fn hear_line<R: Threads + Sync, G: Gate, W: Outside, D: Desk<W>>(
     ensures disk_fault { IsErrOf result Halt.Disk
         → Rose (W.disk_faults world.old) (W.disk_faults world.new) }
     ensures ready { result ≢ Err Halt.NoMemory → result ≢ Err Halt.Disk → D.ready desk.new }
+    ensures spent { IsErrOf result Halt.Disk → ¬ (D.ready desk.new) }
     ensures rest { OnOk result (W.tells world.new → AllRest D.terms (W.view world.new) desk.new) }
     ensures goes_on { GoesOn ⟦<W as Outside>⟧ world.old world.new }
 {
@@ -160,6 +163,7 @@ fn hear_first<R: Threads + Sync, W: Outside, D: Desk<W>>(
     ensures disk_fault { IsErrOf result Halt.Disk
         → Rose (W.disk_faults world.old) (W.disk_faults world.new) }
     ensures ready { result ≢ Err Halt.NoMemory → result ≢ Err Halt.Disk → D.ready desk.new }
+    ensures spent { IsErrOf result Halt.Disk → ¬ (D.ready desk.new) }
     ensures rest { OnOk result (W.tells world.new → AllRest D.terms (W.view world.new) desk.new) }
     ensures goes_on { GoesOn ⟦<W as Outside>⟧ world.old world.new }
 {
@@ -199,6 +203,7 @@ fn answer_alone<R: Threads + Sync, W: Outside, D: Desk<W>>(
     ensures disk_fault { IsErrOf result Halt.Disk
         → Rose (W.disk_faults world.old) (W.disk_faults world.new) }
     ensures ready { result ≢ Err Halt.NoMemory → result ≢ Err Halt.Disk → D.ready desk.new }
+    ensures spent { IsErrOf result Halt.Disk → ¬ (D.ready desk.new) }
     ensures rest { OnOk result (W.tells world.new → AllRest D.terms (W.view world.new) desk.new) }
     ensures goes_on { GoesOn ⟦<W as Outside>⟧ world.old world.new }
 {

@@ -1,9 +1,10 @@
 //! The calls of the program: the words choose what is done, and the loop answers line by line.
-ghost use Rattle.std.specs.Prelude.{◌≡◌, ◌≢◌, ◌≤◌, ◌^◌, ◌⊎◌, ◌↔◌, false, length, map, string_bytes};
+ghost use Rattle.std.specs.Prelude.{◌≡◌, ◌≢◌, ◌≤◌, ◌^◌, ◌⊎◌, ℕ, true, false, length, map, string_bytes};
 ghost use Rattle.outside_world.specs.Counts.{Rose};
 ghost use Rattle.outside_world.specs.GoesOn.{GoesOn};
 ghost use Rattle.command_words.specs.Written.{IsWritten, IsNoCommand, IsAllowed};
 ghost use Rattle.command_words.specs.declared.word.Word.{Word as Command};
+ghost use Rattle.command_words.specs.declared.word.Word.TheVariants.{Gen};
 ghost use Rattle.realm_insert.specs.State.{State};
 ghost use Rattle.realm_store.specs.Stands.{StandsFor};
 ghost use Rattle.realm_store.specs.Keeping.{AllRest};
@@ -16,6 +17,7 @@ use crate::serving::serve_by_chunks;
 use crate::status::{Status, status_unstarted};
 use crate::telling::{tell_map, tell_store};
 use command_words::{Word, one_command, read_words};
+use grid_base::NoMemory;
 use outside_world::Outside;
 use query_batch::{Gate, Open};
 use realm_store::Store;
@@ -27,16 +29,18 @@ const MOST_BYTES: u64 = 1_099_511_627_776;
 
 /// Does what these words ask for, the arguments after the program's name. `run` reads lines to the end of the
 /// input, from what the files stand for on, and answers each. `check` tells how much the files stand for, and `gen` of a
-/// map that nobody wrote. Want of memory may end each at any place: what was given then is the replies to the first
-/// lines, each whole, or nothing.
+/// map that nobody wrote. Words that are no command end as usage. Want of memory may end each at any place: what was
+/// given then is the replies to the first lines, each whole, or nothing.
 pub fn run<R: Threads + Sync, W: Outside>(
     rt: &R,
     alloc: Global,
     words: &[String],
     world: &mut W,
 ) -> Status
-    ensures usage { result ≡ Status.Usage ↔ IsNoCommand (map string_bytes words.now) }
-    ensures untouched { result ≡ Status.Usage → world.new ≡ world.old }
+    ensures usage { result ≡ Status.Usage → IsNoCommand (map string_bytes words.now) }
+    ensures no_command { IsNoCommand (map string_bytes words.now)
+        → (result ≡ Status.Usage) ⊎ (result ≡ Status.NoMemory) }
+    ensures untouched { IsNoCommand (map string_bytes words.now) → world.new ≡ world.old }
     ensures source_fault { result ≡ Status.SourceFault
         → Rose (W.source_faults world.old) (W.source_faults world.new) }
     ensures sink_fault { result ≡ Status.SinkFault
@@ -47,6 +51,9 @@ pub fn run<R: Threads + Sync, W: Outside>(
         → IsDamaged d (W.view world.old).reads }
     ensures told { (command : Command) → IsWritten (map string_bytes words.now) command
         → W.tells world.new → HasDone command (W.view world.old) (W.view world.new) result }
+    // `gen` makes no call on a file: each may raise the count.
+    ensures no_file { (lines start : ℕ) → IsWritten (map string_bytes words.now) (Gen lines start)
+        → W.disk_faults world.new ≡ W.disk_faults world.old }
     // Where no call fails, the files stand for a state and the input ends within the budget, as far as the command
     // asks for them, nothing but memory can be wanting.
     ensures complete { (command : Command) → IsWritten (map string_bytes words.now) command
@@ -59,9 +66,10 @@ pub fn run<R: Threads + Sync, W: Outside>(
     ensures goes_on { GoesOn ⟦<W as Outside>⟧ world.old world.new }
 {
     one_command();
-    match read_words(words) {
-        Some(word) => do_command(rt, alloc, word, world),
-        None => Status::Usage,
+    match read_words(alloc, words) {
+        Ok(Some(word)) => do_command(rt, alloc, word, world),
+        Ok(None) => Status::Usage,
+        Err(NoMemory) => Status::NoMemory,
     }
 }
 
@@ -83,6 +91,8 @@ fn do_command<R: Threads + Sync, W: Outside>(
     ensures damaged { (d : Damage) → result ≡ Status.Damaged d → W.tells world.new
         → IsDamaged d (W.view world.old).reads }
     ensures told { W.tells world.new → HasDone word (W.view world.old) (W.view world.new) result }
+    ensures no_file { (lines start : ℕ) → word ≡ Gen lines start
+        → W.disk_faults world.new ≡ W.disk_faults world.old }
     ensures complete { W.tells world.new
         → ¬ (Rose (W.source_faults world.old) (W.source_faults world.new))
         → ¬ (Rose (W.sink_faults world.old) (W.sink_faults world.new))
@@ -156,8 +166,9 @@ pub fn serve<R: Threads + Sync, W: Outside>(
         → ¬ (Rose (W.disk_faults world.old) (W.disk_faults world.new))
         → length (W.view world.old).left ≤ budget
         → (result ≡ Status.Done) ⊎ (result ≡ Status.NoMemory) }
-    // But for want of memory and a disk fault it can go on.
+    // But for want of memory and a disk fault it can go on; after a disk fault it can't.
     ensures ready { result ≢ Status.NoMemory → result ≢ Status.DiskFault → store.new.spent ≡ false }
+    ensures spent { result ≡ Status.DiskFault → store.new.spent ≡ true }
     ensures rest { result ≢ Status.NoMemory → result ≢ Status.DiskFault → W.tells world.new
         → AllRest store.new.kept (W.view world.new) }
     ensures goes_on { GoesOn ⟦<W as Outside>⟧ world.old world.new }
@@ -193,14 +204,15 @@ pub fn serve_gated<R: Threads + Sync, W: Outside, G: Gate>(
         → ¬ (Rose (W.disk_faults world.old) (W.disk_faults world.new))
         → length (W.view world.old).left ≤ budget
         → (result ≡ Status.Done) ⊎ (result ≡ Status.NoMemory) }
-    // But for want of memory and a disk fault it can go on.
+    // But for want of memory and a disk fault it can go on; after a disk fault it can't.
     ensures ready { result ≢ Status.NoMemory → result ≢ Status.DiskFault → store.new.spent ≡ false }
+    ensures spent { result ≡ Status.DiskFault → store.new.spent ≡ true }
     ensures rest { result ≢ Status.NoMemory → result ≢ Status.DiskFault → W.tells world.new
         → AllRest store.new.kept (W.view world.new) }
     ensures goes_on { GoesOn ⟦<W as Outside>⟧ world.old world.new }
 {
-    // The session begins with a realm.
-    let _drawing = store.state().drawing();
+    // The session begins with a sound state.
+    let _state = store.state();
     let mut chunk = [0u8; 65_536];
     serve_by_chunks(rt, alloc, gate, store, world, budget, &mut chunk)
 }

@@ -45,6 +45,7 @@ pub(crate) fn serve_by_chunks<R: Threads + Sync, G: Gate, W: Outside, D: Desk<W>
     ensures disk_fault { result ≡ Status.DiskFault
         → Rose (W.disk_faults world.old) (W.disk_faults world.new) }
     ensures ready { result ≢ Status.NoMemory → result ≢ Status.DiskFault → D.ready desk.new }
+    ensures spent { result ≡ Status.DiskFault → ¬ (D.ready desk.new) }
     ensures goes_on { GoesOn ⟦<W as Outside>⟧ world.old world.new }
 {
     let mut kept = Vec::new(alloc);

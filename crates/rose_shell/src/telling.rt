@@ -66,6 +66,7 @@ pub(crate) fn tell_map<R: Threads + Sync, W: Outside>(
         → Rose (W.sink_faults world.old) (W.sink_faults world.new) }
     ensures told { W.tells world.new
         → HasGenerated lines start (W.view world.old) (W.view world.new) result }
+    ensures no_file { W.disk_faults world.new ≡ W.disk_faults world.old }
     ensures complete { ¬ (Rose (W.sink_faults world.old) (W.sink_faults world.new))
         → (result ≡ Status.Done) ⊎ (result ≡ Status.NoMemory) }
     ensures goes_on { GoesOn ⟦<W as Outside>⟧ world.old world.new }
@@ -83,6 +84,7 @@ fn give_lines<W: Outside>(world: &mut W, lines: &Reply) -> Status
         → Rose (W.sink_faults world.old) (W.sink_faults world.new) }
     ensures told { W.tells world.new
         → GivesLines (W.view world.old) (W.view world.new) lines.now result }
+    ensures no_file { W.disk_faults world.new ≡ W.disk_faults world.old }
     ensures goes_on { GoesOn ⟦<W as Outside>⟧ world.old world.new }
 {
     match give_all(world, lines.bytes()) {

@@ -25,7 +25,7 @@ returns-in-Err-Refused-clause-answer g c =
 -- the change is stable
 pub returns-in-Ok-clause-told : goal.returns-in-Ok-clause-told
 returns-in-Ok-clause-told g c = λ tells.
-    change_written (c.in-Ok.ensures.written tells) (c.in-Ok.ensures.rest tells)
+    change_written c.args.change.now c.in-Ok.ensures.made (c.in-Ok.ensures.written tells) (c.in-Ok.ensures.rest tells)
 
 -- a refused change leaves the files, and so does want of memory
 pub returns-in-Err-Refused-clause-told : goal.returns-in-Err-Refused-clause-told

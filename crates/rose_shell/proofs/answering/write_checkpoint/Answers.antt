@@ -26,7 +26,7 @@ returns-in-Err-Generations-clause-answer g c =
 -- the files stood for the state all the time
 pub returns-in-Ok-clause-told : goal.returns-in-Ok-clause-told
 returns-in-Ok-clause-told g c = λ tells.
-    checkpoint_written (c.in-Ok.ensures.stays tells) (c.in-Ok.ensures.rest tells)
+    checkpoint_written c.in-Ok.ensures.renewed (c.in-Ok.ensures.stays tells) (c.in-Ok.ensures.rest tells)
 
 pub returns-in-Err-Disk-clause-told : goal.returns-in-Err-Disk-clause-told
 returns-in-Err-Disk-clause-told g c = λ tells.

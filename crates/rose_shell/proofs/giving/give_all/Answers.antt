@@ -1,4 +1,4 @@
-use Rattle.std.proofs.Common.{arith}
+use Rattle.std.proofs.Common.{◌∙◌, arith}
 use Rattle.std.proofs.lemmas.List.{take_rest}
 use Rattle.rose_shell.proofs.Gifts.{gave_more}
 use Rattle.rose_shell.proofs.giving.give_all.Goals as goal
@@ -15,5 +15,6 @@ loop-rest-preserved g c =
         disk_faults = omega (arith, inv.goes_on.disk_faults, ens.others.1);
         tells = λ t. inv.goes_on.tells (ens.still t);
       };
+      no_file = ens.others.1 ∙ inv.no_file;
       told = λ t. gave_more (take_rest c.loop-rest.rest.now c.in_ok-given.given) (inv.told (ens.still t)) (ens.told t);
     }

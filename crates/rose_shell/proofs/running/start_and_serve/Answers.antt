@@ -1,6 +1,7 @@
 use Rattle.std.proofs.Common.{◌≤◌, length, inl, inr, subst, sym, ap, Err}
 use Rattle.rose_shell.proofs.Openings.{begun_by}
 use Rattle.rose_shell.proofs.Rises.{rose_behind, unstarted}
+use Rattle.rose_shell.proofs.Syncs.{stable_by}
 use Rattle.realm_store.proofs.OneReading.{one_reading}
 use Rattle.rose_shell.proofs.Unstarted.{damaged_at_start, not_begun}
 use Rattle.rose_shell.proofs.running.start_and_serve.Goals as goal
@@ -44,4 +45,9 @@ returns-in-Err-clause-damaged g c = λ d is tells.
 pub returns-in-Err-clause-told : goal.returns-in-Err-clause-told
 returns-in-Err-clause-told g c = λ tells.
     let started = c.in-Err.ensures.told tells in
-    inl (not_begun c.in-Err.error _ c.status_unstarted.ensures started.asks (λ d is. started.damaged d (ap Err is)))
+    let outside = g.met.W.Outside in
+    inl (not_begun c.in-Err.error _ c.status_unstarted.ensures started.asks (λ d is. (
+      started.damaged d (ap Err is),
+      stable_by (λ t m early may. outside.counts_now _ t m tells early may) (λ f. outside.reads_an_image _ f tells)
+          started.asks.files (started.opened (λ other. cc)),
+    )))

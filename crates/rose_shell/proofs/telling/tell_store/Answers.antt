@@ -3,6 +3,7 @@ use Rattle.realm_insert.specs.State.{State}
 use Rattle.state_counts.specs.Counts.{TellsCounts}
 use Rattle.realm_store.proofs.OneReading.{one_reading}
 use Rattle.rose_shell.proofs.Rises.{rose_behind, unstarted}
+use Rattle.rose_shell.proofs.Syncs.{stable_by, stable_then}
 use Rattle.rose_shell.proofs.Tellings.{lines_behind}
 use Rattle.rose_shell.proofs.Unstarted.{damaged_at_start, not_begun}
 use Rattle.rose_shell.proofs.telling.tell_store.Goals as goal
@@ -10,14 +11,19 @@ use Rattle.rose_shell.proofs.telling.tell_store.Goals as goal
 -- the files stand for the state whose numbers are told
 pub returns-in-Ok-count_state-clause-told : goal.returns-in-Ok-count_state-clause-told
 returns-in-Ok-count_state-clause-told g c = λ tells.
-    let started = c.in-Ok.ensures.told (c.give_lines.ensures.goes_on.tells tells) in
+    let then = c.give_lines.ensures.goes_on.tells tells in
+    let started = c.in-Ok.ensures.told then in
     let kept = c.in-Ok.store.kept in
+    let gave = c.give_lines.ensures.told tells in
+    let outside = g.met.W.Outside in
     inr (
       kept.state,
       c.in-Ok-count_state.lines,
       (kept.place, started.stands.0.stands),
       subst (λ (s : State). TellsCounts s c.in-Ok-count_state.lines) c.state.ensures.state c.in-Ok-count_state.ensures,
-      lines_behind started.asks (c.give_lines.ensures.told tells),
+      lines_behind started.asks gave,
+      stable_then gave.some.files (stable_by (λ t m early may. outside.counts_now _ t m then early may)
+          (λ f. outside.reads_an_image _ f then) started.asks.files (started.opened (λ is. cc))),
     )
 
 -- a sink that failed has risen since the start
@@ -43,4 +49,9 @@ returns-clause-damaged g c = λ d is tells.
 pub returns-clause-told : goal.returns-clause-told
 returns-clause-told g c = λ tells.
     let started = c.in-Err.ensures.told tells in
-    inl (not_begun c.in-Err.error _ c.status_unstarted.ensures started.asks (λ d is. started.damaged d (ap Err is)))
+    let outside = g.met.W.Outside in
+    inl (not_begun c.in-Err.error _ c.status_unstarted.ensures started.asks (λ d is. (
+      started.damaged d (ap Err is),
+      stable_by (λ t m early may. outside.counts_now _ t m tells early may) (λ f. outside.reads_an_image _ f tells)
+          started.asks.files (started.opened (λ other. cc)),
+    )))
