@@ -14,7 +14,7 @@ use Rattle.outside_world.specs.Files.{FileState, begin_of, is_same_file, write, 
 use Rattle.outside_world.specs.Files.{opened, file_after, disk_of, IsImage}
 use Rattle.outside_world.specs.Log.{Log, filled, Covers, left_by, file_then, crash_at}
 use Rattle.outside_world.specs.TornImages.{length-overwritten, torn_overwritten, torn_image, whole_image}
-use Rattle.outside_world.specs.ViewLaws.{reads_an_image_now}
+use Rattle.outside_world.specs.ViewLaws.{image_after}
 use Rattle.outside_world.proofs.TornBytes.{reaches}
 
 -- what holds of each file that calls have led to
@@ -91,7 +91,7 @@ base_is_image base pending = record { no_shorter = omega arith; no_longer = reac
 pub left_is_image : (leave : Leave) (f : FileName) (first : List ℕ) (events : List Event)
     → IsImage (file_after f first events) (left_by leave (file_after f first events))
 left_is_image Old f first events = base_is_image (file_after f first events).base (file_after f first events).pending
-left_is_image New f first events = reads_an_image_now f first events
+left_is_image New f first events = image_after f first events
 left_is_image (Fill byte) f first events = (reached f first events).fills byte
 
 -- what is asked of the two files

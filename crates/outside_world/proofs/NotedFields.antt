@@ -1,13 +1,15 @@
 -- This file shows that the fields of a log go on agreeing when a call is noted, and what they then stand for.
 use Rattle.std.proofs.Common.{◌≡◌, ℕ, ◌+◌, ◌≤◌, List, [], ◌∷◌, ◌++◌, length, Vec}
-use Rattle.std.proofs.Common.{refl, sym, ◌∙◌, ap, arith, length-append}
-use Rattle.std.proofs.lemmas.List.{append-nil}
+use Rattle.std.proofs.Common.{refl, sym, ◌∙◌, ap, subst, arith, length-append}
+use Rattle.std.proofs.lemmas.List.{append-nil, take_all}
 use Rattle.std.specs.Vec.{vec_capacity}
 use Rattle.std.specs.declared.alloc.Global.{Global}
+use Rattle.outside_world.specs.declared.world.FileName.{FileName}
 use Rattle.outside_world.specs.declared.world.FileName.TheVariants.{A, B}
 use Rattle.outside_world.specs.declared.call_log.Call.{Call}
+use Rattle.outside_world.specs.declared.call_log.Call.TheVariants.{Write}
 use Rattle.outside_world.specs.declared.call_log.CallLog.TheInside.{Inside}
-use Rattle.outside_world.specs.Events.{Event, taken_at, taken_by}
+use Rattle.outside_world.specs.Events.{Event, Written, taken_at, taken_by}
 use Rattle.outside_world.specs.Files.{after_event, file_after}
 use Rattle.outside_world.specs.Log.{with_event}
 use Rattle.outside_world.specs.LogFields.{event_of, given_in, written_in, events_of, size_given, size_written, log_of, Agrees}
@@ -117,3 +119,34 @@ module _ (w : Inside) (agrees : Agrees w) (calls : Vec Call Global) (call : Call
         b = omega arith;
         written = omega arith;
       })
+
+-- a call that wrote these bytes
+module _ (w : Inside) (agrees : Agrees w) (a b written : Vec ℕ Global) (calls : Vec Call Global) (file : FileName) (at : ℕ)
+    (bytes : List ℕ) (longer : written.items ≡ w.written.items ++ bytes)
+    (notes : calls.items ≡ w.calls.items ++ Write file at (length bytes) ∷ []) where
+  abbrev with_write : Inside
+  with_write = record w { a = a; b = b; written = written; calls = calls }
+
+  is_later_write : IsLater w with_write (Write file at (length bytes)) [] bytes
+  is_later_write = record {
+    input = refl;
+    first_a = refl;
+    first_b = refl;
+    output = sym (append-nil w.output.items);
+    written = longer;
+    calls = notes;
+    room = refl;
+  }
+
+  all_written : event_of [] bytes (Write file at (length bytes)) ≡ Written file at bytes
+  all_written = ap (λ (l : List ℕ). Written file at l) (take_all (length bytes) bytes (omega arith))
+
+  pub log_of-write : log_of with_write ≡ with_event (log_of w) (Written file at bytes)
+  log_of-write =
+      log_of-later w with_write (Write file at (length bytes)) [] bytes agrees is_later_write
+      ∙ ap (λ event. with_event (log_of w) event) all_written
+
+  pub Agrees-write : Follows w with_write (Written file at bytes) → KeepsRoom w with_write → Agrees with_write
+  Agrees-write follows keeps =
+      let same = subst (λ event. Follows w with_write event) (sym all_written) follows in
+      Agrees-later w with_write (Write file at (length bytes)) [] bytes agrees is_later_write refl refl same keeps

@@ -13,7 +13,7 @@ use Rattle.outside_world.specs.Files.{FileState, is_same_file, begin_of, write, 
 use Rattle.outside_world.specs.Disk.{Range}
 use Rattle.outside_world.specs.History.{view_after}
 use Rattle.outside_world.specs.TornImages.{torn_unwritten}
-use Rattle.outside_world.specs.ViewLaws.{reads_an_image_now}
+use Rattle.outside_world.specs.ViewLaws.{image_after}
 use Rattle.outside_world.proofs.TornBytes as torn
 use Rattle.outside_world.proofs.NotedCalls.{taken_by-append, given_by-append, asked_now, ticks, ticks_wider, ticks_none}
 use Rattle.outside_world.proofs.NotedFiles.{file_after-push, other_file, same_file, now-sync}
@@ -161,7 +161,7 @@ module _ (input : List ℕ) (firsts : FileName → List ℕ) (events : List Even
   image_before file at n c within image =
       let s = state file in
       let range : Range = record { from = begin_of at s; size = n } in
-      let reached = (reads_an_image_now file (firsts file) events).no_longer in
+      let reached = (image_after file (firsts file) events).no_longer in
       subst (λ k. (d : List ℕ) × before.image file d × Torn k n d c) (begins file at within)
       (torn.image_before s.base range s.pending c (omega (arith, begins file at within, within, reached)) image)
 
@@ -213,7 +213,7 @@ module _ (input : List ℕ) (firsts : FileName → List ℕ) (events : List Even
   -- a sync leaves one image of its file, which was one before
   synced_image : (f file : FileName) (c : List ℕ) (b : Bool) → IsImage (if_for b sync (state f)) c → IsImage (state f) c
   synced_image f file c true image =
-      subst (λ l. IsImage (state f) l) (sym (torn.synced_image (state f).now c image)) (reads_an_image_now f (firsts f) events)
+      subst (λ l. IsImage (state f) l) (sym (torn.synced_image (state f).now c image)) (image_after f (firsts f) events)
   synced_image f file c false image = image
 
   pub synced : (file : FileName) → Synced before (after (Flushed file)) file (Ok tt)

@@ -1,4 +1,4 @@
--- The laws of what a list of calls tells, in the form in which a world owes them.
+-- The laws of what a log of calls tells, in the form in which a world owes them.
 use Rattle.std.specs.Prelude.{◌≤◌, ℕ, Bool, true, false, List, [], ◌∷◌, length}
 use Rattle.std.proofs.Common.{sym, subst}
 use Rattle.std.proofs.Math.Nat.{le_refl, min-le_right}
@@ -9,28 +9,28 @@ use Rattle.outside_world.specs.Disk.{IsByteByByte}
 use Rattle.outside_world.specs.Events.{Event, Taken, Given, Written, Tried, Flushed, Looked, IsTake}
 use Rattle.outside_world.specs.Files.{FileState, begin_of, is_same_file, write, try_write, sync, if_for}
 use Rattle.outside_world.specs.Files.{after_event, after_events, opened, file_after, disk_of, IsImage}
-use Rattle.outside_world.specs.History.{MayLeaveAfter, LeftSince, AskedSince, view_after}
+use Rattle.outside_world.specs.History.{MayLeaveAfter, LeftSince, AskedSince}
+use Rattle.outside_world.specs.Log.{Log, first_of, log_view}
 use Rattle.outside_world.specs.TornImages.{torn_overwritten, torn_unwritten, torn_image, whole_image}
 
 -- what a crash now may leave is left since any earlier moment, as now is one of them
-pub left_counts_now : (firsts : FileName → List ℕ) (events : List Event) (t : ℕ) (m : Moment)
-    → t ≤ length events → MayLeaveAfter firsts events m → LeftSince firsts events t m
-left_counts_now firsts events t m early leaves =
-    let now = length events in
-    let all = sym (take_all now events (le_refl now)) in
-    (now, early, le_refl now, subst (λ l. MayLeaveAfter firsts l m) all leaves)
+pub left_counts_now : (log : Log) (t : ℕ) (m : Moment)
+    → t ≤ length log.calls → MayLeaveAfter (first_of log) log.calls m → LeftSince (first_of log) log.calls t m
+left_counts_now log t m early leaves =
+    let now = length log.calls in
+    let all = sym (take_all now log.calls (le_refl now)) in
+    (now, early, le_refl now, subst (λ l. MayLeaveAfter (first_of log) l m) all leaves)
 
 -- since now, now is the only moment
-pub left_only_now : (firsts : FileName → List ℕ) (events : List Event) (m : Moment)
-    → LeftSince firsts events (length events) m → MayLeaveAfter firsts events m
-left_only_now firsts events m (k, since, upto, leaves) =
-    subst (λ l. MayLeaveAfter firsts l m) (take_all k events since) leaves
+pub left_only_now : (log : Log) (m : Moment)
+    → LeftSince (first_of log) log.calls (length log.calls) m → MayLeaveAfter (first_of log) log.calls m
+left_only_now log m (k, since, upto, leaves) =
+    subst (λ l. MayLeaveAfter (first_of log) l m) (take_all k log.calls since) leaves
 
 -- a call that hasn't been made is no take
-pub none_asked_now : (input : List ℕ) (events : List Event) (a : Asked)
-    → AskedSince input events (length events) a → ⊥
-none_asked_now input events a (k, since, takes, asks) =
-    subst IsTake (get_or_past events k Looked since) takes
+pub none_asked_now : (log : Log) (a : Asked) → AskedSince log.input log.calls (length log.calls) a → ⊥
+none_asked_now log a (k, since, takes, asks) =
+    subst IsTake (get_or_past log.calls k Looked since) takes
 
 -- what a file reads as stays one of its images
 abbrev pub ReadsAnImage : FileState → Type 0
@@ -62,13 +62,15 @@ image_events f s [] is = is
 image_events f s (event ∷ events) is =
     image_events f (after_event f s event) events (image_event f s event is)
 
-pub reads_an_image_now : (f : FileName) (first : List ℕ) (events : List Event)
+pub image_after : (f : FileName) (first : List ℕ) (events : List Event)
     → ReadsAnImage (file_after f first events)
-reads_an_image_now f first events = image_events f (opened first) events (whole_image first)
+image_after f first events = image_events f (opened first) events (whole_image first)
+
+pub reads_an_image_now : (log : Log) (f : FileName) → ReadsAnImage (file_after f (first_of log f) log.calls)
+reads_an_image_now log f = image_after f (first_of log f) log.calls
 
 -- and what is told is said byte by byte
-pub byte_by_byte_now : (input : List ℕ) (firsts : FileName → List ℕ) (events : List Event)
-    → IsByteByByte (view_after input firsts events)
-byte_by_byte_now input firsts events = λ f.
-    let s = file_after f (firsts f) events in
+pub byte_by_byte_now : (log : Log) → IsByteByByte (log_view log)
+byte_by_byte_now log = λ f.
+    let s = file_after f (first_of log f) log.calls in
     (disk_of s.base s.pending, λ c. (λ image. image, λ image. image))

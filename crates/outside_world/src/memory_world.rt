@@ -144,16 +144,15 @@ impl Outside for MemoryWorld {
 
     ghost disk_faults = { λ w. w.disk_faults };
 
-    ghost reads_an_image = { λ w f tells. reads_an_image_now f (first_of w.log f) w.log.calls };
+    ghost reads_an_image = { λ w f tells. reads_an_image_now w.log f };
 
-    ghost byte_by_byte = { λ w tells. byte_by_byte_now w.log.input (first_of w.log) w.log.calls };
+    ghost byte_by_byte = { λ w tells. byte_by_byte_now w.log };
 
-    ghost counts_now = { λ w t m tells early may.
-        left_counts_now (first_of w.log) w.log.calls t m early may };
+    ghost counts_now = { λ w t m tells early may. left_counts_now w.log t m early may };
 
-    ghost only_now = { λ w m tells left. left_only_now (first_of w.log) w.log.calls m left };
+    ghost only_now = { λ w m tells left. left_only_now w.log m left };
 
-    ghost none_asked = { λ w a tells asked. none_asked_now w.log.input w.log.calls a asked };
+    ghost none_asked = { λ w a tells asked. none_asked_now w.log a asked };
 
     fn take(&mut self, buf: &mut [u8]) -> Result<usize, Failed>
         ensures within { IfOk result (λ n. n ≤ length buf.old) }

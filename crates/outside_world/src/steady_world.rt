@@ -4,7 +4,7 @@ ghost use Rattle.std.specs.Prelude.{◌≡◌, ◌≤◌, ◌<◌, ◌+◌, ◌^
 ghost use Rattle.outside_world.specs.Calls.{Took, Gave, Sized, Read, Wrote, Synced};
 ghost use Rattle.outside_world.specs.Counts.{Rose};
 ghost use Rattle.outside_world.specs.Events.{Looked};
-ghost use Rattle.outside_world.specs.Log.{first_of, FitsCall, FitsGive, FitsWrite};
+ghost use Rattle.outside_world.specs.Log.{FitsCall, FitsGive, FitsWrite};
 ghost use Rattle.outside_world.specs.Steady.{steady_view, fresh_steady, no_faults, Notes, Stays};
 ghost use Rattle.outside_world.specs.ViewLaws.{left_counts_now, left_only_now, none_asked_now};
 ghost use Rattle.outside_world.specs.ViewLaws.{reads_an_image_now, byte_by_byte_now};
@@ -90,16 +90,15 @@ impl Outside for SteadyWorld {
 
     ghost disk_faults = { no_faults };
 
-    ghost reads_an_image = { λ w f tells. reads_an_image_now f (first_of w.log f) w.log.calls };
+    ghost reads_an_image = { λ w f tells. reads_an_image_now w.log f };
 
-    ghost byte_by_byte = { λ w tells. byte_by_byte_now w.log.input (first_of w.log) w.log.calls };
+    ghost byte_by_byte = { λ w tells. byte_by_byte_now w.log };
 
-    ghost counts_now = { λ w t m tells early may.
-        left_counts_now (first_of w.log) w.log.calls t m early may };
+    ghost counts_now = { λ w t m tells early may. left_counts_now w.log t m early may };
 
-    ghost only_now = { λ w m tells left. left_only_now (first_of w.log) w.log.calls m left };
+    ghost only_now = { λ w m tells left. left_only_now w.log m left };
 
-    ghost none_asked = { λ w a tells asked. none_asked_now w.log.input w.log.calls a asked };
+    ghost none_asked = { λ w a tells asked. none_asked_now w.log a asked };
 
     fn take(&mut self, buf: &mut [u8]) -> Result<usize, Failed>
         ensures within { IfOk result (λ n. n ≤ length buf.old) }

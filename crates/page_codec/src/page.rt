@@ -4,7 +4,6 @@ ghost use Rattle.std.specs.Prelude.{IfSome, Ok, Some};
 ghost use Rattle.page_codec.specs.Pages.{Fills, body_of, page_of, part_of};
 ghost use Rattle.page_codec.specs.Pages.{digest_kept, digest_found, IsFault};
 
-use crate::zeros::put;
 use sha2::{Digest, Sha256};
 use thiserror::Error;
 
@@ -26,8 +25,8 @@ pub fn encode_page(number: u64, part: &[u8]) -> [u8; 4096]
 {
     let body = body_with(number, part);
     let mut page = [0; 4096];
-    put(&mut page, 0, &body);
-    put(&mut page, 4064, &Sha256::digest(&body));
+    page[..4064].copy_from_slice(&body);
+    page[4064..].copy_from_slice(&Sha256::digest(&body));
     page
 }
 
@@ -106,8 +105,8 @@ fn body_with(number: u64, part: &[u8]) -> [u8; 4064]
     ensures { result ≡ body_of number part.now }
 {
     let mut body = [0; 4064];
-    put(&mut body, 0, &number.to_be_bytes());
-    put(&mut body, 8, &(part.len() as u16).to_be_bytes());
-    put(&mut body, 10, part);
+    body[..8].copy_from_slice(&number.to_be_bytes());
+    body[8..10].copy_from_slice(&(part.len() as u16).to_be_bytes());
+    body[10..10 + part.len()].copy_from_slice(part);
     body
 }
