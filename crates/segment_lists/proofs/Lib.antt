@@ -1,0 +1,4 @@
+-- segments that leave each other alone are those of a realm, and back
+pub mod Noding
+-- binary searches in ascending lists
+pub mod Searches
