@@ -1,5 +1,5 @@
 -- This file shows that the cycles round the classes beyond a face are its borders.
-use Rattle.std.proofs.Common.{◌≡◌, ◌≢◌, ◌⊎◌, ◌↔◌, ℕ, zero, suc, ◌+◌, ◌<◌, ◌==◌, Bool, true, false, not, ◌&&◌, ◌||◌, if◌then◌else◌}
+use Rattle.std.proofs.Common.{◌≡◌, ◌≢◌, ◌⊎◌, ◌↔◌, ℕ, zero, suc, ◌+◌, ◌<◌, ◌==◌, Bool, true, false, not, ◌&&◌, if◌then◌else◌}
 use Rattle.std.proofs.Common.{List, [], ◌∷◌, ◌++◌, length, slice_index, get_or, remove, Contains, AllPairs, refl, sym, ap, subst, ◌∙◌}
 use Rattle.std.proofs.Common.{arith, inl, inr}
 use Rattle.std.specs.List.Sorted.{IsStrictlyIncreasing}
@@ -31,7 +31,7 @@ use Rattle.r_faces.specs.FaceCycles.{HasBeside, RunsBetween, IsBorderCycle, IsEn
 use Rattle.r_faces.specs.Parted.{AreKeys}
 use Rattle.r_faces.specs.Rims.{IsInside}
 use Rattle.r_faces.specs.Rounds.{AreBeyond, IsFaceNumber, IsRound}
-use Rattle.r_faces.proofs.FaceRims.{IsKnown, in_order, differ, those_alone}
+use Rattle.r_faces.proofs.FaceRims.{IsKnown, in_order, differ, test_no, those_alone, alone_on_left, alone_on_right}
 
 -- ---- the side of the face
 -- the face is on the side d of segment i
@@ -133,12 +133,6 @@ face_number_is R N z face key k inside i hi = by (face_side R N z i k inside hi)
 test_yes : (m n : ℕ) → m ≡ n → (m == n) ≡ true
 test_yes m n e = grind arith
 
-test_no : (m n : ℕ) → (m ≡ n → ⊥) → (m == n) ≡ false
-test_no m n e = grind arith
-
-turned_test : (m n : ℕ) → (n == m) ≡ (m == n)
-turned_test m n = grind arith
-
 -- the number beyond the face at segment i is on the right, with the face on the left, or the other way
 pub beyond_is : (R : List GridSegment) (N : List SideClasses) (U : List ℕ) (face i : ℕ) → IsFaceNumber R N face
     → AreBeyond N face (length R) U → i < length R
@@ -167,17 +161,6 @@ beyond_other R N U face i two u hi e = elim (beyond_is R N U face i two u hi) [
   | inr h ↦ h.2 (sym h.1 ∙ e)
 ]
 
-alone_left : (l r : Bool) → r ≡ false → ((l && not r) || (r && not l)) ≡ l
-alone_left true true e = cc
-alone_left true false e = refl
-alone_left false true e = cc
-alone_left false false e = refl
-
-alone_right : (l r : Bool) → l ≡ false → ((l && not r) || (r && not l)) ≡ r
-alone_right true r e = cc
-alone_right false true e = refl
-alone_right false false e = refl
-
 -- the segments with a number beyond the face are those with the class on one side alone
 pub beyond_rim : (R : List GridSegment) (N : List SideClasses) (U : List ℕ) (face m : ℕ) → AreClassNumbers R N → IsFaceNumber R N face
     → AreBeyond N face (length R) U → m ≢ face → those m U R ≡ class_rim m R N
@@ -186,14 +169,8 @@ beyond_rim R N U face m c two u other = those_alone m U R N u.one_each c.one_eac
     by : (i : ℕ) → ((number_at N i Left ≡ face) × (slice_index U i ≡ number_at N i Right) × (number_at N i Right ≢ face))
         ⊎ ((number_at N i Right ≡ face) × (slice_index U i ≡ number_at N i Left) × (number_at N i Left ≢ face))
         → (m == slice_index U i) ≡ is_alone m (numbers_at N i)
-    by i (inl h) =
-        ap (λ (x : ℕ). m == x) h.1 ∙ turned_test (number_at N i Right) m
-        ∙ sym (alone_right (number_at N i Left == m) (number_at N i Right == m)
-        (test_no (number_at N i Left) m (λ e. other (sym e ∙ h.0))))
-    by i (inr h) =
-        ap (λ (x : ℕ). m == x) h.1 ∙ turned_test (number_at N i Left) m
-        ∙ sym (alone_left (number_at N i Left == m) (number_at N i Right == m)
-        (test_no (number_at N i Right) m (λ e. other (sym e ∙ h.0))))
+    by i (inl h) = alone_on_right N i m (slice_index U i) h.1 (λ e. other (sym e ∙ h.0))
+    by i (inr h) = alone_on_left N i m (slice_index U i) h.1 (λ e. other (sym e ∙ h.0))
 
 -- 0 is one of the numbers
 pub zero_beyond : (R : List GridSegment) (N : List SideClasses) (U : List ℕ) (face : ℕ) (key : IsFaceKey R N face)

@@ -174,12 +174,8 @@ even_side B N n z i m d k of_z hi a off off' e h =
     let q = k.numbers.some i d hi off in
     h.only d q.0 q.1 (odd_in_class B N z q.0 k of_z.inner (number_to_class B N n z q.0 i d k of_z q.1 e))
 
-is_false : (b : Bool) → (b ≡ true → ⊥) → b ≡ false
-is_false true h = absurd (h refl)
-is_false false h = refl
-
-tells : (m n : ℕ) → (m == n) ≡ true → m ≡ n
-tells m n h = grind arith
+pub test_no : (m n : ℕ) → (m ≡ n → ⊥) → (m == n) ≡ false
+test_no m n other = grind arith
 
 alone_left : (l r : Bool) → r ≡ false → ((l && not r) || (r && not l)) ≡ l
 alone_left true true e = cc
@@ -195,6 +191,19 @@ alone_right false false e = refl
 turned_test : (m n : ℕ) → (n == m) ≡ (m == n)
 turned_test m n = grind arith
 
+-- a number that isn't on the right of segment i is m, the one on its left, exactly where it is on one side alone
+pub alone_on_left : (N : List SideClasses) (i n m : ℕ) → m ≡ number_at N i Left → (number_at N i Right ≡ n → ⊥)
+    → (n == m) ≡ is_alone n (numbers_at N i)
+alone_on_left N i n m is other =
+    ap (λ (x : ℕ). n == x) is ∙ turned_test (number_at N i Left) n
+    ∙ sym (alone_left (number_at N i Left == n) (number_at N i Right == n) (test_no (number_at N i Right) n other))
+
+pub alone_on_right : (N : List SideClasses) (i n m : ℕ) → m ≡ number_at N i Right → (number_at N i Left ≡ n → ⊥)
+    → (n == m) ≡ is_alone n (numbers_at N i)
+alone_on_right N i n m is other =
+    ap (λ (x : ℕ). n == x) is ∙ turned_test (number_at N i Right) n
+    ∙ sym (alone_right (number_at N i Left == n) (number_at N i Right == n) (test_no (number_at N i Left) n other))
+
 right_is_not_left : Right ≡ Left → ⊥
 right_is_not_left e = cc
 
@@ -206,17 +215,11 @@ test_alike : (B : List GridSegment) (N : List SideClasses) (n : ℕ) (z : Place)
 test_alike B N n z i m k of_z hi a = by a.side refl
   where
     by : (d : Side) → a.side ≡ d → (n == m) ≡ is_alone n (numbers_at N i)
-    by Left e =
-        let right = is_false (number_at N i Right == n)
-        (λ t. right_is_not_left (even_side B N n z i m Right k of_z hi a right_off right_off (tells _ n t) a ∙ e)) in
-        ap (λ (x : ℕ). n == x) (a.is ∙ ap (number_at N i) e) ∙ turned_test (number_at N i Left) n
-        ∙ sym (alone_left (number_at N i Left == n) (number_at N i Right == n) right)
+    by Left e = alone_on_left N i n m (a.is ∙ ap (number_at N i) e)
+        (λ same. right_is_not_left (even_side B N n z i m Right k of_z hi a right_off right_off same a ∙ e))
     by On e = absurd (a.lies.sided e)
-    by Right e =
-        let left = is_false (number_at N i Left == n)
-        (λ t. left_is_not_right (even_side B N n z i m Left k of_z hi a left_off left_off (tells _ n t) a ∙ e)) in
-        ap (λ (x : ℕ). n == x) (a.is ∙ ap (number_at N i) e) ∙ turned_test (number_at N i Right) n
-        ∙ sym (alone_right (number_at N i Left == n) (number_at N i Right == n) left)
+    by Right e = alone_on_right N i n m (a.is ∙ ap (number_at N i) e)
+        (λ same. left_is_not_right (even_side B N n z i m Left k of_z hi a left_off left_off same a ∙ e))
 
 pub those_alone : (n : ℕ) (K : List ℕ) (B : List GridSegment) (N : List SideClasses) → length K ≡ length B → length N ≡ length B
     → ((i : ℕ) → i < length B → (n == slice_index K i) ≡ is_alone n (numbers_at N i)) → those n K B ≡ class_rim n B N

@@ -1,11 +1,12 @@
 //! Segments in parts, one for each number that they have.
-ghost use Rattle.std.specs.Prelude.{◌≡◌, ℕ, ◌<◌, [], All, Contains, IfOk, length, slice_index};
+ghost use Rattle.std.specs.Prelude.{◌≡◌, ℕ, ◌<◌, Contains, IfOk, length, slice_index};
 ghost use Rattle.std.specs.List.Sorted.{IsStrictlyIncreasing};
 ghost use Rattle.r_blocks.specs.Places.{those, AllIndexed};
 ghost use Rattle.r_faces.specs.Parted.{AreKeys, ArePlacesIn};
 
 use crate::number::distinct;
 use grid_base::{NoMemory, Segment};
+use r_blocks::gather;
 use std::alloc::Global;
 
 // The numbers that segments have, ascending, and for each the segments that have it, in their order.
@@ -52,36 +53,4 @@ fn place_in(keys: &[u64], number: u64) -> usize
     match keys.binary_search(&number) {
         Ok(i) | Err(i) => i,
     }
-}
-
-// The segments of each place, in their order.
-fn gather(
-    alloc: Global,
-    list: &[Segment],
-    places: &[usize],
-    count: usize,
-) -> Result<Vec<Vec<Segment>>, NoMemory>
-    requires one_each { length places.now ≡ length list.now }
-    requires below { All (λ p. p < count) places.now }
-    ensures length { IfOk result (λ v. length v.items ≡ count) }
-    ensures parts { IfOk result
-        (λ v. AllIndexed (λ p part. part.items ≡ those p places.now list.now) v.items) }
-{
-    let mut parts = none_yet(alloc, count)?;
-    for k in 0..list.len() {
-        parts[places[k]].push(list[k])?;
-    }
-    Ok(parts)
-}
-
-// As many empty parts.
-fn none_yet(alloc: Global, count: usize) -> Result<Vec<Vec<Segment>>, NoMemory>
-    ensures length { IfOk result (λ v. length v.items ≡ count) }
-    ensures empty { IfOk result (λ v. All (λ part. part.items ≡ []) v.items) }
-{
-    let mut parts = Vec::new(alloc);
-    for _ in 0..count {
-        parts.push(Vec::new(alloc))?;
-    }
-    Ok(parts)
 }
