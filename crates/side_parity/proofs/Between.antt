@@ -9,6 +9,7 @@ use Rattle.side_parity.proofs.Numbers.{leftward, leftward_of_way, line_by, right
 use Rattle.side_parity.proofs.Regions.{mean}
 use Rattle.side_parity.proofs.Ways.{IsApart, down_from, down_to, gap_of, ltb_same, mean_down, mean_up, up_from, up_to}
 
+-- the mean of q and p at which the way meets the line of t lies in the rows of t, from under t to over it
 rows_down : (t : GridSegment) (q p : RationalPoint) (m n : ℕ) → rightward t p + m ≡ leftward t p
     → leftward t q + n ≡ rightward t q
     → rightward_of_way q p t.a ≤ leftward_of_way q p t.a → leftward_of_way q p t.b ≤ rightward_of_way q p t.b
@@ -35,31 +36,14 @@ rows_down t q p m n e f a b =
           (omega (arith, low), omega (arith, high)))
     ]
 
+-- from over t to under it: the way goes down past t as it is seen from its greater end
 rows_up : (t : GridSegment) (q p : RationalPoint) (m n : ℕ) → leftward t p + m ≡ rightward t p
     → rightward t q + n ≡ leftward t q
     → leftward_of_way q p t.a ≤ rightward_of_way q p t.a → rightward_of_way q p t.b ≤ leftward_of_way q p t.b
     → IsFromTo (t.a.y * (m * q.w + n * p.w)) (t.b.y * (m * q.w + n * p.w)) (m * q.y + n * p.y)
 rows_up t q p m n e f a b =
-    let e1 = ap (λ (k : ℕ). k * q.y) e in
-    let e2 = ap (λ (k : ℕ). k * (t.a.y * q.w)) e in
-    let e3 = ap (λ (k : ℕ). k * (t.b.y * q.w)) e in
-    let f1 = ap (λ (k : ℕ). k * p.y) f in
-    let f2 = ap (λ (k : ℕ). k * (t.a.y * p.w)) f in
-    let f3 = ap (λ (k : ℕ). k * (t.b.y * p.w)) f in
-    elim (in_order t.a.y t.b.y) [
-      | inl h ↦
-          (let p1 = times_le (leftward_of_way q p t.a) (rightward_of_way q p t.a) t.a.y t.b.y a h in
-          let p2 = times_le (rightward_of_way q p t.b) (leftward_of_way q p t.b) t.a.y t.b.y b h in
-          let low : t.a.y * (m * q.w + n * p.w) ≤ m * q.y + n * p.y = omega arith in
-          let high : m * q.y + n * p.y ≤ t.b.y * (m * q.w + n * p.w) = omega arith in
-          (omega (arith, low), omega (arith, high)))
-      | inr h ↦
-          (let p1 = times_le (leftward_of_way q p t.a) (rightward_of_way q p t.a) t.b.y t.a.y a h in
-          let p2 = times_le (rightward_of_way q p t.b) (leftward_of_way q p t.b) t.b.y t.a.y b h in
-          let high : m * q.y + n * p.y ≤ t.a.y * (m * q.w + n * p.w) = omega arith in
-          let low : t.b.y * (m * q.w + n * p.w) ≤ m * q.y + n * p.y = omega arith in
-          (omega (arith, low), omega (arith, high)))
-    ]
+    let back = rows_down (record { a = t.b; b = t.a }) q p m n (omega arith) (omega arith) b a in
+    (omega (arith, back.0), omega (arith, back.1))
 
 -- the four numbers weighed: P q.w - Q p.w is A - B
 weighed : (t : GridSegment) (q p : RationalPoint)

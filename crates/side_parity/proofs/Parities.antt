@@ -1,5 +1,5 @@
 -- This file shows how odd numbers of things add up, and how a parity and a count tell one another.
-use Rattle.std.proofs.Common.{◌≡◌, ℕ, suc, ◌+◌, ◌*◌, Bool, true, false, cond, List, [], ◌∷◌, ◌++◌, get_or, take}
+use Rattle.std.proofs.Common.{◌≡◌, ℕ, ◌+◌, Bool, true, false, cond, List, [], ◌∷◌, ◌++◌, get_or, take}
 use Rattle.std.proofs.Common.{refl, sym, ap, ◌∙◌, arith}
 use Rattle.std.specs.Prelude.{◌%◌, count_by}
 use Rattle.std.proofs.lemmas.List.Sums.{sum_by-cons}
@@ -78,45 +78,35 @@ odd_count-more f l i d e =
     ∙ differ-comm (odd_count f (take i l)) (f (get_or l i d))
 
 -- ---- counts and parities
-one_more : (b c : Bool) (n k : ℕ) → n ≡ 2 * k + cond c 1 0
-    → (j : ℕ) × (cond b 1 0 + n ≡ 2 * j + cond (differ b c) 1 0)
-one_more true true n k h = (suc k, omega arith)
-one_more true false n k h = (k, omega arith)
-one_more false true n k h = (k, omega arith)
-one_more false false n k h = (k, omega arith)
+-- one thing more turns the parity where it is counted
+parity_more : (b c : Bool) (n : ℕ) → n % 2 ≡ cond c 1 0 → (cond b 1 0 + n) % 2 ≡ cond (differ b c) 1 0
+parity_more true true n h = omega arith
+parity_more true false n h = omega arith
+parity_more false true n h = omega arith
+parity_more false false n h = omega arith
 
-halves : {X : Type 0} (f : X → Bool) (xs : List X)
-    → (k : ℕ) × (count_by f xs ≡ 2 * k + cond (odd_count f xs) 1 0)
-halves f [] = (0, omega arith)
-halves f (x ∷ xs) =
-    let h = halves f xs in
-    let m = one_more (f x) (odd_count f xs) (count_by f xs) h.0 h.1 in
-    (m.0, sum_by-cons (λ y. cond (f y) 1 0) x xs ∙ m.1)
+parity_is : {X : Type 0} (f : X → Bool) (xs : List X) → count_by f xs % 2 ≡ cond (odd_count f xs) 1 0
+parity_is f [] = omega arith
+parity_is f (x ∷ xs) =
+    ap (λ (n : ℕ). n % 2) (sum_by-cons (λ y. cond (f y) 1 0) x xs)
+    ∙ parity_more (f x) (odd_count f xs) (count_by f xs) (parity_is f xs)
 
-odd_of : (b : Bool) (n k : ℕ) → n ≡ 2 * k + cond b 1 0 → n % 2 ≡ 1 → b ≡ true
-odd_of true n k h e = refl
-odd_of false n k h e = absurd (omega arith)
+true_at_one : (b : Bool) (n : ℕ) → n ≡ cond b 1 0 → n ≡ 1 → b ≡ true
+true_at_one true n e one = refl
+true_at_one false n e one = absurd (omega arith)
 
-of_odd : (b : Bool) (n k : ℕ) → n ≡ 2 * k + cond b 1 0 → b ≡ true → n % 2 ≡ 1
-of_odd true n k h e = omega arith
-of_odd false n k h e = cc
-
-even_of : (b : Bool) (n k : ℕ) → n ≡ 2 * k + cond b 1 0 → n % 2 ≡ 0 → b ≡ false
-even_of true n k h e = absurd (omega arith)
-even_of false n k h e = refl
-
-of_even : (b : Bool) (n k : ℕ) → n ≡ 2 * k + cond b 1 0 → b ≡ false → n % 2 ≡ 0
-of_even true n k h e = cc
-of_even false n k h e = omega arith
+false_at_zero : (b : Bool) (n : ℕ) → n ≡ cond b 1 0 → n ≡ 0 → b ≡ false
+false_at_zero true n e none = absurd (omega arith)
+false_at_zero false n e none = refl
 
 pub odd_by_count : {X : Type 0} (f : X → Bool) (xs : List X) → count_by f xs % 2 ≡ 1 → odd_count f xs ≡ true
-odd_by_count f xs h = let e = halves f xs in odd_of _ _ e.0 e.1 h
+odd_by_count f xs h = true_at_one _ _ (parity_is f xs) h
 
 pub count_by_odd : {X : Type 0} (f : X → Bool) (xs : List X) → odd_count f xs ≡ true → count_by f xs % 2 ≡ 1
-count_by_odd f xs h = let e = halves f xs in of_odd _ _ e.0 e.1 h
+count_by_odd f xs h = parity_is f xs ∙ ap (λ b. cond b 1 0) h
 
 pub even_by_count : {X : Type 0} (f : X → Bool) (xs : List X) → count_by f xs % 2 ≡ 0 → odd_count f xs ≡ false
-even_by_count f xs h = let e = halves f xs in even_of _ _ e.0 e.1 h
+even_by_count f xs h = false_at_zero _ _ (parity_is f xs) h
 
 pub count_by_even : {X : Type 0} (f : X → Bool) (xs : List X) → odd_count f xs ≡ false → count_by f xs % 2 ≡ 0
-count_by_even f xs h = let e = halves f xs in of_even _ _ e.0 e.1 h
+count_by_even f xs h = parity_is f xs ∙ ap (λ b. cond b 1 0) h
