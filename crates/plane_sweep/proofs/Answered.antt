@@ -2,13 +2,12 @@
 use Rattle.std.proofs.Common.{◌≡◌, ◌↔◌, ℕ, ◌+◌, ◌-◌, ◌<◌, ◌≤◌, Bool, true, false, cond, List, ◌∷◌, All, IsPermutation}
 use Rattle.std.proofs.Common.{IsTrue, length, get_or, sym, ap, subst, arith, inl, inr, ◌∙◌}
 use Rattle.std.specs.Prelude.{◌%◌, count_by}
-use Rattle.std.specs.List.{AllByRecursion}
 use Rattle.std.proofs.lemmas.Bool.{cases_Bool, cases_lt, true≢false}
 use Rattle.std.proofs.lemmas.List.Elements.{All-contains, Contains-get_or}
 use Rattle.std.proofs.lemmas.List.Sorted.{sum_by-IsPermutation}
 use Rattle.grid_base.specs.Point.{GridPoint, IsBefore}
 use Rattle.grid_base.specs.Segment.{GridSegment}
-use Rattle.grid_base.specs.Border.{AreNoded, IsEvenBorder}
+use Rattle.grid_base.specs.Border.{AreNoded}
 use Rattle.grid_base.specs.Plane.{as_place}
 use Rattle.grid_base.specs.Odd.{is_strictly_above, AreSides, Odd}
 use Rattle.grid_base.specs.SideOf.{as_rational}
@@ -22,7 +21,7 @@ use Rattle.side_parity.proofs.Parities.{count_by_odd, odd_by_count}
 use Rattle.side_parity.proofs.Pictures.{meet_noded}
 use Rattle.side_parity.proofs.Regions.{is_odd, odd_count}
 use Rattle.side_parity.proofs.SidesBy.{same_inside}
-use Rattle.plane_sweep.specs.Status.{AreUpward, HoldsAfter, IsPassed, IsRank}
+use Rattle.plane_sweep.specs.Status.{AreUpward, HoldsAfter, IsBorderOf, IsPassed, IsRank}
 use Rattle.plane_sweep.specs.Events.{is_one}
 use Rattle.plane_sweep.proofs.Counts.{count-same, last_counted}
 use Rattle.plane_sweep.proofs.Halves.{half_place, strict_half}
@@ -69,6 +68,10 @@ odd_above p status k n odd within before after e told =
     let last = last_counted (λ t. is_strictly_above t (as_place (as_rational p))) status k within before after in
     subst (λ (m : ℕ). IsTrue odd ↔ (m % 2 ≡ 1)) (omega (arith, e, last)) told
 
+-- the answer tells whether the point is odd for the border
+abbrev pub TellsOdd : List GridSegment → GridPoint → Bool → Type 0
+TellsOdd border p a = IsTrue a ↔ Odd border (as_place (as_rational p))
+
 -- what is strictly above the point holds the column right of it, and so is passed
 point_holds : (p : GridPoint) (t : GridSegment) → is_strictly_above t (as_place (as_rational p)) ≡ true → HoldsAfter p.x t
 point_holds p t h =
@@ -85,13 +88,10 @@ point_told B status p odd passed told =
 
 -- ---- the answers
 -- what is known of a status and of the border that it is of
-pub record AreKnown (B status : List GridSegment) (s : GridSegment) : Type 0 where
-  pub status_noded : AreNoded (s ∷ status)
+pub record AreKnown (B copied status : List GridSegment) (s : GridSegment) : Type 0 where
+  pub noded : AreNoded (s ∷ status)
   pub column : All (HoldsAfter s.a.x) status
-  pub passed : IsPassed s.a.x B status
-  pub noded : AreNoded (s ∷ B)
-  pub even : IsEvenBorder B
-  pub ordered : AllByRecursion (λ t. IsBefore t.a t.b) B
+  pub border : IsBorderOf B copied status s
   pub first : IsBefore s.a s.b
 
 own_told : (B copied : List GridSegment) (s : GridSegment) (own : Bool) (n : ℕ) → IsPermutation B copied
@@ -99,10 +99,10 @@ own_told : (B copied : List GridSegment) (s : GridSegment) (own : Bool) (n : ℕ
 own_told B copied s own n moved told e =
     parity_told own (is_segment s) B n told (e ∙ sum_by-IsPermutation (λ t. cond (is_one s t) 1 0) B copied moved)
 
-slanted_odd : (B status : List GridSegment) (s : GridSegment) (k n : ℕ) (odd : Bool) → AreKnown B status s
+slanted_odd : (B copied status : List GridSegment) (s : GridSegment) (k n : ℕ) (odd : Bool) → AreKnown B copied status s
     → s.a.x < s.b.x → IsRank status s k → n ≡ length status - k → IsTrue odd ↔ (n % 2 ≡ 1)
     → odd ≡ is_odd B (as_place (middle s))
-slanted_odd B status s k n odd known wide rank e told =
+slanted_odd B copied status s k n odd known wide rank e told =
     let x = s.a.x in
     let held : HoldsAfter x s = record { from = omega arith; to = wide } in
     let f : GridSegment → Bool = λ t. is_strictly_above t (as_place (half_place s x)) in
@@ -111,53 +111,58 @@ slanted_odd B status s k n odd known wide rank e told =
     others_count_not x (get_or status i d) s (known.column i d r) held (rank.before i d l))
     (λ i d l r. above_counts (s ∷ status) x (get_or status i d) s
     (record {
-      realm = meet_noded (s ∷ status) known.status_noded;
+      realm = meet_noded (s ∷ status) known.noded;
       first = Contains-later s status (get_or status i d) (Contains-get_or status i d r);
       second = Contains-here s status;
       holds_first = known.column i d r;
       holds_second = held;
     }) (rank.after i d l r)) in
-    let whole = known.passed f (λ t h. counted_holds x t s held h) in
+    let whole = known.border.passed f (λ t h. counted_holds x t s held h) in
     parity_told odd f B n told (omega (arith, e, last, whole))
     ∙ same_inside B s (middle s) (half_place s x)
-    (record { realm = meet_noded (s ∷ B) known.noded; ordered = known.ordered; first = known.first; even = known.even })
+    (record {
+      realm = meet_noded (s ∷ B) known.border.noded;
+      ordered = known.border.ordered;
+      first = known.first;
+      even = known.border.even;
+    })
     (middle_strict s known.first) (strict_half s x held)
 
 pub slanted_told : (B status copied : List GridSegment) (s : GridSegment) (k n m : ℕ) (odd own other : Bool)
-    → AreKnown B status s → s.a.x < s.b.x → IsPermutation B copied → IsRank status s k → n ≡ length status - k
+    → AreKnown B copied status s → s.a.x < s.b.x → IsRank status s k → n ≡ length status - k
     → IsTrue odd ↔ (n % 2 ≡ 1) → m ≡ count_by (is_one s) copied → IsTrue own ↔ (m % 2 ≡ 1) → other ≡ differ odd own
     → AreSides B s (record { left = odd; right = other })
-slanted_told B status copied s k n m odd own other known wide moved rank e told f own_odd r =
-    slanted_answer B s odd own other known.noded known.even known.first
+slanted_told B status copied s k n m odd own other known wide rank e told f own_odd r =
+    slanted_answer B s odd own other known.border.noded known.border.even known.first
     (record {
-      odd_number = slanted_odd B status s k n odd known wide rank e told;
-      own_number = own_told B copied s own m moved own_odd f;
-      ordered = known.ordered;
+      odd_number = slanted_odd B copied status s k n odd known wide rank e told;
+      own_number = own_told B copied s own m known.border.same own_odd f;
+      ordered = known.border.ordered;
     }) r wide
 
 rising : (s : GridSegment) → IsBefore s.a s.b → s.b.x ≤ s.a.x → (s.b.x ≡ s.a.x) × (s.a.y < s.b.y)
 rising s (inl h) narrow = absurd (omega (arith, h, narrow))
 rising s (inr h) narrow = (sym h.0, h.1)
 
-upright_odd : (B status : List GridSegment) (s : GridSegment) (odd : Bool) → AreKnown B status s → s.b.x ≤ s.a.x
+upright_odd : (B copied status : List GridSegment) (s : GridSegment) (odd : Bool) → AreKnown B copied status s → s.b.x ≤ s.a.x
     → IsTrue odd ↔ Odd status (as_place (as_rational s.a)) → odd ≡ is_odd B (as_place (middle s))
-upright_odd B status s odd known narrow told =
+upright_odd B copied status s odd known narrow told =
     let up = rising s known.first narrow in
     let at_end : GridSegment → Bool = λ t. is_strictly_above t (as_place (as_rational s.a)) in
     let at_middle : GridSegment → Bool = λ t. is_strictly_above t (as_place (middle s)) in
-    let same = count-same at_end at_middle status (λ t c. same_at_middle (s ∷ status) t s (meet_noded (s ∷ status) known.status_noded)
+    let same = count-same at_end at_middle status (λ t c. same_at_middle (s ∷ status) t s (meet_noded (s ∷ status) known.noded)
     (Contains-later s status t c) (Contains-here s status) (All-contains (HoldsAfter s.a.x) status t known.column c) up.0 up.1) in
-    let whole = known.passed at_middle (λ t h. middle_holds t s up.0 h) in
+    let whole = known.border.passed at_middle (λ t h. middle_holds t s up.0 h) in
     parity_told odd at_middle B (count_by at_end status) told (same ∙ whole)
 
 pub upright_told : (B status copied : List GridSegment) (s : GridSegment) (m : ℕ) (odd own other : Bool)
-    → AreKnown B status s → s.b.x ≤ s.a.x → IsPermutation B copied
+    → AreKnown B copied status s → s.b.x ≤ s.a.x
     → IsTrue odd ↔ Odd status (as_place (as_rational s.a)) → m ≡ count_by (is_one s) copied → IsTrue own ↔ (m % 2 ≡ 1)
     → other ≡ differ odd own → AreSides B s (record { left = other; right = odd })
-upright_told B status copied s m odd own other known narrow moved told f own_odd r =
-    upright_answer B s odd own other known.noded known.even known.first
+upright_told B status copied s m odd own other known narrow told f own_odd r =
+    upright_answer B s odd own other known.border.noded known.border.even known.first
     (record {
-      odd_number = upright_odd B status s odd known narrow told;
-      own_number = own_told B copied s own m moved own_odd f;
-      ordered = known.ordered;
+      odd_number = upright_odd B copied status s odd known narrow told;
+      own_number = own_told B copied s own m known.border.same own_odd f;
+      ordered = known.border.ordered;
     }) r narrow

@@ -1,16 +1,13 @@
 //! The sweep. A side of a segment is the parity of the segments of the border above one place of it.
-ghost use Rattle.std.specs.Prelude.{◌≡◌, ◌↔◌, ℕ, ◌+◌, ◌*◌, ◌^◌, ◌<◌, ◌≤◌, ◌++◌, ◌∷◌, List, All};
-ghost use Rattle.std.specs.Prelude.{IfOk, IsPermutation, length};
-ghost use Rattle.std.specs.List.{AllByRecursion};
+ghost use Rattle.std.specs.Prelude.{◌≡◌, ℕ, ◌+◌, ◌^◌, ◌<◌, ◌≤◌, ◌++◌, ◌∷◌, List, All};
+ghost use Rattle.std.specs.Prelude.{IfOk, length};
 ghost use Rattle.std.specs.List.Sorted.{IsSorted};
-ghost use Rattle.grid_base.specs.Point.{IsBefore};
 ghost use Rattle.grid_base.specs.Segment.{GridSegment, segment_cmp};
 ghost use Rattle.grid_base.specs.Border.{AreNoded, IsEvenBorder};
 ghost use Rattle.grid_base.specs.Odd.{AreSides};
-ghost use Rattle.plane_sweep.specs.Status.{HoldsAfter, AreUpward, IsPassed};
+ghost use Rattle.plane_sweep.specs.Status.{HoldsAfter, AreUpward, IsBorderOf};
 ghost use Rattle.side_parity.specs.Middle.{differ};
-ghost use Rattle.plane_sweep.specs.Digits.{HasBinaryDigits};
-ghost use Rattle.plane_sweep.specs.Told.{AreAllSides};
+ghost use Rattle.plane_sweep.specs.Told.{AreAllSides, IsSweepOf};
 
 use crate::copies::{copies, sorted};
 use crate::events::{Turn, all_events};
@@ -32,9 +29,7 @@ pub fn all_sides<L: Ledger>(
 ) -> Result<Vec<Sides>, NoMemory>
     requires noded { AreNoded (border.now ++ list.now) }
     requires even { IsEvenBorder border.now }
-    ensures sides { IfOk result (λ v. AreAllSides border.now list.now v.items) }
-    ensures steps { (k : ℕ) → HasBinaryDigits (length border.now + 1) k
-        → steps.new ≤ steps.old + (2 * length border.now + 2 * length list.now) * k }
+    ensures swept { IsSweepOf border.now list.now steps.old steps.new result }
 {
     all_sides_by(alloc, &Plain, border, list, steps)
 }
@@ -78,9 +73,7 @@ pub fn all_sides_by<O: Order, L: Ledger>(
 ) -> Result<Vec<Sides>, NoMemory>
     requires noded { AreNoded (border.now ++ list.now) }
     requires even { IsEvenBorder border.now }
-    ensures sides { IfOk result (λ v. AreAllSides border.now list.now v.items) }
-    ensures steps { (k : ℕ) → HasBinaryDigits (length border.now + 1) k
-        → steps.new ≤ steps.old + (2 * length border.now + 2 * length list.now) * k }
+    ensures swept { IsSweepOf border.now list.now steps.old steps.new result }
 {
     let events = all_events(alloc, border, list)?;
     let copied = sorted(alloc, border)?;
@@ -120,9 +113,8 @@ fn answer<O: Order, L: Ledger>(
     requires column { All (HoldsAfter s.now.a.x) status.now }
     requires upward { AreUpward status.now }
     requires sorted { IsSorted segment_cmp copied.now }
-    ensures sides { (border : List GridSegment) → IsPermutation border copied.now
-        → IsPassed s.now.a.x border status.now → AreNoded (s.now ∷ border) → IsEvenBorder border
-        → AllByRecursion (λ t. IsBefore t.a t.b) border → AreSides border s.now result }
+    ensures sides { (border : List GridSegment) → IsBorderOf border copied.now status.now s.now
+        → AreSides border s.now result }
     ensures steps { (k : ℕ) → length status.now < 2 ^ k → steps.new ≤ steps.old + k }
 {
     let own = is_odd(copies(copied, s));
