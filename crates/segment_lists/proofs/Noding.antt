@@ -2,6 +2,7 @@
 use Rattle.std.proofs.Common.{List, All, Contains, refl, subst, inl, inr}
 use Rattle.std.specs.List.{Any}
 use Rattle.std.proofs.lemmas.List.Elements.{All-contains, All-contains_itself, All-weaker}
+use Rattle.grid_base.specs.Point.{GridPoint}
 use Rattle.grid_base.specs.Segment.{GridSegment, IsEnd}
 use Rattle.grid_base.specs.Crossing.{Inside}
 use Rattle.grid_base.specs.Realm.{Violation, PointInside, TwoCross}
@@ -51,3 +52,15 @@ settled list s t noded s_there t_there (inr (inr inside)) =
 pub left_in_realm : (list : List GridSegment) → AreNoded list → All (IsLeft list) list
 left_in_realm list noded =
     each_of (IsLeft list) list (λ s s_there. each_of (λ t. ¬ Disturbs s t) list (λ t t_there. settled list s t noded s_there t_there))
+
+-- ---- fewer segments
+in_more : (list more : List GridSegment) (p : GridPoint) → ((s : GridSegment) → Contains list s → Contains more s) → Any (IsEnd p) list
+    → Any (IsEnd p) more
+in_more list more p part (k, t, within, at, e) = let m = part t (k, within, at) in (m.0, t, m.1, m.2, e)
+
+pub noded_part : (list more : List GridSegment) → ((s : GridSegment) → Contains list s → Contains more s) → AreNoded more → AreNoded list
+noded_part list more part noded = record {
+  ends_are_points = λ s c. ends_there list s c;
+  no_point_inside = λ p s on c inside. noded.no_point_inside p s (in_more list more p part on) (part s c) inside;
+  only_ends_in_common = λ s t q cs ct. noded.only_ends_in_common s t q (part s cs) (part t ct);
+}

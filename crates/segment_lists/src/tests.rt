@@ -1,21 +1,11 @@
 //! Worked cases, drawn on squared paper.
-use crate::are_noded;
-use grid_base::{Point, Segment};
+use crate::{are_noded, ascending_segments, segments_with};
 use std::alloc::Global;
 use std::test::Fail;
 
-fn segment(ends: &[u64; 4]) -> Result<Segment, Fail> {
-    let [x, y, u, v] = *ends;
-    let found = Segment::new(Point::new(x, y)?, Point::new(u, v)?);
-    Ok(found.ok_or("equal ends")?)
-}
-
 // Whether the segments with these ends are those of a realm.
 fn noded(alloc: Global, table: &[[u64; 4]]) -> Result<bool, Fail> {
-    let mut list = Vec::new(alloc);
-    for ends in table {
-        list.push(segment(ends)?)?;
-    }
+    let list = segments_with(alloc, table)?.ok_or("no segment")?;
     Ok(are_noded(&list))
 }
 
@@ -43,5 +33,21 @@ fn segments_of_a_realm_meet_in_ends_alone(rt: HostRuntime) -> Result<(), Fail> {
         assert_eq!(rt; noded(rt.alloc(), &table)?, expected, "at {table:?}");
     }
     assert!(rt; noded(rt.alloc(), &[])?);
+    Ok(())
+}
+
+#[test]
+fn four_numbers_are_two_ends(rt: HostRuntime) -> Result<(), Fail> {
+    let table = [[4, 1, 0, 0], [0, 0, 2, 5], [0, 0, 4, 1]];
+    let list = segments_with(rt.alloc(), &table)?.ok_or("no segment")?;
+    let list = ascending_segments(list);
+    let expected = [[0, 0, 2, 5], [0, 0, 4, 1]];
+    let same = list.iter().zip(&expected).all(|(s, e)| [s.a().x(), s.a().y(), s.b().x(), s.b().y()]
+        == *e);
+    assert!(rt; same && list.len() == 2);
+    for no_ends in [[3, 3, 3, 3], [0, 0, 268_435_456, 1]] {
+        let found = segments_with(rt.alloc(), &[[0, 0, 1, 1], no_ends])?;
+        assert!(rt; found.is_none(), "at {no_ends:?}");
+    }
     Ok(())
 }
