@@ -1,12 +1,12 @@
 //! What the program does in a world, and the number that it ends with.
 ghost use Rattle.std.specs.Prelude.{◌≡◌, ◌⊎◌, IfOk, IsErrOf, map, string_bytes};
 ghost use Rattle.std.specs.Process.{exit_status};
-ghost use Rattle.outside_world.specs.Counts.{Rose};
 ghost use Rattle.outside_world.specs.GoesOn.{GoesOn};
 ghost use Rattle.realm_store.specs.Damages.{IsDamaged};
 ghost use Rattle.realm_pages.specs.declared.damage.Damage.{Damage};
 ghost use Rattle.command_words.specs.Written.{IsWritten, IsNoCommand};
 ghost use Rattle.command_words.specs.declared.word.Word.{Word};
+ghost use Rattle.rose_shell.specs.Faults.{HasCause};
 ghost use Rattle.rose_shell.specs.Telling.{HasDone};
 ghost use Rattle.rose_shell.specs.Status.{number_of};
 
@@ -24,8 +24,10 @@ pub fn perform<R: Threads + Sync, W: Outside>(
     words: Result<Vec<String>, WordsError>,
     world: &mut W,
 ) -> Status
-    ensures not_text { IsErrOf words WordsError.NotText → result ≡ Status.Usage }
-    ensures no_memory { IsErrOf words WordsError.NoMemory → result ≡ Status.NoMemory }
+    ensures not_text { IsErrOf words WordsError.NotText
+        → (result ≡ Status.Usage) × (world.new ≡ world.old) }
+    ensures no_memory { IsErrOf words WordsError.NoMemory
+        → (result ≡ Status.NoMemory) × (world.new ≡ world.old) }
     ensures usage { IfOk words
         (λ known. result ≡ Status.Usage → IsNoCommand (map string_bytes known.items)) }
     ensures no_command { IfOk words (λ known. IsNoCommand (map string_bytes known.items)
@@ -34,12 +36,7 @@ pub fn perform<R: Threads + Sync, W: Outside>(
         (λ known. IsNoCommand (map string_bytes known.items) → world.new ≡ world.old) }
     ensures told { IfOk words (λ known. (command : Word) → IsWritten (map string_bytes known.items) command
         → W.tells world.new → HasDone command (W.view world.old) (W.view world.new) result) }
-    ensures source_fault { result ≡ Status.SourceFault
-        → Rose (W.source_faults world.old) (W.source_faults world.new) }
-    ensures sink_fault { result ≡ Status.SinkFault
-        → Rose (W.sink_faults world.old) (W.sink_faults world.new) }
-    ensures disk_fault { result ≡ Status.DiskFault
-        → Rose (W.disk_faults world.old) (W.disk_faults world.new) }
+    ensures faults { HasCause ⟦<W as Outside>⟧ world.old world.new result }
     ensures damaged { (d : Damage) → result ≡ Status.Damaged d → W.tells world.new
         → IsDamaged d (W.view world.old).reads }
     ensures goes_on { GoesOn ⟦<W as Outside>⟧ world.old world.new }

@@ -1,6 +1,10 @@
 //! The program `rose`: hands its words and the real world to the shell, and says how it ended.
 #![tactic(auto)]
 
+ghost use Rattle.std.specs.Prelude.{◌≡◌};
+ghost use Rattle.std.specs.Process.{exit_status};
+ghost use Rattle.rose_shell.specs.Status.{number_of};
+
 use process_run::{exit_of, perform, say};
 use process_world::{FileWorld, words_of};
 use rose_shell::Status;
@@ -15,6 +19,13 @@ fn main(rt: HostRuntime) -> ExitCode {
         }
         Err(_) => Status::NoMemory,
     };
-    say(&rt, status);
+    end_with(&rt, status)
+}
+
+// Says why the program doesn't end well, and ends it with the number of the status.
+fn end_with<R: Eprint>(rt: &R, status: Status) -> ExitCode
+    ensures number { exit_status result ≡ number_of status }
+{
+    say(rt, status);
     exit_of(status)
 }

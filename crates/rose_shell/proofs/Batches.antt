@@ -20,9 +20,9 @@ use Rattle.rose_shell.specs.Batches.{IsInRange, Opens, OpensNone, AreHeld, heard
 use Rattle.rose_shell.specs.Giving.{GaveSome}
 use Rattle.rose_shell.specs.Desk.{Terms, AllRest}
 use Rattle.rose_shell.specs.Session.{Turn, IsBatch, IsFull}
-use Rattle.rose_shell.specs.Loop.{IsWaiting, Went, Stopped, ToldBatch, IsUntold}
+use Rattle.rose_shell.specs.Loop.{IsWaiting, Went, WentAll, Stopped, ToldBatch, IsUntold}
 use Rattle.rose_shell.proofs.Keeps.{kept_is_line, kept_is_long, last_line-empty, last_line-some}
-use Rattle.rose_shell.proofs.Runs.{went_none, went_then, stopped_none, stopped_then, stopped_behind}
+use Rattle.rose_shell.proofs.Runs.{stopped_none}
 use Rattle.rose_shell.proofs.OneTurn.{went_one, stopped_one}
 use Rattle.rose_shell.proofs.Treatments.{is_short, is_long, gave_reply, untouched}
 
@@ -113,6 +113,11 @@ joined_wider P Q wider [] reply joined = joined
 joined_wider P Q wider (x ∷ xs) reply (first, rest, told, split, more) =
     (first, rest, wider x first told, split, joined_wider P Q wider xs rest more)
 
+-- nothing was kept of a last line, so there is none
+no_last : {kept : List ℕ} (held : List (List ℕ)) (line : List ℕ) → length kept ≡ 0 → IsKept kept line → held ++ last_line line ≡ held
+no_last held line none is =
+    ap (λ (ls : List (List ℕ)). held ++ ls) (last_line-empty longest_line line none is) ∙ append-nil held
+
 module _ {S : Type 0} {terms : Terms S} where
   -- the turn of a batch
   batch_turn : {old new : View} {s : S} {lines : List (Option (List ℕ))} {unsent : List ℕ} → List ℕ → List (List ℕ)
@@ -178,12 +183,15 @@ module _ {S : Type 0} {terms : Terms S} where
         rest told
 
   -- at the end of the input it is answered as it is
-  went_held : {old new : View} {s : S} {none_left : Type 0} (before : Waiting) {after : Waiting} (held : List (List ℕ))
+  pub went_held : {old new : View} {s : S} {none_left : Type 0} (before after : Waiting) (held : List (List ℕ))
       → none_left → IsWaiting before held → before.missing ≢ 0 → AllRest terms old s → IsWaiting after []
-      → ToldBatch terms old new s before.lines.items [] → Went terms none_left old new s s held after
-  went_held before [] end is some rest waits told = absurd (some is.0)
-  went_held before (first ∷ batch) end is some rest waits told =
-      went_batch first batch (before.missing + length batch) is.1 (omega arith) (inr end) is.2 rest waits told
+      → ToldBatch terms old new s before.lines.items [] → WentAll terms none_left old new s s held
+  went_held before after [] end is some rest waits told = absurd (some is.0)
+  went_held before after (first ∷ batch) end is some rest waits told = record {
+    waiting = after;
+    none_missing = waits.0;
+    went = went_batch first batch (before.missing + length batch) is.1 (omega arith) (inr end) is.2 rest waits told;
+  }
 
   stopped_held : {old new : View} {s : S} {unsent : List ℕ} {none_left : Type 0} (before : Waiting) (held : List (List ℕ))
       → none_left → IsWaiting before held → before.missing ≢ 0 → AllRest terms old s
@@ -192,33 +200,15 @@ module _ {S : Type 0} {terms : Terms S} where
   stopped_held before (first ∷ batch) end is some rest told =
       stopped_batch first batch (before.missing + length batch) is.1 (omega arith) (inr end) is.2 rest told
 
-  pub went_rest : {old mid new : View} {start end : S} {lines : List (List ℕ)} {before after : Waiting} {none_left : Type 0}
-      → none_left → Went terms ⊥ old mid start end lines before → before.missing ≢ 0 → IsWaiting after []
-      → ToldBatch terms mid new end before.lines.items [] → Went terms none_left old new start end lines after
-  went_rest {old} {mid} {new} {start} {end} {lines} {before} {after} {none_left} over went some waits told =
-      subst (λ (ls : List (List ℕ)). Went terms none_left old new start end ls after) (append-nil lines)
-      (went_then [] went
-      (subst (λ (ls : List (List ℕ)). Went terms none_left mid new end end ls after) (sym (append-nil went.held))
-      (went_held before went.held over went.waits some went.rest waits told)))
-
-  stopped_rest : {old mid new : View} {start end : S} {lines : List (List ℕ)} {before : Waiting} {unsent : List ℕ} {none_left : Type 0}
-      → none_left → Went terms ⊥ old mid start end lines before → before.missing ≢ 0
-      → ToldBatch terms mid new end before.lines.items unsent → Stopped terms none_left old new start end lines halts.Sink
-  stopped_rest {old} {mid} {new} {start} {end} {lines} {before} {none_left = none_left} over went some told =
-      subst (λ (ls : List (List ℕ)). Stopped terms none_left old new start end ls halts.Sink) (append-nil lines)
-      (stopped_then [] went
-      (subst (λ (ls : List (List ℕ)). Stopped terms none_left mid new end end ls halts.Sink) (sym (append-nil went.held))
-      (stopped_held before went.held over went.waits some went.rest told)))
-
   -- and whichever halt comes
-  pub rest_halts : {old mid new : View} {start end : S} {lines : List (List ℕ)} {before : Waiting} {none_left : Type 0} (halt : Halt)
-      → none_left → Went terms ⊥ old mid start end lines before → before.missing ≢ 0
-      → IsUntold terms mid new end before.lines.items halt → (halt ≡ halts.NoMemory → mid ≡ new)
-      → Stopped terms none_left old new start end lines halt
-  rest_halts halts.Sink over went some untold same = stopped_rest over went some untold.1
-  rest_halts halts.Disk over went some untold same = absurd untold
-  rest_halts {old} {start = start} {end} {lines} {none_left = none_left} halts.NoMemory over went some untold same =
-      subst (λ (v : View). Stopped terms none_left old v start end lines halts.NoMemory) (same refl) (stopped_behind went)
+  pub held_halts : {old new : View} {s : S} {none_left : Type 0} (before : Waiting) (halt : Halt) (held : List (List ℕ))
+      → none_left → IsWaiting before held → before.missing ≢ 0 → AllRest terms old s
+      → IsUntold terms old new s before.lines.items halt → (halt ≡ halts.NoMemory → old ≡ new)
+      → Stopped terms none_left old new s s held halt
+  held_halts before halts.Sink held end is some rest untold same = stopped_held before held end is some rest untold.1
+  held_halts before halts.Disk held end is some rest untold same = absurd untold
+  held_halts {old} {s = s} {none_left} before halts.NoMemory held end is some rest untold same =
+      subst (λ (v : View). Stopped terms none_left old v s s held halts.NoMemory) (same refl) (stopped_none held rest)
 
   pub full_halts : {old new : View} {s : S} (before after : Waiting) (line : List ℕ) (halt : Halt) → 0 < before.missing
       → before.missing ≡ after.missing + 1 → after.lines.items ≡ before.lines.items ++ heard line ∷ [] → after.missing ≡ 0
@@ -249,23 +239,28 @@ module _ {S : Type 0} {terms : Terms S} where
   -- ---- the last line
 
   -- it is none where nothing was kept, and else is a line as any other
-  pub went_empty : {v : View} {s : S} {kept : List ℕ} {waiting : Waiting} (held : List (List ℕ)) (line : List ℕ) → length kept ≡ 0
-      → IsKept kept line → AllRest terms v s → IsWaiting waiting held → Went terms ⊥ v v s s (held ++ last_line line) waiting
-  went_empty {v} {s} {waiting = waiting} held line none is rest waits =
-      subst (λ (ls : List (List ℕ)). Went terms ⊥ v v s s ls waiting)
-      (sym (ap (λ (ls : List (List ℕ)). held ++ ls) (last_line-empty longest_line line none is) ∙ append-nil held))
-      (went_none rest waits)
+  pub went_empty : {old new : View} {start end : S} {kept : List ℕ} {none_left : Type 0} (held : List (List ℕ)) (line : List ℕ)
+      → length kept ≡ 0 → IsKept kept line → WentAll terms none_left old new start end held
+      → WentAll terms none_left old new start end (held ++ last_line line)
+  went_empty {old} {new} {start} {end} {none_left = none_left} held line none is went =
+      subst (λ (ls : List (List ℕ)). WentAll terms none_left old new start end ls) (sym (no_last held line none is)) went
 
-  pub went_last : {old new : View} {start end : S} {kept : List ℕ} {waiting : Waiting} (held : List (List ℕ)) (line : List ℕ)
-      → 0 < length kept → IsKept kept line → Went terms ⊥ old new start end (held ++ line ∷ []) waiting
-      → Went terms ⊥ old new start end (held ++ last_line line) waiting
-  went_last {old} {new} {start} {end} {waiting = waiting} held line some is went =
-      subst (λ (ls : List (List ℕ)). Went terms ⊥ old new start end (held ++ ls) waiting)
+  pub stopped_empty : {old new : View} {start end : S} {kept : List ℕ} {halt : Halt} {none_left : Type 0} (held : List (List ℕ))
+      (line : List ℕ) → length kept ≡ 0 → IsKept kept line → Stopped terms none_left old new start end held halt
+      → Stopped terms none_left old new start end (held ++ last_line line) halt
+  stopped_empty {old} {new} {start} {end} {halt = halt} {none_left} held line none is stopped =
+      subst (λ (ls : List (List ℕ)). Stopped terms none_left old new start end ls halt) (sym (no_last held line none is)) stopped
+
+  pub went_last : {old new : View} {start end : S} {kept : List ℕ} {none_left : Type 0} (held : List (List ℕ)) (line : List ℕ)
+      → 0 < length kept → IsKept kept line → WentAll terms none_left old new start end (held ++ line ∷ [])
+      → WentAll terms none_left old new start end (held ++ last_line line)
+  went_last {old} {new} {start} {end} {none_left = none_left} held line some is went =
+      subst (λ (ls : List (List ℕ)). WentAll terms none_left old new start end (held ++ ls))
       (sym (last_line-some longest_line line some is)) went
 
-  pub stopped_last : {old new : View} {start end : S} {kept : List ℕ} {halt : Halt} (held : List (List ℕ)) (line : List ℕ)
-      → 0 < length kept → IsKept kept line → Stopped terms ⊥ old new start end (held ++ line ∷ []) halt
-      → Stopped terms ⊥ old new start end (held ++ last_line line) halt
-  stopped_last {old} {new} {start} {end} {halt = halt} held line some is stopped =
-      subst (λ (ls : List (List ℕ)). Stopped terms ⊥ old new start end (held ++ ls) halt)
+  pub stopped_last : {old new : View} {start end : S} {kept : List ℕ} {halt : Halt} {none_left : Type 0} (held : List (List ℕ))
+      (line : List ℕ) → 0 < length kept → IsKept kept line → Stopped terms none_left old new start end (held ++ line ∷ []) halt
+      → Stopped terms none_left old new start end (held ++ last_line line) halt
+  stopped_last {old} {new} {start} {end} {halt = halt} {none_left} held line some is stopped =
+      subst (λ (ls : List (List ℕ)). Stopped terms none_left old new start end (held ++ ls) halt)
       (sym (last_line-some longest_line line some is)) stopped

@@ -13,7 +13,7 @@ use Rattle.rose_shell.specs.Lines.{lines_from, part_from, whole_lines, last_line
 use Rattle.rose_shell.specs.declared.waiting.Waiting.{Waiting}
 use Rattle.rose_shell.specs.Desk.{Terms, AllRest}
 use Rattle.rose_shell.specs.Session.{lines_of, IsCutOff, Served}
-use Rattle.rose_shell.specs.Loop.{IsWaiting, Went, Stopped, status_at}
+use Rattle.rose_shell.specs.Loop.{IsWaiting, Went, WentAll, Stopped, status_at}
 use Rattle.rose_shell.proofs.Turns.{full_wider, full-append, given_in_part_behind, cut_off_behind}
 use Rattle.rose_shell.proofs.Cuts.{lines_from-append}
 use Rattle.rose_shell.proofs.Runs.{run_then, ends_then, replies_then, crash_then, still_then}
@@ -228,18 +228,16 @@ module _ {S : Type 0} {terms : Terms S} where
       (omega (arith, keeping.spent, length-append bytes more, length-take n buf, in_buf, in_room)))
 
   -- it gives nothing, since the input has ended, and what had come of a line and of a batch is answered
-  pub served_all : {old mid between new : View} {start before end : S} {waiting later_waiting : Waiting} {kept buf : List ℕ}
-      {n room budget : ℕ} → Keeping terms old mid start before waiting kept room budget → Took mid between buf (Ok n) → n ≡ 0
-      → 0 < length buf
+  pub served_all : {old mid between new : View} {start before end : S} {waiting : Waiting} {kept buf : List ℕ} {n room budget : ℕ}
+      → Keeping terms old mid start before waiting kept room budget → Took mid between buf (Ok n) → n ≡ 0 → 0 < length buf
       → ((line : List ℕ) (held : List (List ℕ)) → IsKept kept line → IsWaiting waiting held
-      → Went terms Unit between new before end (held ++ last_line line) later_waiting)
-      → later_waiting.missing ≡ 0 → Served terms old new start end budget Done
+      → WentAll terms Unit between new before end (held ++ last_line line)) → Served terms old new start end budget Done
   unfolding took took_empty
-  served_all keeping call none wide went no_more =
+  served_all keeping call none wide went =
       let within = within_budget keeping in
       let ahead = took_empty keeping.ahead within call none in
-      ended ahead (input_ended call none wide) within
-      (went (part_from [] keeping.bytes) ahead.answered.held keeping.part keeping.waits) no_more
+      let all = went (part_from [] keeping.bytes) ahead.answered.held keeping.part keeping.waits in
+      ended ahead (input_ended call none wide) within all.went all.none_missing
 
   -- or halts the run
   pub served_last : {old mid between new : View} {start before end : S} {waiting : Waiting} {kept buf : List ℕ} {n room budget : ℕ}

@@ -8,7 +8,7 @@ use Rattle.rose_shell.specs.declared.feeding.Halt.TheVariants as halts
 use Rattle.rose_shell.specs.declared.waiting.Waiting.{Waiting}
 use Rattle.rose_shell.specs.Desk.{Terms, AllRest, KeepsFiles}
 use Rattle.rose_shell.specs.Session.{Turn, IsRun, Stay, end_of, replies, lines_of, IsMoment, IsCutOff}
-use Rattle.rose_shell.specs.Loop.{IsWaiting, Went, Stopped}
+use Rattle.rose_shell.specs.Loop.{IsWaiting, Went, WentAll, Stopped}
 use Rattle.outside_world.proofs.Moments.{only_nothing, only_wider, only_then, none_taken, none_taken_then}
 use Rattle.rose_shell.proofs.KeptFiles.{keeps_files, keeps_then}
 use Rattle.rose_shell.proofs.Turns.{end_of-append, stay-append, replies-append, lines_behind, full_wider, full-append, run-append}
@@ -99,43 +99,6 @@ module _ {S : Type 0} {terms : Terms S} where
   stopped_at {old} {new} {start} {end} {lines} {none_left = none_left} is stopped =
       subst (λ (h : Halt). Stopped terms none_left old new start end lines h) (sym is) stopped
 
-  -- where the input has ended the last batch may have fewer lines than it asks for
-  pub went_to_end : {old new : View} {start end : S} {lines : List (List ℕ)} {waiting : Waiting} {none_left : Type 0}
-      → Went terms ⊥ old new start end lines waiting → Went terms none_left old new start end lines waiting
-  went_to_end went = record {
-    turns = went.turns;
-    held = went.held;
-    is_run = went.is_run;
-    full = full_wider (λ never. absurd never) went.turns went.full;
-    waits = went.waits;
-    of_lines = went.of_lines;
-    ends = went.ends;
-    given = went.given;
-    takes = went.takes;
-    rest = went.rest;
-    crash = went.crash;
-    still = went.still;
-  }
-
-  pub stopped_to_end : {old new : View} {start end : S} {lines : List (List ℕ)} {halt : Halt} {none_left : Type 0}
-      → Stopped terms ⊥ old new start end lines halt → Stopped terms none_left old new start end lines halt
-  stopped_to_end stopped = record {
-    turns = stopped.turns;
-    unread = stopped.unread;
-    unsent = stopped.unsent;
-    is_run = stopped.is_run;
-    full = full_wider (λ never. absurd never.0) stopped.turns stopped.full;
-    of_lines = stopped.of_lines;
-    given = stopped.given;
-    takes = stopped.takes;
-    rest = stopped.rest;
-    crash = stopped.crash;
-    still = stopped.still;
-    sink = stopped.sink;
-    disk = stopped.disk;
-    memory = stopped.memory;
-  }
-
   -- memory runs out when these lines are answered, but for those that wait
   pub stopped_behind : {old new : View} {start end : S} {lines : List (List ℕ)} {waiting : Waiting} {none_left : Type 0}
       → Went terms ⊥ old new start end lines waiting → Stopped terms none_left old new start end lines halts.NoMemory
@@ -157,8 +120,9 @@ module _ {S : Type 0} {terms : Terms S} where
   }
 
   -- more lines that aren't read
-  pub stopped_more : {old new : View} {start end : S} {lines : List (List ℕ)} {halt : Halt} (more : List (List ℕ))
-      → Stopped terms ⊥ old new start end lines halt → Stopped terms ⊥ old new start end (lines ++ more) halt
+  pub stopped_more : {old new : View} {start end : S} {lines : List (List ℕ)} {halt : Halt} {none_left : Type 0}
+      (more : List (List ℕ)) → Stopped terms ⊥ old new start end lines halt
+      → Stopped terms none_left old new start end (lines ++ more) halt
   stopped_more more stopped = record {
     turns = stopped.turns;
     unread = stopped.unread ++ more;
@@ -175,6 +139,12 @@ module _ {S : Type 0} {terms : Terms S} where
     disk = stopped.disk;
     memory = stopped.memory;
   }
+
+  -- where the input has ended the last batch may have fewer lines than it asks for
+  pub stopped_to_end : {old new : View} {start end : S} {lines : List (List ℕ)} {halt : Halt} {none_left : Type 0}
+      → Stopped terms ⊥ old new start end lines halt → Stopped terms none_left old new start end lines halt
+  stopped_to_end {old} {new} {start} {end} {lines} {halt} {none_left} stopped =
+      subst (λ (ls : List (List ℕ)). Stopped terms none_left old new start end ls halt) (append-nil lines) (stopped_more [] stopped)
 
   made_by : {old new : View} {start end : S} {lines : List (List ℕ)} {waiting : Waiting} {none_left : Type 0}
       (went : Went terms none_left old new start end lines waiting) → Made terms old new start end went.turns
@@ -235,3 +205,24 @@ module _ {S : Type 0} {terms : Terms S} where
             (subst (λ (s : S). IsCutOff terms mid new s us second.unsent) made.ends (second.disk is));
         memory = second.memory;
       }
+
+  -- the lines that waited behind others
+  pub went_all : {old mid new : View} {start between end : S} {lines : List (List ℕ)} {before : Waiting} {none_left : Type 0}
+      (first : Went terms ⊥ old mid start between lines before) → WentAll terms none_left mid new between end first.held
+      → WentAll terms none_left old new start end lines
+  went_all {old} {mid} {new} {start} {between} {end} {lines} {none_left = none_left} first last = record {
+    waiting = last.waiting;
+    none_missing = last.none_missing;
+    went = subst (λ (ls : List (List ℕ)). Went terms none_left old new start end ls last.waiting) (append-nil lines)
+        (went_then [] first
+        (subst (λ (ls : List (List ℕ)). Went terms none_left mid new between end ls last.waiting) (sym (append-nil first.held))
+        last.went));
+  }
+
+  pub stopped_all : {old mid new : View} {start between end : S} {lines : List (List ℕ)} {before : Waiting} {halt : Halt}
+      {none_left : Type 0} (first : Went terms ⊥ old mid start between lines before)
+      → Stopped terms none_left mid new between end first.held halt → Stopped terms none_left old new start end lines halt
+  stopped_all {old} {mid} {new} {start} {between} {end} {lines} {halt = halt} {none_left} first last =
+      subst (λ (ls : List (List ℕ)). Stopped terms none_left old new start end ls halt) (append-nil lines)
+      (stopped_then [] first
+      (subst (λ (ls : List (List ℕ)). Stopped terms none_left mid new between end ls halt) (sym (append-nil first.held)) last))

@@ -1,5 +1,7 @@
 -- the numbers that the program ends with
 pub mod Status
+-- faults that are told, and their cause
+pub mod Faults
 -- bytes, cut into lines
 pub mod Lines
 -- lines that are answered together

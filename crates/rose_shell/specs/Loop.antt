@@ -41,6 +41,13 @@ pub record Went {S : Type 0} (terms : Terms S) (none_left : Type 0) (old new : V
   pub crash : LeavesOnly old new (IsMoment terms.stands start turns old.given)
   pub still : Stay start turns → KeepsFiles old new
 
+-- these lines were answered, and none of them waits
+pub record WentAll {S : Type 0} (terms : Terms S) (none_left : Type 0) (old new : View) (start end : S)
+    (lines : List (List ℕ)) : Type 0 where
+  pub waiting : Waiting
+  pub none_missing : waiting.missing ≡ 0
+  pub went : Went terms none_left old new start end lines waiting
+
 -- some of these lines were, until the sink failed within a reply, the disk within an answer, or memory ran
 -- out before the next one
 pub record Stopped {S : Type 0} (terms : Terms S) (none_left : Type 0) (old new : View) (start end : S)

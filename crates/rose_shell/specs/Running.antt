@@ -2,10 +2,13 @@
 -- the way is sound, and each crash leaves files that stand for the state after the changes answered so far, or
 -- after one more.
 use Rattle.std.specs.Prelude.{◌≡◌, ◌≢◌, ◌⊎◌, ◌≤◌, ◌^◌, ℕ, Bool, true, false}
-use Rattle.std.specs.Prelude.{List, All, nat_lt}
+use Rattle.std.specs.Prelude.{List, All, length, nat_lt}
+use Rattle.outside_world.specs.Counts.{Rose}
+use Rattle.outside_world.specs.GoesOn.{GoesOn}
 use Rattle.outside_world.specs.View.{View, Moment}
 use Rattle.outside_world.specs.Since.{LeavesOnly}
 use Rattle.outside_world.specs.declared.world.FileName.{FileName}
+use Rattle.outside_world.specs.declared.world.Outside.{Ghosts}
 use Rattle.line_grammar.specs.Lines.{Says}
 use Rattle.line_grammar.specs.declared.command.Change.{Change}
 use Rattle.line_grammar.specs.declared.command.Command.TheVariants as commands
@@ -21,10 +24,11 @@ use Rattle.realm_pages.specs.declared.damage.Damage.{Damage}
 use Rattle.query_batch.specs.Answers.{TellsLine}
 use Rattle.rose_shell.specs.Answers.{StoreAnswers}
 use Rattle.rose_shell.specs.Desk.{Terms}
+use Rattle.rose_shell.specs.Faults.{HasCause}
 use Rattle.rose_shell.specs.Session.{Turn, end_of, Served}
 use Rattle.rose_shell.specs.Prefixes.{IsCounted, IsPrefixMoment}
 use Rattle.rose_shell.specs.declared.status.Status.{Status}
-use Rattle.rose_shell.specs.declared.status.Status.TheVariants.{DiskFault, Damaged, NoMemory}
+use Rattle.rose_shell.specs.declared.status.Status.TheVariants.{Done, Usage, DiskFault, Damaged, NoMemory}
 
 -- the line is the text of a change
 abbrev pub IsChangeLine : List ℕ → Type 0
@@ -74,6 +78,27 @@ pub record HasServed (old new : View) (start end : SpendableKept) (budget : ℕ)
   pub counted : IsCounted state_in is_accepted start session.turns
   pub prefix : start.kept.has_gate ≡ true → LeavesOnly old new (IsCrashOf start session.turns old.given)
   pub rest : status ≢ DiskFault → AllRest (end_of start session.turns).kept new
+
+-- What `serve` promises: what was served where the world tells it, how the status came about, and whether the store
+-- can go on.
+pub record Serves {World : Type 0} (outside : Ghosts World) (old new : World) (start end : SpendableKept) (budget : ℕ)
+    (status : Status) : Type 0 where
+  pub never_usage : status ≢ Usage
+  pub never_damaged : (d : Damage) → status ≢ Damaged d
+  pub faults : HasCause outside old new status
+  pub told : outside.tells new → HasServed (outside.view old) (outside.view new) start end budget status
+  -- where no call fails and the input ends within the budget, nothing but memory can be wanting
+  pub complete : outside.tells new
+      → ¬ (Rose (outside.source_faults old) (outside.source_faults new))
+      → ¬ (Rose (outside.sink_faults old) (outside.sink_faults new))
+      → ¬ (Rose (outside.disk_faults old) (outside.disk_faults new))
+      → length (outside.view old).left ≤ budget
+      → (status ≡ Done) ⊎ (status ≡ NoMemory)
+  -- but for want of memory and a disk fault it can go on; after a disk fault it can't
+  pub ready : status ≢ NoMemory → status ≢ DiskFault → end.spent ≡ false
+  pub spent : status ≡ DiskFault → end.spent ≡ true
+  pub rest : status ≢ NoMemory → status ≢ DiskFault → outside.tells new → AllRest end.kept (outside.view new)
+  pub goes_on : GoesOn outside old new
 
 -- Nothing was taken, given or written: the disk failed, memory ran out, or the files are damaged as is told,
 -- and a crash now leaves each as it reads.

@@ -146,30 +146,10 @@ fn answer_checkpoint<W: Outside>(
     ensures told { W.tells world.new → Answered StoreTerms (W.view world.old) (W.view world.new)
         store.old store.new (text_of TheCheckpoint) result }
 {
-    match accept_checkpoint(alloc) {
-        Ok(reply) => write_checkpoint(alloc, store, world, reply),
-        Err(NoMemory) => Err(Stop::NoMemory),
-    }
-}
-
-// The same, with its reply.
-fn write_checkpoint<W: Outside>(
-    alloc: Global,
-    store: &mut Store,
-    world: &mut W,
-    reply: Reply,
-) -> Result<Reply, Stop>
-    requires ready { store.old.spent ≡ false }
-    requires said { reply ≡ checkpoint_reply }
-    requires rest { W.tells world.old → AllRest store.old.kept (W.view world.old) }
-    ensures answer { IfOk result (λ reply. Unspent AnswersCheckpoint store.old reply store.new) }
-    ensures disk_fault { IsErrOf result Stop.Disk
-        → Rose (W.disk_faults world.old) (W.disk_faults world.new) }
-    ensures spent { IsErrOf result Stop.Disk → store.new.spent ≡ true }
-    ensures goes_on { GoesOn ⟦<W as Outside>⟧ world.old world.new }
-    ensures told { W.tells world.new → Answered StoreTerms (W.view world.old) (W.view world.new)
-        store.old store.new (text_of TheCheckpoint) result }
-{
+    let reply = match accept_checkpoint(alloc) {
+        Ok(reply) => reply,
+        Err(NoMemory) => return Err(Stop::NoMemory),
+    };
     match store.checkpoint(world) {
         Ok(()) => Ok(reply),
         Err(CheckpointError::Generations) => or_stop(refuse_checkpoint(alloc)),

@@ -3,10 +3,10 @@
 //! long, and where it isn't, this is the line.
 ghost use Rattle.std.specs.Prelude.{◌≡◌, ◌≢◌, ◌<◌, ℕ, List, [], ◌∷◌, ◌++◌, All, length, take};
 ghost use Rattle.std.specs.Prelude.{slice_index, Err, MatchOption, IfErr, OnOk, IsErrOf};
-ghost use Rattle.outside_world.specs.Counts.{Rose};
 ghost use Rattle.outside_world.specs.GoesOn.{GoesOn};
 ghost use Rattle.rose_shell.specs.Lines.{lines_from, part_from, IsKept};
 ghost use Rattle.rose_shell.specs.Desk.{AllRest};
+ghost use Rattle.rose_shell.specs.Faults.{HaltHasCause};
 ghost use Rattle.rose_shell.specs.Loop.{IsWaiting, Went, Stopped};
 
 use crate::LONGEST_LINE;
@@ -53,10 +53,7 @@ pub(crate) fn feed<R: Threads + Sync, G: Gate, W: Outside, D: Desk<W>>(
         → IsKept kept.old.items part → IsWaiting waiting.old held → W.tells world.new
         → Stopped D.terms ⊥ (W.view world.old) (W.view world.new) desk.old desk.new
         (held ++ lines_from part chunk.now) halt) }
-    ensures sink_fault { IsErrOf result Halt.Sink
-        → Rose (W.sink_faults world.old) (W.sink_faults world.new) }
-    ensures disk_fault { IsErrOf result Halt.Disk
-        → Rose (W.disk_faults world.old) (W.disk_faults world.new) }
+    ensures faults { HaltHasCause ⟦<W as Outside>⟧ world.old world.new result }
     ensures ready { result ≢ Err Halt.NoMemory → result ≢ Err Halt.Disk → D.ready desk.new }
     ensures spent { IsErrOf result Halt.Disk → ¬ (D.ready desk.new) }
     ensures rest { OnOk result (W.tells world.new → AllRest D.terms (W.view world.new) desk.new) }
@@ -107,10 +104,7 @@ fn end_line<R: Threads + Sync, G: Gate, W: Outside, D: Desk<W>>(
         → IsKept kept.old.items part → IsWaiting waiting.old held → W.tells world.new
         → Stopped D.terms ⊥ (W.view world.old) (W.view world.new) desk.old desk.new
         (held ++ (part ++ bytes.now) ∷ []) halt) }
-    ensures sink_fault { IsErrOf result Halt.Sink
-        → Rose (W.sink_faults world.old) (W.sink_faults world.new) }
-    ensures disk_fault { IsErrOf result Halt.Disk
-        → Rose (W.disk_faults world.old) (W.disk_faults world.new) }
+    ensures faults { HaltHasCause ⟦<W as Outside>⟧ world.old world.new result }
     ensures ready { result ≢ Err Halt.NoMemory → result ≢ Err Halt.Disk → D.ready desk.new }
     ensures spent { IsErrOf result Halt.Disk → ¬ (D.ready desk.new) }
     ensures rest { OnOk result (W.tells world.new → AllRest D.terms (W.view world.new) desk.new) }

@@ -9,7 +9,8 @@ ghost use Rattle.rose_shell.specs.Batches.{OpensNone};
 ghost use Rattle.rose_shell.specs.Desk.{AllRest};
 ghost use Rattle.rose_shell.specs.Giving.{GaveSome};
 ghost use Rattle.rose_shell.specs.declared.waiting.Waiting.{Waiting as WaitingLines};
-ghost use Rattle.rose_shell.specs.Loop.{IsWaiting, Went, Stopped, ToldBatch, IsUntold, halt_at};
+ghost use Rattle.rose_shell.specs.Faults.{HaltHasCause};
+ghost use Rattle.rose_shell.specs.Loop.{IsWaiting, Went, WentAll, Stopped, ToldBatch, IsUntold, halt_at};
 
 use crate::desk::{Desk, Stop};
 use crate::feeding::Halt;
@@ -22,79 +23,65 @@ use query_batch::{Gate, answer_batch};
 use std::alloc::Global;
 use std::thread::Threads;
 
-/// Answers what has come at the end of the input: a line without a line feed, and a batch with fewer lines than it
-/// asks for.
+/// Answers what has come at the end of the input: a line without a line feed, where it isn't empty, and a batch with
+/// fewer lines than it asks for.
 pub(crate) fn answer_end<R: Threads + Sync, G: Gate, W: Outside, D: Desk<W>>(
     rt: &R,
     alloc: Global,
     gate: &G,
     desk: &mut D,
     world: &mut W,
-    waiting: &mut Waiting,
+    mut waiting: Waiting,
     kept: &[u8],
 ) -> Result<(), Halt>
     requires ready { D.ready desk.old }
     requires rest { W.tells world.old → AllRest D.terms (W.view world.old) desk.old }
     ensures went { OnOk result ((line : List ℕ) (held : List (List ℕ)) → IsKept kept.now line
-        → IsWaiting waiting.old held → W.tells world.new
-        → Went D.terms Unit (W.view world.old) (W.view world.new) desk.old desk.new
-        (held ++ last_line line) waiting.new) }
-    ensures none_waits { OnOk result (waiting.new.missing ≡ 0) }
+        → IsWaiting waiting held → W.tells world.new
+        → WentAll D.terms Unit (W.view world.old) (W.view world.new) desk.old desk.new
+        (held ++ last_line line)) }
     ensures stopped { IfErr result (λ halt. (line : List ℕ) (held : List (List ℕ)) → IsKept kept.now line
-        → IsWaiting waiting.old held → W.tells world.new
+        → IsWaiting waiting held → W.tells world.new
         → Stopped D.terms Unit (W.view world.old) (W.view world.new) desk.old desk.new
         (held ++ last_line line) halt) }
-    ensures sink_fault { IsErrOf result Halt.Sink
-        → Rose (W.sink_faults world.old) (W.sink_faults world.new) }
-    ensures disk_fault { IsErrOf result Halt.Disk
-        → Rose (W.disk_faults world.old) (W.disk_faults world.new) }
+    ensures faults { HaltHasCause ⟦<W as Outside>⟧ world.old world.new result }
     ensures ready { result ≢ Err Halt.NoMemory → result ≢ Err Halt.Disk → D.ready desk.new }
     ensures spent { IsErrOf result Halt.Disk → ¬ (D.ready desk.new) }
-    ensures goes_on { GoesOn ⟦<W as Outside>⟧ world.old world.new }
-{
-    match answer_last(rt, alloc, gate, desk, world, waiting, kept) {
-        Ok(()) => {}
-        Err(halt) => return Err(halt),
-    }
-    if waiting.missing == 0 {
-        return Ok(());
-    }
-    answer_waiting(rt, alloc, gate, desk, world, waiting)
-}
-
-// Answers a line without a line feed, where it isn't empty.
-fn answer_last<R: Threads + Sync, G: Gate, W: Outside, D: Desk<W>>(
-    rt: &R,
-    alloc: Global,
-    gate: &G,
-    desk: &mut D,
-    world: &mut W,
-    waiting: &mut Waiting,
-    kept: &[u8],
-) -> Result<(), Halt>
-    requires ready { D.ready desk.old }
-    requires rest { W.tells world.old → AllRest D.terms (W.view world.old) desk.old }
-    ensures went { OnOk result ((line : List ℕ) (held : List (List ℕ)) → IsKept kept.now line
-        → IsWaiting waiting.old held → W.tells world.new
-        → Went D.terms ⊥ (W.view world.old) (W.view world.new) desk.old desk.new
-        (held ++ last_line line) waiting.new) }
-    ensures stopped { IfErr result (λ halt. (line : List ℕ) (held : List (List ℕ)) → IsKept kept.now line
-        → IsWaiting waiting.old held → W.tells world.new
-        → Stopped D.terms ⊥ (W.view world.old) (W.view world.new) desk.old desk.new
-        (held ++ last_line line) halt) }
-    ensures sink_fault { IsErrOf result Halt.Sink
-        → Rose (W.sink_faults world.old) (W.sink_faults world.new) }
-    ensures disk_fault { IsErrOf result Halt.Disk
-        → Rose (W.disk_faults world.old) (W.disk_faults world.new) }
-    ensures ready { result ≢ Err Halt.NoMemory → result ≢ Err Halt.Disk → D.ready desk.new }
-    ensures spent { IsErrOf result Halt.Disk → ¬ (D.ready desk.new) }
-    ensures rest { OnOk result (W.tells world.new → AllRest D.terms (W.view world.new) desk.new) }
     ensures goes_on { GoesOn ⟦<W as Outside>⟧ world.old world.new }
 {
     if kept.is_empty() {
+        return answer_rest(rt, alloc, gate, desk, world, waiting);
+    }
+    match hear_line(rt, alloc, gate, desk, world, &mut waiting, kept) {
+        Ok(()) => answer_rest(rt, alloc, gate, desk, world, waiting),
+        Err(halt) => Err(halt),
+    }
+}
+
+// Answers the lines that still wait at the end of the input, where there are any.
+fn answer_rest<R: Threads + Sync, G: Gate, W: Outside, D: Desk<W>>(
+    rt: &R,
+    alloc: Global,
+    gate: &G,
+    desk: &D,
+    world: &mut W,
+    mut waiting: Waiting,
+) -> Result<(), Halt>
+    requires ready { D.ready desk.now }
+    requires rest { W.tells world.old → AllRest D.terms (W.view world.old) desk.now }
+    ensures went { OnOk result ((held : List (List ℕ)) → IsWaiting waiting held → W.tells world.new
+        → WentAll D.terms Unit (W.view world.old) (W.view world.new) desk.now desk.now held) }
+    ensures stopped { IfErr result (λ halt. (held : List (List ℕ)) → IsWaiting waiting held
+        → W.tells world.new
+        → Stopped D.terms Unit (W.view world.old) (W.view world.new) desk.now desk.now held halt) }
+    ensures faults { HaltHasCause ⟦<W as Outside>⟧ world.old world.new result }
+    ensures never_disk { result ≢ Err Halt.Disk }
+    ensures goes_on { GoesOn ⟦<W as Outside>⟧ world.old world.new }
+{
+    if waiting.missing == 0 {
         return Ok(());
     }
-    hear_line(rt, alloc, gate, desk, world, waiting, kept)
+    answer_waiting(rt, alloc, gate, desk, world, &mut waiting)
 }
 
 /// Answers the line of which this was kept, or keeps it for its batch, and answers this where it is full.
@@ -117,10 +104,7 @@ pub(crate) fn hear_line<R: Threads + Sync, G: Gate, W: Outside, D: Desk<W>>(
         → IsWaiting waiting.old held → W.tells world.new
         → Stopped D.terms ⊥ (W.view world.old) (W.view world.new) desk.old desk.new
         (held ++ line ∷ []) halt) }
-    ensures sink_fault { IsErrOf result Halt.Sink
-        → Rose (W.sink_faults world.old) (W.sink_faults world.new) }
-    ensures disk_fault { IsErrOf result Halt.Disk
-        → Rose (W.disk_faults world.old) (W.disk_faults world.new) }
+    ensures faults { HaltHasCause ⟦<W as Outside>⟧ world.old world.new result }
     ensures ready { result ≢ Err Halt.NoMemory → result ≢ Err Halt.Disk → D.ready desk.new }
     ensures spent { IsErrOf result Halt.Disk → ¬ (D.ready desk.new) }
     ensures rest { OnOk result (W.tells world.new → AllRest D.terms (W.view world.new) desk.new) }
@@ -158,10 +142,7 @@ fn hear_first<R: Threads + Sync, W: Outside, D: Desk<W>>(
     ensures stopped { IfErr result (λ halt. (line : List ℕ) → IsKept kept.now line → W.tells world.new
         → Stopped D.terms ⊥ (W.view world.old) (W.view world.new) desk.old desk.new
         (line ∷ []) halt) }
-    ensures sink_fault { IsErrOf result Halt.Sink
-        → Rose (W.sink_faults world.old) (W.sink_faults world.new) }
-    ensures disk_fault { IsErrOf result Halt.Disk
-        → Rose (W.disk_faults world.old) (W.disk_faults world.new) }
+    ensures faults { HaltHasCause ⟦<W as Outside>⟧ world.old world.new result }
     ensures ready { result ≢ Err Halt.NoMemory → result ≢ Err Halt.Disk → D.ready desk.new }
     ensures spent { IsErrOf result Halt.Disk → ¬ (D.ready desk.new) }
     ensures rest { OnOk result (W.tells world.new → AllRest D.terms (W.view world.new) desk.new) }
@@ -198,10 +179,7 @@ fn answer_alone<R: Threads + Sync, W: Outside, D: Desk<W>>(
     ensures stopped { IfErr result (λ halt. W.tells world.new
         → Stopped D.terms ⊥ (W.view world.old) (W.view world.new) desk.old desk.new
         (line.now ∷ []) halt) }
-    ensures sink_fault { IsErrOf result Halt.Sink
-        → Rose (W.sink_faults world.old) (W.sink_faults world.new) }
-    ensures disk_fault { IsErrOf result Halt.Disk
-        → Rose (W.disk_faults world.old) (W.disk_faults world.new) }
+    ensures faults { HaltHasCause ⟦<W as Outside>⟧ world.old world.new result }
     ensures ready { result ≢ Err Halt.NoMemory → result ≢ Err Halt.Disk → D.ready desk.new }
     ensures spent { IsErrOf result Halt.Disk → ¬ (D.ready desk.new) }
     ensures rest { OnOk result (W.tells world.new → AllRest D.terms (W.view world.new) desk.new) }
@@ -229,8 +207,7 @@ fn answer_waiting<R: Threads + Sync, G: Gate, W: Outside, D: Desk<W>>(
     ensures cut { IfErr result (λ halt. (W.tells world.new → IsUntold D.terms (W.view world.old)
         (W.view world.new) desk.now waiting.old.lines.items halt)
         × (halt ≡ Halt.NoMemory → world.new ≡ world.old)) }
-    ensures sink_fault { IsErrOf result Halt.Sink
-        → Rose (W.sink_faults world.old) (W.sink_faults world.new) }
+    ensures faults { HaltHasCause ⟦<W as Outside>⟧ world.old world.new result }
     ensures never_disk { result ≢ Err Halt.Disk }
     ensures goes_on { GoesOn ⟦<W as Outside>⟧ world.old world.new }
 {

@@ -10,7 +10,8 @@ ghost use Rattle.realm_store.specs.Stands.{StandsFor};
 ghost use Rattle.realm_store.specs.Keeping.{AllRest};
 ghost use Rattle.realm_store.specs.Damages.{IsDamaged};
 ghost use Rattle.realm_pages.specs.declared.damage.Damage.{Damage};
-ghost use Rattle.rose_shell.specs.Running.{HasServed, HasRun};
+ghost use Rattle.rose_shell.specs.Faults.{HasCause};
+ghost use Rattle.rose_shell.specs.Running.{HasRun, Serves};
 ghost use Rattle.rose_shell.specs.Telling.{HasDone, CanBeDone};
 
 use crate::serving::serve_by_chunks;
@@ -41,12 +42,7 @@ pub fn run<R: Threads + Sync, W: Outside>(
     ensures no_command { IsNoCommand (map string_bytes words.now)
         → (result ≡ Status.Usage) ⊎ (result ≡ Status.NoMemory) }
     ensures untouched { IsNoCommand (map string_bytes words.now) → world.new ≡ world.old }
-    ensures source_fault { result ≡ Status.SourceFault
-        → Rose (W.source_faults world.old) (W.source_faults world.new) }
-    ensures sink_fault { result ≡ Status.SinkFault
-        → Rose (W.sink_faults world.old) (W.sink_faults world.new) }
-    ensures disk_fault { result ≡ Status.DiskFault
-        → Rose (W.disk_faults world.old) (W.disk_faults world.new) }
+    ensures faults { HasCause ⟦<W as Outside>⟧ world.old world.new result }
     ensures damaged { (d : Damage) → result ≡ Status.Damaged d → W.tells world.new
         → IsDamaged d (W.view world.old).reads }
     ensures told { (command : Command) → IsWritten (map string_bytes words.now) command
@@ -82,12 +78,7 @@ fn do_command<R: Threads + Sync, W: Outside>(
 ) -> Status
     requires allowed { IsAllowed word }
     ensures never_usage { result ≢ Status.Usage }
-    ensures source_fault { result ≡ Status.SourceFault
-        → Rose (W.source_faults world.old) (W.source_faults world.new) }
-    ensures sink_fault { result ≡ Status.SinkFault
-        → Rose (W.sink_faults world.old) (W.sink_faults world.new) }
-    ensures disk_fault { result ≡ Status.DiskFault
-        → Rose (W.disk_faults world.old) (W.disk_faults world.new) }
+    ensures faults { HasCause ⟦<W as Outside>⟧ world.old world.new result }
     ensures damaged { (d : Damage) → result ≡ Status.Damaged d → W.tells world.new
         → IsDamaged d (W.view world.old).reads }
     ensures told { W.tells world.new → HasDone word (W.view world.old) (W.view world.new) result }
@@ -111,12 +102,7 @@ fn do_command<R: Threads + Sync, W: Outside>(
 // Reads what the files stand for, and answers each line of the input from there on.
 fn start_and_serve<R: Threads + Sync, W: Outside>(rt: &R, alloc: Global, world: &mut W) -> Status
     ensures never_usage { result ≢ Status.Usage }
-    ensures source_fault { result ≡ Status.SourceFault
-        → Rose (W.source_faults world.old) (W.source_faults world.new) }
-    ensures sink_fault { result ≡ Status.SinkFault
-        → Rose (W.sink_faults world.old) (W.sink_faults world.new) }
-    ensures disk_fault { result ≡ Status.DiskFault
-        → Rose (W.disk_faults world.old) (W.disk_faults world.new) }
+    ensures faults { HasCause ⟦<W as Outside>⟧ world.old world.new result }
     ensures damaged { (d : Damage) → result ≡ Status.Damaged d → W.tells world.new
         → IsDamaged d (W.view world.old).reads }
     ensures told { W.tells world.new → HasRun (W.view world.old) (W.view world.new) result }
@@ -149,29 +135,7 @@ pub fn serve<R: Threads + Sync, W: Outside>(
 ) -> Status
     requires ready { store.old.spent ≡ false }
     requires rest { W.tells world.old → AllRest store.old.kept (W.view world.old) }
-    ensures never_usage { result ≢ Status.Usage }
-    ensures never_damaged { (d : Damage) → result ≢ Status.Damaged d }
-    ensures source_fault { result ≡ Status.SourceFault
-        → Rose (W.source_faults world.old) (W.source_faults world.new) }
-    ensures sink_fault { result ≡ Status.SinkFault
-        → Rose (W.sink_faults world.old) (W.sink_faults world.new) }
-    ensures disk_fault { result ≡ Status.DiskFault
-        → Rose (W.disk_faults world.old) (W.disk_faults world.new) }
-    ensures told { W.tells world.new
-        → HasServed (W.view world.old) (W.view world.new) store.old store.new budget result }
-    // Where no call fails and the input ends within the budget, nothing but memory can be wanting.
-    ensures complete { W.tells world.new
-        → ¬ (Rose (W.source_faults world.old) (W.source_faults world.new))
-        → ¬ (Rose (W.sink_faults world.old) (W.sink_faults world.new))
-        → ¬ (Rose (W.disk_faults world.old) (W.disk_faults world.new))
-        → length (W.view world.old).left ≤ budget
-        → (result ≡ Status.Done) ⊎ (result ≡ Status.NoMemory) }
-    // But for want of memory and a disk fault it can go on; after a disk fault it can't.
-    ensures ready { result ≢ Status.NoMemory → result ≢ Status.DiskFault → store.new.spent ≡ false }
-    ensures spent { result ≡ Status.DiskFault → store.new.spent ≡ true }
-    ensures rest { result ≢ Status.NoMemory → result ≢ Status.DiskFault → W.tells world.new
-        → AllRest store.new.kept (W.view world.new) }
-    ensures goes_on { GoesOn ⟦<W as Outside>⟧ world.old world.new }
+    ensures { Serves ⟦<W as Outside>⟧ world.old world.new store.old store.new budget result }
 {
     serve_gated(rt, alloc, store, world, budget, &Open)
 }
@@ -187,29 +151,7 @@ pub fn serve_gated<R: Threads + Sync, W: Outside, G: Gate>(
 ) -> Status
     requires ready { store.old.spent ≡ false }
     requires rest { W.tells world.old → AllRest store.old.kept (W.view world.old) }
-    ensures never_usage { result ≢ Status.Usage }
-    ensures never_damaged { (d : Damage) → result ≢ Status.Damaged d }
-    ensures source_fault { result ≡ Status.SourceFault
-        → Rose (W.source_faults world.old) (W.source_faults world.new) }
-    ensures sink_fault { result ≡ Status.SinkFault
-        → Rose (W.sink_faults world.old) (W.sink_faults world.new) }
-    ensures disk_fault { result ≡ Status.DiskFault
-        → Rose (W.disk_faults world.old) (W.disk_faults world.new) }
-    ensures told { W.tells world.new
-        → HasServed (W.view world.old) (W.view world.new) store.old store.new budget result }
-    // Where no call fails and the input ends within the budget, nothing but memory can be wanting.
-    ensures complete { W.tells world.new
-        → ¬ (Rose (W.source_faults world.old) (W.source_faults world.new))
-        → ¬ (Rose (W.sink_faults world.old) (W.sink_faults world.new))
-        → ¬ (Rose (W.disk_faults world.old) (W.disk_faults world.new))
-        → length (W.view world.old).left ≤ budget
-        → (result ≡ Status.Done) ⊎ (result ≡ Status.NoMemory) }
-    // But for want of memory and a disk fault it can go on; after a disk fault it can't.
-    ensures ready { result ≢ Status.NoMemory → result ≢ Status.DiskFault → store.new.spent ≡ false }
-    ensures spent { result ≡ Status.DiskFault → store.new.spent ≡ true }
-    ensures rest { result ≢ Status.NoMemory → result ≢ Status.DiskFault → W.tells world.new
-        → AllRest store.new.kept (W.view world.new) }
-    ensures goes_on { GoesOn ⟦<W as Outside>⟧ world.old world.new }
+    ensures { Serves ⟦<W as Outside>⟧ world.old world.new store.old store.new budget result }
 {
     // The session begins with a sound state.
     let _state = store.state();

@@ -6,6 +6,7 @@ ghost use Rattle.outside_world.specs.Calls.{Took};
 ghost use Rattle.realm_pages.specs.declared.damage.Damage.{Damage};
 ghost use Rattle.rose_shell.specs.Desk.{AllRest};
 ghost use Rattle.rose_shell.specs.Session.{Served};
+ghost use Rattle.rose_shell.specs.Faults.{HasCause};
 ghost use Rattle.rose_shell.specs.Loop.{status_at};
 
 use crate::desk::Desk;
@@ -38,12 +39,7 @@ pub(crate) fn serve_by_chunks<R: Threads + Sync, G: Gate, W: Outside, D: Desk<W>
         → Served D.terms (W.view world.old) (W.view world.new) desk.old desk.new budget result }
     ensures never_usage { result ≢ Status.Usage }
     ensures never_damaged { (d : Damage) → result ≢ Status.Damaged d }
-    ensures source_fault { result ≡ Status.SourceFault
-        → Rose (W.source_faults world.old) (W.source_faults world.new) }
-    ensures sink_fault { result ≡ Status.SinkFault
-        → Rose (W.sink_faults world.old) (W.sink_faults world.new) }
-    ensures disk_fault { result ≡ Status.DiskFault
-        → Rose (W.disk_faults world.old) (W.disk_faults world.new) }
+    ensures faults { HasCause ⟦<W as Outside>⟧ world.old world.new result }
     ensures ready { result ≢ Status.NoMemory → result ≢ Status.DiskFault → D.ready desk.new }
     ensures spent { result ≡ Status.DiskFault → ¬ (D.ready desk.new) }
     ensures goes_on { GoesOn ⟦<W as Outside>⟧ world.old world.new }
@@ -57,7 +53,7 @@ pub(crate) fn serve_by_chunks<R: Threads + Sync, G: Gate, W: Outside, D: Desk<W>
             Err(Failed) => return Status::SourceFault,
         };
         if n == 0 {
-            match answer_end(rt, alloc, gate, desk, world, &mut waiting, &kept) {
+            match answer_end(rt, alloc, gate, desk, world, waiting, &kept) {
                 Ok(()) => return Status::Done,
                 Err(halt) => return status_of(halt),
             }

@@ -1,6 +1,6 @@
 //! Files that were cut or changed, and what `check` gives of them: the state that they stand for still, or the one damage
 //! that decides, with its place.
-use crate::files::{change, file_of};
+use crate::file_bytes::{change, file_of};
 use crate::running::{left, look, place_of_two, run_words};
 use grid_base::NoMemory;
 use outside_world::{FileName, Leave};

@@ -1,53 +1,11 @@
-//! File A: its bytes after a commit, what is found in it after a crash, and what is told of one that is damaged. The bytes
-//! are the example of docs/formats/FILES.md.
+//! File A: its bytes after a commit, what is found in it after a crash, and what is told of one that is damaged.
+use crate::file_bytes::{change, file_of};
 use crate::running::{Place, left, look, look_at_run, place_of_two, told};
 use grid_base::NoMemory;
 use outside_world::Leave;
 use std::alloc::Global;
 use std::process::Abort;
 use std::thread::Threads;
-
-// The first gate, and the head of a first generation but for its zeros.
-static FRONT: [u8; 18] = [
-    0xa5, 0x52, 0x4f, 0x53, 0x45, 0x52, 0x45, 0x4c, 0x00, 0x01, 0x00, 0x00, 0x00, 0x00, 0x00, 0x00,
-    0x00, 0x01,
-];
-
-// An open gate, and behind it change 0, `point 3 0`, with no step.
-static POINT: [u8; 38] = [
-    0xa5, 0x00, 0x00, 0x00, 0x00, 0x00, 0x00, 0x00, 0x1d, 0x00, 0x00, 0x00, 0x00, 0x00, 0x00, 0x00,
-    0x00, 0x00, 0x00, 0x00, 0x09, 0x70, 0x6f, 0x69, 0x6e, 0x74, 0x20, 0x33, 0x20, 0x30, 0x00, 0x00,
-    0x00, 0x00, 0x00, 0x00, 0x00, 0x00,
-];
-
-/// A file of this generation, with records of these numbers, each behind an open gate, and these bytes behind them.
-pub(crate) fn file_of(
-    alloc: Global,
-    generation: u8,
-    numbers: &[u8],
-    behind: &[u8],
-) -> Result<Vec<u8>, NoMemory> {
-    let mut file = Vec::from_slice(alloc, &FRONT)?;
-    file[17] = generation;
-    file.resize(4_096, 0)?;
-    for number in numbers {
-        let mut record = POINT;
-        record[16] = *number;
-        file.extend_from_slice(&record)?;
-    }
-    file.extend_from_slice(behind)?;
-    Ok(file)
-}
-
-/// Cuts a file off, and puts bytes at these places of it.
-pub(crate) fn change(file: &mut Vec<u8>, cut: usize, puts: &[(usize, &[u8])]) {
-    file.truncate(cut);
-    for (at, bytes) in puts {
-        for (place, byte) in file.iter_mut().skip(*at).zip(bytes.iter()) {
-            *place = *byte;
-        }
-    }
-}
 
 // The numbers of the records in a file and the bytes behind them; the number of one change more, and its reply.
 static COMMITS: [(&[u8], &[u8], u8, &str); 4] = [

@@ -1,5 +1,6 @@
 //! Sessions of lines whose replies were worked out on paper, and what is found again after crashes, faults and damage.
-//! There are tests alone here. Begin at `sessions.rt`, whose rows are text; `running.rt` has what the tests share.
+//! There are tests here, and the bytes of files that they begin with. Begin at `sessions.rt`, whose rows are text; `running.rt` has
+//! what the tests share.
 #![tactic(auto)]
 
 #[cfg(test)]
@@ -8,6 +9,7 @@ mod crashes;
 mod damages;
 #[cfg(test)]
 mod ends;
+mod file_bytes;
 #[cfg(test)]
 mod files;
 #[cfg(test)]

@@ -47,7 +47,7 @@ returns-in-Ok-answer_end-clause-told g c = λ t.
     let ens = c.in-Ok-answer_end.ensures in
     let then = ens.goes_on.tells t in
     served_all (c.loop-n.invariant.keeping (took.goes_on.tells then)) (took.told then) c.if-n-eq0.true (omega arith)
-    (λ line held is waits. ens.went line held (c.deref.ensures.value ∙ is) waits t) ens.none_waits
+    (λ line held is waits. ens.went line held (c.deref.ensures.value ∙ is) waits t)
 
 -- or halts the run
 pub returns-in-Err-answer_end-clause-told : goal.returns-in-Err-answer_end-clause-told
