@@ -1,8 +1,9 @@
 -- This file shows that a test that only numbers of a list pass is passed as often there as among all numbers.
-use Rattle.std.proofs.Common.{◌≡◌, ◌⊎◌, ℕ, zero, suc, ◌+◌, ◌<◌, ◌==◌, Bool, true, false, cond, ◌&&◌, List, [], ◌∷◌, refl, sym, ap, ◌∙◌}
+use Rattle.std.proofs.Common.{◌≡◌, ℕ, zero, suc, ◌+◌, ◌<◌, Bool, true, false, cond, ◌&&◌, List, [], ◌∷◌, refl, sym, ap, ◌∙◌}
 use Rattle.std.proofs.Common.{arith, inl, inr}
 use Rattle.plane_cells.specs.Steps.{In, Each, Pairs}
 use Rattle.plane_cells.proofs.Lists.{same_or}
+use Rattle.plane_cells.proofs.StatusCounts.{except, except_own, except_other, less_self, one_of}
 
 -- 1 where the test holds
 abbrev pub one : Bool → ℕ
@@ -18,37 +19,11 @@ abbrev pub tally_below : (ℕ → Bool) → ℕ → ℕ
 tally_below g zero = 0
 tally_below g (suc n) = one (g n) + tally_below g n
 
--- the test, but for k
-abbrev unless : Bool → Bool → Bool
-unless true b = false
-unless false b = b
-
-abbrev except : ℕ → (ℕ → Bool) → ℕ → Bool
-except k g i = unless (i == k) (g i)
-
-same_yes : (k : ℕ) → (k == k) ≡ true
-same_yes k = grind arith
-
-same_no : (i k : ℕ) → (i ≡ k → ⊥) → (i == k) ≡ false
-same_no i k h = grind arith
-
-except_own : (k : ℕ) (g : ℕ → Bool) → except k g k ≡ false
-except_own k g = ap (λ (b : Bool). unless b (g k)) (same_yes k)
-
-except_other : (k : ℕ) (g : ℕ → Bool) (i : ℕ) → (i ≡ k → ⊥) → except k g i ≡ g i
-except_other k g i h = ap (λ (b : Bool). unless b (g i)) (same_no i k h)
-
-less_self : (m n : ℕ) → m < n → m ≡ n → ⊥
-less_self m n h e = omega (arith, h, e)
-
 pub tally_alike : (g h : ℕ → Bool) (n : ℕ) → ((i : ℕ) → i < n → g i ≡ h i) → tally_below g n ≡ tally_below h n
 tally_alike g h zero e = refl
 tally_alike g h (suc n) e =
     let rest = tally_alike g h n (λ i l. e i (omega (arith, l))) in
     let first = ap (λ (b : Bool). one b) (e n (omega arith)) in omega (arith, rest, first)
-
-one_of : (k n : ℕ) → k < suc n → (k ≡ n) ⊎ (k < n)
-one_of k n h = grind arith
 
 -- one number taken out
 taken_out : (k n : ℕ) (g : ℕ → Bool) → k < n → tally_below g n ≡ one (g k) + tally_below (except k g) n

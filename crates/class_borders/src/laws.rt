@@ -1,5 +1,5 @@
 //! Laws of the borders of classes.
-ghost use Rattle.std.specs.Prelude.{◌≡◌, ◌≢◌, ◌↔◌, ◌<◌, ℕ, All, AllPairs, Contains, length};
+ghost use Rattle.std.specs.Prelude.{◌≡◌, ◌≢◌, ◌↔◌, ◌<◌, ℕ, AllPairs, Contains, length};
 ghost use Rattle.grid_base.specs.Point.{GridPoint};
 ghost use Rattle.grid_base.specs.Segment.{GridSegment, IsSegmentBefore};
 ghost use Rattle.grid_base.specs.Sides.{Side, Right};
@@ -7,13 +7,13 @@ ghost use Rattle.grid_base.specs.Plane.{Place};
 ghost use Rattle.grid_base.specs.Border.{AreNoded, IsEvenBorder};
 ghost use Rattle.grid_base.specs.Odd.{Odd};
 ghost use Rattle.r_cycles.specs.Cycles.{IsCycle, CutsIntoCycles};
-ghost use Rattle.plane_cells.specs.Sheared.{IsOnGrid};
 ghost use Rattle.plane_cells.specs.ClassNumbers.{number_at, LiesBeside, AreClassNumbers};
 ghost use Rattle.class_borders.specs.ClassLinks.{class_links, class_rim, departures, arrivals};
 ghost use Rattle.class_borders.specs.ClassBorders.{LiesBetween, GoesAlong, GoesOneWay};
 
 use grid_base::{Chain, Point, Segment};
 use plane_cells::SideClasses;
+use segment_lists::each_is_on_grid;
 
 /// Go along each segment that has a class on just one side, with the class on the left: then as many segments
 /// are left at each point as come in there.
@@ -75,17 +75,4 @@ pub fn cycles_go_one_way(border: &[Segment], numbers: &[SideClasses], cycle: &[P
         → GoesOneWay (class_links n border.now numbers.now) cycle.now }
 {
     each_is_on_grid(border);
-}
-
-/// Each segment has its lesser end first and is on the grid, as the types say.
-pub fn each_is_on_grid(list: &[Segment])
-    ensures { All IsOnGrid list.now }
-{
-    for s in list {
-        let lesser = s.a();
-        let greater = s.b();
-        let _row = lesser.y();
-        let _end_column = greater.x();
-        let _end_row = greater.y();
-    }
 }

@@ -5,6 +5,6 @@
 mod laws;
 
 pub use laws::{
-    classes_turn_whole, cycles_go_one_way, each_is_on_grid, one_cycle_between_classes,
-    rims_are_even, some_side_is_outer,
+    classes_turn_whole, cycles_go_one_way, one_cycle_between_classes, rims_are_even,
+    some_side_is_outer,
 };

@@ -184,6 +184,19 @@ pub due_column : (t s : GridSegment) (p : GridPoint) (c b bound : ℕ) → t ≡
 due_column t s p c b bound e f g l h = let k : column_of t.a ≡ c = ap (λ (u : GridSegment). column_of u.a) e ∙ ap column_of (sym f)
     ∙ sym g in omega (arith, k, l, h)
 
+-- what is read at the place of the next answer is asked for next, and is due where the column that was read there is
+pub due_next : (V : List ℕ) (m : ℕ) (list : List GridSegment) (n : ℕ) (tested read : GridSegment) (i k : ℕ) (p : GridPoint) (c b : ℕ)
+    → n < length list → i ≡ n → tested ≡ get_or list i tested → p ≡ (get_or list i tested).a → c ≡ column_of p → c < b
+    → b ≡ bound_at V m → k ≡ n → read ≡ get_or list k read
+    → (get_or list k read ≡ numbered list n) × (column_of (get_or list k read).a < bound_at V m)
+due_next V m list n tested read i k p c b short at is end column due bound again same =
+    let now : tested ≡ numbered list n = read_segment list n i tested short at is in
+    let next : get_or list k read ≡ numbered list n = sym same ∙ read_segment list n k read short again same in (
+      next,
+      due_column (get_or list k read) tested p c b (bound_at V m) (next ∙ sym now)
+          (end ∙ ap (λ (u : GridSegment). u.a) (sym is)) column due bound,
+    )
+
 pub late_column : (s t : GridSegment) (p : GridPoint) (c b bound : ℕ) → s ≡ t → p ≡ s.a → c ≡ column_of p → b ≤ c → b ≡ bound
     → bound ≤ column_of t.a
 late_column s t p c b bound e f g l h = let k : column_of t.a ≡ c = ap (λ (u : GridSegment). column_of u.a) (sym e) ∙ ap column_of (sym f)

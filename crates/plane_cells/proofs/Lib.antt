@@ -64,8 +64,6 @@ pub mod Rights
 pub mod Passing
 -- the sweep from its beginning to its end
 pub mod Whole
--- binary searches in ascending lists
-pub mod Searches
 -- loops that keep some segments of a list
 pub mod Kept
 -- each class but the outer one has a side
@@ -104,5 +102,3 @@ pub mod EveryEnd
 pub mod RimCounts
 -- the region of all that isn't outer
 pub mod ShutIn
--- segments that are apart are those of a realm
-pub mod Noding

@@ -10,7 +10,8 @@ use Rattle.grid_base.proofs.Ends.{not_before_itself, columns_in_order as columns
 use Rattle.plane_classes.proofs.Shears.{columns_in_order}
 use Rattle.plane_classes.proofs.RealmPlaces.{meet_in_ends}
 use Rattle.plane_cells.specs.Numbered.{nowhere, numbered}
-use Rattle.plane_cells.specs.Sheared.{IsOnGrid, AreOfRealm}
+use Rattle.segment_lists.specs.OnGrid.{IsOnGrid}
+use Rattle.plane_cells.specs.Sheared.{AreOfRealm}
 use Rattle.plane_cells.specs.Scan.{column_of, AreAscending}
 use Rattle.plane_cells.specs.Swept.{AreOthers}
 use Rattle.plane_cells.proofs.ShearedRealm.{numbered_in}

@@ -10,7 +10,7 @@ abbrev pub par_below : (ℕ → Bool) → ℕ → Bool
 par_below g zero = false
 par_below g (suc n) = xor (g n) (par_below g n)
 
-abbrev unless : Bool → Bool → Bool
+abbrev pub unless : Bool → Bool → Bool
 unless true b = false
 unless false b = b
 
@@ -24,13 +24,13 @@ same_yes k = grind arith
 same_no : (i k : ℕ) → (i ≡ k → ⊥) → (i == k) ≡ false
 same_no i k h = grind arith
 
-except_own : (k : ℕ) (g : ℕ → Bool) → except k g k ≡ false
+pub except_own : (k : ℕ) (g : ℕ → Bool) → except k g k ≡ false
 except_own k g = ap (λ (b : Bool). unless b (g k)) (same_yes k)
 
-except_other : (k : ℕ) (g : ℕ → Bool) (i : ℕ) → (i ≡ k → ⊥) → except k g i ≡ g i
+pub except_other : (k : ℕ) (g : ℕ → Bool) (i : ℕ) → (i ≡ k → ⊥) → except k g i ≡ g i
 except_other k g i h = ap (λ (b : Bool). unless b (g i)) (same_no i k h)
 
-less_self : (m n : ℕ) → m < n → m ≡ n → ⊥
+pub less_self : (m n : ℕ) → m < n → m ≡ n → ⊥
 less_self m n h e = omega (arith, h, e)
 
 pub both : (a b c d : Bool) → a ≡ c → b ≡ d → xor a b ≡ xor c d
@@ -48,7 +48,7 @@ below_same : (k n : ℕ) (g : ℕ → Bool) → ((i : ℕ) → i < n → i ≡ k
 below_same k zero g h = refl
 below_same k (suc n) g h = both _ _ _ _ (except_other k g n (h n (omega arith))) (below_same k n g (λ i l. h i (omega (arith, l))))
 
-one_of : (k n : ℕ) → k < suc n → (k ≡ n) ⊎ (k < n)
+pub one_of : (k n : ℕ) → k < suc n → (k ≡ n) ⊎ (k < n)
 one_of k n h = grind arith
 
 -- one number taken out

@@ -1,8 +1,9 @@
 -- The plane, sheared so that the order of points is the order of columns. No public clause cites this file.
 use Rattle.std.specs.Prelude.{◌≡◌, ℕ, ◌^◌, ◌<◌, List, Contains, length}
-use Rattle.grid_base.specs.Point.{GridPoint, IsBefore}
+use Rattle.grid_base.specs.Point.{GridPoint}
 use Rattle.grid_base.specs.Segment.{GridSegment}
 use Rattle.grid_base.specs.Segment.{IsEnd}
+use Rattle.segment_lists.specs.OnGrid.{IsOnGrid}
 use Rattle.plane_classes.specs.Shear.{sheared}
 use Rattle.plane_cells.specs.Numbered.{numbered}
 use Rattle.grid_base.specs.Plane.{Place, Holds, IsAtPoint}
@@ -10,13 +11,6 @@ use Rattle.grid_base.specs.Plane.{Place, Holds, IsAtPoint}
 -- where segment number i of the list is in the sheared plane
 abbrev pub sheared_number : List GridSegment → ℕ → GridSegment
 sheared_number B i = sheared (2 ^ 28) (numbered B i)
-
--- the lesser end of s comes first, and s is on the grid
-pub record IsOnGrid (s : GridSegment) : Type 0 where
-  pub order : IsBefore s.a s.b
-  pub row : s.a.y < 2 ^ 28
-  pub end_column : s.b.x < 2 ^ 28
-  pub end_row : s.b.y < 2 ^ 28
 
 -- the segments are those of a realm, and none is listed twice
 pub record AreOfRealm (B : List GridSegment) : Type 0 where

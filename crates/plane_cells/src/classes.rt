@@ -4,9 +4,9 @@ ghost use Rattle.grid_base.specs.Segment.{IsSegmentBefore};
 ghost use Rattle.grid_base.specs.Border.{AreNoded};
 ghost use Rattle.plane_cells.specs.ClassNumbers.{AreClassNumbers};
 
-use crate::listing::each_is_on_grid;
 use crate::numbers::find_numbers;
 use grid_base::{NoMemory, Segment};
+use segment_lists::each_is_on_grid;
 use std::alloc::Global;
 
 /// The numbers of the classes just left and just right of a segment, seen from its lesser end.

@@ -5,10 +5,10 @@ ghost use Rattle.plane_classes.specs.Classes.{IsOuter};
 ghost use Rattle.plane_cells.specs.Rims.{is_rim, rims};
 
 use crate::classes::SideClasses;
-use crate::listing::each_is_on_grid;
 use crate::numbers::find_numbers;
 use grid_base::{NoMemory, Segment};
 use rose_values::{LinesValue, RegionsValue};
+use segment_lists::each_is_on_grid;
 use std::alloc::Global;
 
 /// The region of all places that aren't in the outer class of the lines. Its border is made of segments of

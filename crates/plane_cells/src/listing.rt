@@ -1,24 +1,10 @@
 //! Segments in ascending lists.
-ghost use Rattle.std.specs.Prelude.{◌≡◌, ◌↔◌, ◌<◌, IsTrue, IfOk, length, All, AllPairs, Contains};
+ghost use Rattle.std.specs.Prelude.{◌≡◌, ◌↔◌, ◌<◌, IsTrue, IfOk, length, AllPairs, Contains};
 ghost use Rattle.grid_base.specs.Segment.{GridSegment, IsSegmentBefore};
 ghost use Rattle.plane_cells.specs.Numbered.{numbered};
-ghost use Rattle.plane_cells.specs.Sheared.{IsOnGrid};
 
 use grid_base::{NoMemory, Segment};
 use std::alloc::Global;
-
-// Each segment has its lesser end first and is on the grid, as the types say.
-pub(crate) fn each_is_on_grid(list: &[Segment])
-    ensures { All IsOnGrid list.now }
-{
-    for s in list {
-        let lesser = s.a();
-        let greater = s.b();
-        let _row = lesser.y();
-        let _end_column = greater.x();
-        let _end_row = greater.y();
-    }
-}
 
 // Whether the list has the segment.
 pub(crate) fn has(list: &[Segment], s: &Segment) -> bool

@@ -8,9 +8,10 @@ ghost use Rattle.plane_cells.specs.ClassNumbers.{AreClassNumbers};
 ghost use Rattle.plane_cells.specs.OtherNumbers.{AreOtherNumbers};
 ghost use Rattle.plane_cells.specs.OuterSides.{AreOuterSides};
 
-use crate::listing::{each_is_on_grid, has, number_of, without};
+use crate::listing::{has, number_of, without};
 use crate::numbers::{Numbers, find_numbers};
 use grid_base::{NoMemory, Segment, Sides};
+use segment_lists::each_is_on_grid;
 use std::alloc::Global;
 
 /// For each segment of the list, in order, whether what lies beside it on its left, and on its right, is in

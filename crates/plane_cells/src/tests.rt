@@ -1,62 +1,21 @@
 //! Worked borders, drawn on squared paper. An expected number names the class of a side as it is seen there:
 //! 0 for the outer one, and any others for the rest.
-ghost use Rattle.std.specs.Prelude.{◌⊎◌, ◌↔◌, IsTrue, IfOk, All, AllPairs};
+ghost use Rattle.std.specs.Prelude.{IfOk, AllPairs};
 ghost use Rattle.grid_base.specs.Segment.{IsSegmentBefore};
-ghost use Rattle.grid_base.specs.Border.{AreNoded};
-ghost use Rattle.grid_base.specs.Crossing.{Inside, Cross};
 
-use crate::listing::each_is_on_grid;
 use crate::{interior, outer_sides, side_classes};
-use grid_base::{Point, Segment, crosses, in_side};
+use grid_base::Segment;
 use rose_values::LinesValue;
+use segment_lists::{are_noded, ascending_segments, segments_with};
 use std::alloc::Global;
 use std::test::Fail;
-
-// Whether the two cross, or an end of `t` is inside `s`.
-fn disturbs(s: &Segment, t: &Segment) -> bool
-    ensures { IsTrue result
-        ↔ (Cross s.now t.now ⊎ (Inside t.now.a s.now ⊎ Inside t.now.b s.now)) }
-{
-    crosses(s, t) || in_side(s, &t.a()) || in_side(s, &t.b())
-}
-
-// Whether none of the list disturbs `s`.
-fn leaves(list: &[Segment], s: &Segment) -> bool
-    ensures { IsTrue result → All (λ t. ¬ (Cross s.now t ⊎ (Inside t.a s.now ⊎ Inside t.b s.now))) list.now }
-{
-    list.iter().all(|t| !disturbs(s, t))
-}
-
-// Whether the segments are those of a realm.
-fn are_noded(list: &[Segment]) -> bool
-    ensures { IsTrue result → AreNoded list.now }
-{
-    each_is_on_grid(list);
-    for s in list {
-        if !leaves(list, s) {
-            return false;
-        }
-    }
-    true
-}
-
-fn segment(ends: &[u64; 4]) -> Result<Segment, Fail> {
-    let [x, y, u, v] = *ends;
-    let found = Segment::new(Point::new(x, y)?, Point::new(u, v)?);
-    Ok(found.ok_or("equal ends")?)
-}
 
 // The segments with these ends, in order.
 fn segments(alloc: Global, table: &[[u64; 4]]) -> Result<Vec<Segment>, Fail>
     ensures ascending { IfOk result (λ v. AllPairs IsSegmentBefore v.items) }
 {
-    let mut list = Vec::new(alloc);
-    for ends in table {
-        list.push(segment(ends)?)?;
-    }
-    list.sort_unstable();
-    list.dedup();
-    Ok(list)
+    let list = segments_with(alloc, table)?.ok_or("no segment")?;
+    Ok(ascending_segments(list))
 }
 
 // Whether the sides of the border, in order, have one number exactly where they are expected to, and 0 too.

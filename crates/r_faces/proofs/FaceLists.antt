@@ -11,7 +11,7 @@ use Rattle.grid_base.specs.Segment.{GridSegment}
 use Rattle.grid_base.specs.Plane.{Place}
 use Rattle.rose_values.specs.Areas.{IsInteriorPoint}
 use Rattle.plane_classes.specs.Classes.{IsOuter}
-use Rattle.plane_cells.specs.Sheared.{IsOnGrid}
+use Rattle.segment_lists.specs.OnGrid.{IsOnGrid}
 use Rattle.r_cycles.specs.Cycles.{Link, link, links, round}
 use Rattle.r_faces.specs.FaceCycles.{RunsBetween, IsBorderCycle, IsFaceOf, AreFaces}
 use Rattle.r_faces.specs.Rims.{IsFaceRim, IsSomeRim, HaveNone, IsWithin}

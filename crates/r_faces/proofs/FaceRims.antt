@@ -20,7 +20,8 @@ use Rattle.plane_classes.proofs.RealmPlaces.{alone_in_realm}
 use Rattle.plane_classes.proofs.SideLaws.{one_is_odd, once_in}
 use Rattle.plane_classes.proofs.Ways.{AreInOrder}
 use Rattle.plane_cells.specs.Numbered.{nowhere, numbered}
-use Rattle.plane_cells.specs.Sheared.{IsOnGrid, AreOfRealm}
+use Rattle.segment_lists.specs.OnGrid.{IsOnGrid}
+use Rattle.plane_cells.specs.Sheared.{AreOfRealm}
 use Rattle.plane_cells.specs.ClassNumbers.{number_at, LiesBeside, AreClassNumbers}
 use Rattle.plane_cells.specs.declared.classes.SideClasses.{SideClasses}
 use Rattle.plane_cells.proofs.OfRealm.{of_realm}

@@ -19,10 +19,11 @@ use crate::face::Face;
 use crate::ordering::in_order;
 use crate::parts::parted;
 use crate::turning::turned;
-use class_borders::{each_is_on_grid, one_cycle_between_classes, some_side_is_outer};
+use class_borders::{one_cycle_between_classes, some_side_is_outer};
 use grid_base::{Chain, NoMemory, Point, Segment};
 use plane_cells::{SideClasses, side_classes};
 use r_cycles::cycles;
+use segment_lists::each_is_on_grid;
 use std::alloc::Global;
 
 // The face inside the rim.

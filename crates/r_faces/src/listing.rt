@@ -8,9 +8,9 @@ use crate::bounds::face_of;
 use crate::face::Face;
 use crate::ordering::faces_in_order;
 use crate::rims::rims_of;
-use class_borders::each_is_on_grid;
 use grid_base::{NoMemory, Segment};
 use rose_values::RegionsValue;
+use segment_lists::each_is_on_grid;
 use std::alloc::Global;
 
 /// The faces of the region, each once, in the order of their outer cycles; a face has one hole for each part

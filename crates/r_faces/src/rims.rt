@@ -11,10 +11,10 @@ ghost use Rattle.plane_cells.specs.ClassNumbers.{AreClassNumbers};
 ghost use Rattle.r_faces.specs.Rims.{IsFaceRim, IsSomeRim, HaveNone, AreOddSides};
 
 use crate::parts::parted;
-use class_borders::each_is_on_grid;
 use grid_base::{NoMemory, Segment, Sides};
 use plane_cells::{SideClasses, side_classes};
 use plane_sweep::sides_of_list;
+use segment_lists::each_is_on_grid;
 use std::alloc::Global;
 
 // For each face its rim.

@@ -2,7 +2,7 @@ use Rattle.std.proofs.Common.{ap, length}
 use Rattle.std.proofs.lemmas.List.Elements.{All-contains, Contains-get_or}
 use Rattle.plane_classes.proofs.RealmPlaces.{alone_in_realm}
 use Rattle.plane_cells.specs.Numbered.{nowhere}
-use Rattle.plane_cells.specs.Sheared.{IsOnGrid}
+use Rattle.segment_lists.specs.OnGrid.{IsOnGrid}
 use Rattle.class_borders.proofs.OneCycles.{IsBetween, one_cycle}
 use Rattle.class_borders.proofs.laws.one_cycle_between_classes.Goals as goal
 

@@ -7,7 +7,7 @@ use Rattle.plane_classes.specs.Classes.{IsOuter}
 use Rattle.plane_cells.specs.Rims.{rims}
 use Rattle.plane_cells.specs.declared.classes.SideClasses.{SideClasses}
 use Rattle.plane_cells.proofs.OfRealm.{of_realm, ascending_of, no_others}
-use Rattle.plane_cells.proofs.Noding.{noded_part}
+use Rattle.segment_lists.proofs.Noding.{noded_part}
 use Rattle.plane_cells.proofs.RimCounts.{rims_part, rims_ascend}
 use Rattle.plane_cells.proofs.interiors.interior.Goals as goal
 

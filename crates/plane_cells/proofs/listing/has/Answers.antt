@@ -1,4 +1,4 @@
-use Rattle.plane_cells.proofs.Searches.{segment_found}
+use Rattle.segment_lists.proofs.Searches.{segment_found}
 use Rattle.plane_cells.proofs.listing.has.Goals as goal
 
 -- the search tells whether the segment is there

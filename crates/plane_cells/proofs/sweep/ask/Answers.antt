@@ -5,7 +5,7 @@ use Rattle.plane_cells.specs.Scan.{IsUnderBegin}
 use Rattle.plane_cells.specs.Numbered.{numbered}
 use Rattle.plane_cells.specs.Swept.{wall_before, bound_at}
 use Rattle.plane_cells.proofs.Passing.{small_here}
-use Rattle.plane_cells.proofs.Asking.{sorted_there, asking_more, rest_later, read_segment, due_column, late_column}
+use Rattle.plane_cells.proofs.Asking.{sorted_there, asking_more, rest_later, read_segment, due_next, late_column}
 use Rattle.plane_cells.proofs.sweep.ask.Goals as goal
 
 -- the segment that is asked for lies so in the status
@@ -17,20 +17,17 @@ count_under-count-requires-clause-sorted c =
     let t = get_or s.list.now c.len-in-loop-sweep-2.result t0 in
     let short : length s.asked.items < length s.list.now = omega (arith, c.loop-sweep-test.true, c.len.ensures, s.asked.ok) in
     let same = c.loop-sweep.invariant.same in
-    let e = sym c.index-sweep-len-in-loop-sweep.is ∙ read_segment s.list.now (length s.asked.items) c.len-in-loop-sweep-2.result t0 short
-    (omega (arith, c.len-in-loop-sweep-2.ensures, s.asked.ok)) c.index-sweep-len-in-loop-sweep.is in
-    let e0 = read_segment s.list.now (length s.asked.items) c.len-in-loop-sweep.result c.index-sweep-len.result short
-    (omega (arith, c.len-in-loop-sweep.ensures, s.asked.ok)) c.index-sweep-len.is in
-    let to = due_column t c.index-sweep-len.result c.a.result c.column.result c.bound-bound.result
-    (bound_at c.args.vertices.now c.args.index) (e ∙ sym e0)
-    (c.a.ensures.end ∙ ap (λ (u : GridSegment). u.a) (sym c.index-sweep-len.is)) c.column.ensures.column c.if-column-bound.true
-    c.bound-bound.ensures in
+    let next = due_next c.args.vertices.now c.args.index s.list.now (length s.asked.items) c.index-sweep-len.result t0
+    c.len-in-loop-sweep.result c.len-in-loop-sweep-2.result c.a.result c.column.result c.bound-bound.result short
+    (omega (arith, c.len-in-loop-sweep.ensures, s.asked.ok)) c.index-sweep-len.is c.a.ensures.end c.column.ensures.column
+    c.if-column-bound.true c.bound-bound.ensures (omega (arith, c.len-in-loop-sweep-2.ensures, s.asked.ok))
+    c.index-sweep-len-in-loop-sweep.is in
     subst (Pairs (λ i j. IsUnderBegin (numbered c.args.border.now j) t → IsUnderBegin (numbered c.args.border.now i) t))
     (sym c.deref.ensures.value)
     (sorted_there c.args.border.now c.args.vertices.now c.args.index s.status.items s.next s.links.items s.right.items T s.asked.items t
     c.requires.realm c.requires.vertices c.requires.index c.requires.others c.loop-sweep.invariant.swept
     (subst (λ (l : List GridSegment). length s.asked.items < length l) same short)
-    (e ∙ ap (λ (l : List GridSegment). numbered l (length s.asked.items)) same) to)
+    (next.0 ∙ ap (λ (l : List GridSegment). numbered l (length s.asked.items)) same) next.1)
 
 pub label-found-requires-clause-fits : goal.label-found-requires-clause-fits
 label-found-requires-clause-fits c =
@@ -48,14 +45,11 @@ loop-sweep-preserved c =
     let t = get_or s.list.now c.len-in-loop-sweep-2.result t0 in
     let k = c.count_under-count.result in
     let short : length s.asked.items < length s.list.now = omega (arith, c.loop-sweep-test.true, c.len.ensures, s.asked.ok) in
-    let e = sym c.index-sweep-len-in-loop-sweep.is ∙ read_segment s.list.now (length s.asked.items) c.len-in-loop-sweep-2.result t0 short
-    (omega (arith, c.len-in-loop-sweep-2.ensures, s.asked.ok)) c.index-sweep-len-in-loop-sweep.is in
-    let e0 = read_segment s.list.now (length s.asked.items) c.len-in-loop-sweep.result c.index-sweep-len.result short
-    (omega (arith, c.len-in-loop-sweep.ensures, s.asked.ok)) c.index-sweep-len.is in
-    let to = due_column t c.index-sweep-len.result c.a.result c.column.result c.bound-bound.result
-    (bound_at c.args.vertices.now c.args.index) (e ∙ sym e0)
-    (c.a.ensures.end ∙ ap (λ (u : GridSegment). u.a) (sym c.index-sweep-len.is)) c.column.ensures.column c.if-column-bound.true
-    c.bound-bound.ensures in
+    let next = due_next c.args.vertices.now c.args.index s.list.now (length s.asked.items) c.index-sweep-len.result t0
+    c.len-in-loop-sweep.result c.len-in-loop-sweep-2.result c.a.result c.column.result c.bound-bound.result short
+    (omega (arith, c.len-in-loop-sweep.ensures, s.asked.ok)) c.index-sweep-len.is c.a.ensures.end c.column.ensures.column
+    c.if-column-bound.true c.bound-bound.ensures (omega (arith, c.len-in-loop-sweep-2.ensures, s.asked.ok))
+    c.index-sweep-len-in-loop-sweep.is in
     let below : Each (λ i. IsUnderBegin (numbered B i) t) (take k s.status.items) =
     subst (λ (l : List ℕ). Each (λ i. IsUnderBegin (numbered B i) t) (take k l)) c.deref.ensures.value c.count_under-count.ensures.below
     in
@@ -66,7 +60,7 @@ loop-sweep-preserved c =
     (λ (l : List ℕ). label_over 0 (take k l)) c.deref-in-loop-sweep.ensures.value in
     asking_more B c.args.vertices.now c.args.index s.status.items s.next s.links.items s.right.items c.args.sweep.now.list.now s.list.now
     s.asked.items c.push.new.self.items t k c.label-found.result
-    c.requires.realm c.requires.vertices c.requires.index c.requires.others c.loop-sweep.invariant short e to below others found
+    c.requires.realm c.requires.vertices c.requires.index c.requires.others c.loop-sweep.invariant short next.0 next.1 below others found
     c.in_ok-push.ensures.items
 
 -- no more segments are due

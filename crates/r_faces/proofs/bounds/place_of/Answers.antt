@@ -1,7 +1,7 @@
 use Rattle.std.proofs.Common.{◌∙◌}
 use Rattle.grid_base.proofs.Elements.{same_place}
 use Rattle.plane_cells.specs.Numbered.{nowhere}
-use Rattle.plane_cells.proofs.Searches.{segment_at}
+use Rattle.segment_lists.proofs.Searches.{segment_at}
 use Rattle.r_faces.proofs.bounds.place_of.Goals as goal
 
 -- the search finds the segment

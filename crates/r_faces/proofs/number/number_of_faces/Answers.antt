@@ -4,7 +4,7 @@ use Rattle.std.proofs.lemmas.List.Kept.{AllPairs-from_increasing}
 use Rattle.grid_base.specs.Segment.{GridSegment}
 use Rattle.grid_base.specs.Border.{AreNoded, IsEvenBorder}
 use Rattle.plane_cells.specs.declared.classes.SideClasses.{SideClasses}
-use Rattle.plane_cells.proofs.Noding.{noded_part}
+use Rattle.segment_lists.proofs.Noding.{noded_part}
 use Rattle.r_faces.specs.Faces.{IsNumberOfFaces}
 use Rattle.r_faces.specs.Rims.{AreOddSides}
 use Rattle.r_faces.proofs.FaceNumbers.{by_sides, faces_by_numbers}

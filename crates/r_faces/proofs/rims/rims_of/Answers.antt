@@ -4,7 +4,7 @@ use Rattle.std.proofs.lemmas.List.Kept.{AllPairs-from_increasing}
 use Rattle.grid_base.specs.Segment.{GridSegment}
 use Rattle.grid_base.proofs.Elements.{same_place}
 use Rattle.plane_cells.specs.declared.classes.SideClasses.{SideClasses}
-use Rattle.plane_cells.proofs.Noding.{noded_part}
+use Rattle.segment_lists.proofs.Noding.{noded_part}
 use Rattle.r_blocks.specs.Places.{those}
 use Rattle.r_faces.specs.Rims.{IsFaceRim, IsSomeRim, AreOddSides}
 use Rattle.r_faces.proofs.FaceRims.{known, some_rim, rim_of_place, rims_apart}
