@@ -253,26 +253,6 @@ impl Store {
         if generation_of(self.place) >= LAST_GENERATION {
             return Err(CheckpointError::Generations);
         }
-        self.renew(world)
-    }
-
-    // Writes the state as the next generation.
-    fn renew<W: Outside>(&mut self, world: &mut W) -> Result<(), CheckpointError>
-        requires ready { self.old.spent ≡ false }
-        requires greater { generation_of self.old.kept.place < 2 ^ 63 }
-        requires rest { W.tells world.old → AllRest self.old.kept (W.view world.old) }
-        ensures renewed { OnOk result (IsRenewed self.old.kept self.new.kept) }
-        ensures not_last { IsErrOf result CheckpointError.Generations → ⊥ }
-        ensures untouched { IsErrOf result CheckpointError.NoMemory → world.new ≡ world.old }
-        ensures spent { (self.new.spent ≡ true)
-            ↔ ((result ≡ Err CheckpointError.Disk) ⊎ (result ≡ Err CheckpointError.NoMemory)) }
-        ensures disk_fault { IsErrOf result CheckpointError.Disk
-            → Rose (W.disk_faults world.old) (W.disk_faults world.new) }
-        ensures cut_off { IsErrOf result CheckpointError.Disk → (after : Kept) × IsRenewed self.old.kept after }
-        ensures stays { W.tells world.new → Stays (W.view world.old) (W.view world.new) self.old.kept.state }
-        ensures rest { OnOk result (W.tells world.new → AllRest self.new.kept (W.view world.new)) }
-        ensures goes_on { GoesOn ⟦<W as Outside>⟧ world.old world.new }
-    {
         self.spent = true;
         let file = next_file(self.place);
         let generation = generation_of(self.place) + 1;
