@@ -10,7 +10,7 @@ ghost use Rattle.rose_overlay.specs.declared.evaluating.EvalError.TheVariants.{W
 ghost use Rattle.rose_operators.specs.Results.{IsResultOf};
 
 use plane_cells::interior;
-use rose_overlay::{EvalError, evaluate, evaluate_alone};
+use rose_overlay::{EvalError, EvalResult, evaluate, evaluate_alone};
 use rose_values::{Geometry, Op};
 use std::alloc::Global;
 use std::thread::Threads;
@@ -23,7 +23,7 @@ pub fn operate<R: Threads + Sync>(
     op: Op,
     a: &Geometry,
     b: Option<&Geometry>,
-) -> Result<Geometry, EvalError>
+) -> EvalResult
     requires noded { AreNoded (segments_of a.now ++ segments_of_second (option_copied b)) }
     ensures made { IfOk result (λ g. IsResultOf op a.now (option_copied b.entry) g) }
     ensures wrong_types { (result ≡ Err WrongTypes)
@@ -37,12 +37,7 @@ pub fn operate<R: Threads + Sync>(
 }
 
 /// The same on one thread.
-pub fn operate_alone(
-    alloc: Global,
-    op: Op,
-    a: &Geometry,
-    b: Option<&Geometry>,
-) -> Result<Geometry, EvalError>
+pub fn operate_alone(alloc: Global, op: Op, a: &Geometry, b: Option<&Geometry>) -> EvalResult
     requires noded { AreNoded (segments_of a.now ++ segments_of_second (option_copied b)) }
     ensures made { IfOk result (λ g. IsResultOf op a.now (option_copied b.entry) g) }
     ensures wrong_types { (result ≡ Err WrongTypes)
@@ -56,7 +51,7 @@ pub fn operate_alone(
 }
 
 // What lines shut in. Nothing else has an interior.
-fn shut_in(alloc: Global, a: &Geometry, b: Option<&Geometry>) -> Result<Geometry, EvalError>
+fn shut_in(alloc: Global, a: &Geometry, b: Option<&Geometry>) -> EvalResult
     ensures made { IfOk result (λ g. IsResultOf Interior a.now (option_copied b.entry) g) }
     ensures wrong_types { (result ≡ Err WrongTypes)
         ↔ (result_kind_of Interior (kind_of a.now) (option_map kind_of (option_copied b.entry)) ≡ None) }

@@ -1,43 +1,15 @@
 //! Each call once on its happy path, with what is seen on squared paper: a square with a dead end.
-ghost use Rattle.std.specs.Prelude.{◌⊎◌, ◌↔◌, ◌++◌, [], IsTrue, IfOk, All};
+ghost use Rattle.std.specs.Prelude.{◌↔◌, ◌++◌, [], IsTrue, IfOk, All};
 ghost use Rattle.grid_base.specs.Border.{AreNoded};
-ghost use Rattle.grid_base.specs.Crossing.{Inside, Cross};
 ghost use Rattle.rose_values.specs.Operators.{segments_of};
 
 use crate::{operate, operate_alone};
-use grid_base::{Point, Segment, crosses, in_side};
-use rose_overlay::{EvalError, ascending_segments, lesser_ends_first};
+use grid_base::{Point, Segment};
+use rose_overlay::{EvalError, ascending_segments};
 use rose_values::{Geometry, LinesValue, Op};
+use segment_lists::are_noded;
 use std::alloc::Global;
 use std::test::Fail;
-
-// Whether the two cross, or an end of `t` is inside `s`.
-fn disturbs(s: &Segment, t: &Segment) -> bool
-    ensures { IsTrue result
-        ↔ (Cross s.now t.now ⊎ (Inside t.now.a s.now ⊎ Inside t.now.b s.now)) }
-{
-    crosses(s, t) || in_side(s, &t.a()) || in_side(s, &t.b())
-}
-
-// Whether none of the list disturbs `s`.
-fn leaves(list: &[Segment], s: &Segment) -> bool
-    ensures { IsTrue result → All (λ t. ¬ (Cross s.now t ⊎ (Inside t.a s.now ⊎ Inside t.b s.now))) list.now }
-{
-    list.iter().all(|t| !disturbs(s, t))
-}
-
-// Whether the segments are those of a realm.
-fn are_noded(list: &[Segment]) -> bool
-    ensures { IsTrue result → AreNoded list.now }
-{
-    lesser_ends_first(list);
-    for s in list {
-        if !leaves(list, s) {
-            return false;
-        }
-    }
-    true
-}
 
 // The segments with these ends.
 fn segments(alloc: Global, table: &[[u64; 4]]) -> Result<Vec<Segment>, Fail> {

@@ -1,49 +1,21 @@
 //! Worked cases, drawn on squared paper. The tables of triangles say which triangle of the paper is in a region,
 //! so what an operator makes is known without it.
-ghost use Rattle.std.specs.Prelude.{◌≡◌, ◌⊎◌, ◌↔◌, ◌++◌, ◌∷◌, IsTrue, IfOk, All, Contains};
+ghost use Rattle.std.specs.Prelude.{◌≡◌, ◌↔◌, ◌++◌, ◌∷◌, IsTrue, IfOk, All, Contains};
 ghost use Rattle.grid_base.specs.Segment.{GridSegment};
 ghost use Rattle.grid_base.specs.Border.{AreNoded, IsEvenBorder};
-ghost use Rattle.grid_base.specs.Crossing.{Inside, Cross};
 ghost use Rattle.rose_values.specs.Operators.{segments_of};
 ghost use Rattle.rose_values.specs.declared.operators.Op.{Op};
 ghost use Rattle.rose_values.specs.declared.operators.Op.TheVariants.{Interior};
 ghost use Rattle.std.specs.Prelude.{◌≢◌};
 
-use crate::listing::{ascending_points, ascending_segments, joined, lesser_ends_first};
+use crate::listing::{ascending_points, ascending_segments, joined};
 use crate::{EvalError, evaluate, evaluate_alone};
-use grid_base::{Point, Segment, Sides, above_at, crosses, in_side};
+use grid_base::{Point, Segment, Sides, above_at};
 use rose_values::{Geometry, LinesValue, Op, PointsValue, RegionsValue};
+use segment_lists::are_noded;
 use side_parity::sides;
 use std::alloc::Global;
 use std::test::Fail;
-
-// Whether the two cross, or an end of `t` is inside `s`.
-fn disturbs(s: &Segment, t: &Segment) -> bool
-    ensures { IsTrue result
-        ↔ (Cross s.now t.now ⊎ (Inside t.now.a s.now ⊎ Inside t.now.b s.now)) }
-{
-    crosses(s, t) || in_side(s, &t.a()) || in_side(s, &t.b())
-}
-
-// Whether none of the list disturbs `s`.
-fn leaves(list: &[Segment], s: &Segment) -> bool
-    ensures { IsTrue result → All (λ t. ¬ (Cross s.now t ⊎ (Inside t.a s.now ⊎ Inside t.b s.now))) list.now }
-{
-    list.iter().all(|t| !disturbs(s, t))
-}
-
-// Whether the segments are those of a realm.
-fn are_noded(list: &[Segment]) -> bool
-    ensures { IsTrue result → AreNoded list.now }
-{
-    lesser_ends_first(list);
-    for s in list {
-        if !leaves(list, s) {
-            return false;
-        }
-    }
-    true
-}
 
 fn segment(ends: &[u64; 4]) -> Result<Segment, Fail> {
     let [x, y, u, v] = *ends;

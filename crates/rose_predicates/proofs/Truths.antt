@@ -3,8 +3,14 @@ use Rattle.std.proofs.Common.{◌≡◌, ◌⊎◌, ◌↔◌, Bool, true, false
 use Rattle.std.proofs.Common.{ℕ, zero, suc, ◌<◌, length, slice_index_or, refl, sym, ap₂, subst, ◌∙◌, arith, inl, inr}
 use lib.Pointwise.{pointwise}
 use Rattle.std.specs.Bool.{MatchBool}
+use Rattle.std.specs.Iterator.Adapters.{zip_first, zip_second}
 use Rattle.std.specs.List.{AllWithin, AllZip, Any, HoldsAt, zip}
+use Rattle.std.specs.Slice.Iter.{iter_rest}
+use Rattle.std.specs.declared.iter.Zip.{Zip}
+use Rattle.std.specs.declared.slice.Iter.{Iter}
 use Rattle.std.proofs.lemmas.Bool.{MatchBool-at_true}
+use Rattle.std.proofs.lemmas.Fn.{fronts}
+use Rattle.std.proofs.lemmas.Iterator.{YieldsList, YieldsList-from_slice, YieldsList-from_zip, zips}
 use Rattle.std.proofs.lemmas.Iterator.Search.{true_from_All, true_from_Any}
 use Rattle.std.proofs.lemmas.List.Elements.{All-from_all_within}
 use Rattle.grid_base.proofs.Elements.{same_place}
@@ -119,6 +125,12 @@ lists_told E same itself xs ys = (
 )
 
 -- ---- two lists, place by place
+-- the pairs of the elements of two slices are what a zip of them yields
+pub pairs_yielded : {X Y : Type 0} {s : Zip (Iter X) (Iter Y)} (xs : List X) (ys : List Y)
+    → (iter_rest (zip_first s) ≡ xs) × (iter_rest (zip_second s) ≡ ys)
+    → YieldsList (zips fronts fronts) (λ p. (p.0.now, p.1.now)) s (zip xs ys)
+pairs_yielded xs ys (first, second) = YieldsList-from_zip (YieldsList-from_slice xs first) (YieldsList-from_slice ys second)
+
 later : {X : Type 0} (y : X) (xs : List X) (x : X) → Contains xs x → Contains (y ∷ xs) x
 later y xs x (k, within, at) = (suc k, omega (arith, within), at)
 

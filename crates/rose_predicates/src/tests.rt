@@ -1,45 +1,18 @@
 //! Small pairs on squared paper, with the answer of every predicate worked out by hand from the table.
-ghost use Rattle.std.specs.Prelude.{◌≡◌, ◌⊎◌, ◌↔◌, ◌++◌, IsTrue, IfSome, All};
+ghost use Rattle.std.specs.Prelude.{◌≡◌, ◌↔◌, ◌++◌, IsTrue, IfSome, All};
 ghost use Rattle.grid_base.specs.Border.{AreNoded};
-ghost use Rattle.grid_base.specs.Crossing.{Inside, Cross};
+ghost use Rattle.grid_base.specs.Crossing.{Inside};
 ghost use Rattle.rose_values.specs.Border.{AreSegmentsAscending};
 ghost use Rattle.rose_values.specs.Operators.{segments_of};
 ghost use Rattle.rose_predicates.specs.Predicates.{points_of, AreOutside};
 
 use crate::{HoldsError, holds};
-use grid_base::{Point, Segment, crosses, in_side};
-use rose_overlay::{ascending_points, ascending_segments, lesser_ends_first};
+use grid_base::{Point, Segment, in_side};
+use rose_overlay::{ascending_points, ascending_segments};
 use rose_values::{Geometry, LinesValue, PointsValue, Pred, RegionsValue};
+use segment_lists::are_noded;
 use std::alloc::Global;
 use std::test::Fail;
-
-// Whether the two cross, or an end of `t` is inside `s`.
-fn disturbs(s: &Segment, t: &Segment) -> bool
-    ensures { IsTrue result
-        ↔ (Cross s.now t.now ⊎ (Inside t.now.a s.now ⊎ Inside t.now.b s.now)) }
-{
-    crosses(s, t) || in_side(s, &t.a()) || in_side(s, &t.b())
-}
-
-// Whether none of the list disturbs `s`.
-fn leaves(list: &[Segment], s: &Segment) -> bool
-    ensures { IsTrue result → All (λ t. ¬ (Cross s.now t ⊎ (Inside t.a s.now ⊎ Inside t.b s.now))) list.now }
-{
-    list.iter().all(|t| !disturbs(s, t))
-}
-
-// Whether the segments are those of a realm.
-fn are_noded(list: &[Segment]) -> bool
-    ensures { IsTrue result → AreNoded list.now }
-{
-    lesser_ends_first(list);
-    for s in list {
-        if !leaves(list, s) {
-            return false;
-        }
-    }
-    true
-}
 
 // Whether the point is inside none of the segments.
 fn is_outside(list: &[Segment], p: &Point) -> bool

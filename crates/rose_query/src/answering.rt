@@ -5,14 +5,15 @@ ghost use Rattle.line_grammar.specs.declared.command.Query.TheVariants.{Realm, S
 ghost use Rattle.rose_query.specs.Answers.{AnswersQuery};
 
 use crate::asking::show_truth;
-use crate::evaluating::{show_made, show_made_alone};
+use crate::evaluating::list_made;
 use crate::measuring::show_number;
 use crate::outlining::show_faces;
 use crate::printing::{list_chain, list_realm, list_trace, list_value};
 use crate::refusals::{refuse, refuse_name};
 use grid_base::{NoMemory, Point, Reply};
 use line_grammar::{Name, Query};
-use realm_insert::{Engine, Refusal};
+use realm_insert::{Engine, Refusal, operands_named};
+use rose_operators::{operate, operate_alone};
 use std::alloc::Global;
 use std::thread::Threads;
 
@@ -27,9 +28,13 @@ pub fn answer<R: Threads + Sync>(
     ensures answer { IfOk result (λ reply. AnswersQuery q.now state.now.state reply) }
 {
     match q {
-        Query::Eval(op, first, second) => {
-            show_made(rt, alloc, state, *op, first, second.as_ref())
-        }
+        Query::Eval(op, first, second) => match operands_named(state, first, second.as_ref())? {
+            Some(of) => list_made(
+                alloc,
+                operate(rt, alloc, *op, &of.first, of.second.as_ref()),
+            ),
+            None => refuse_name(alloc),
+        },
         _ => answer_alone(alloc, state, q),
     }
 }
@@ -43,9 +48,13 @@ pub fn answer_alone(alloc: Global, state: &Engine, q: &Query) -> Result<Reply, N
         Query::Realm => show_realm(alloc, state),
         Query::Show(name) => show_value(alloc, state, name),
         Query::Chain(id) => show_chain(alloc, state, *id),
-        Query::Eval(op, first, second) => {
-            show_made_alone(alloc, state, *op, first, second.as_ref())
-        }
+        Query::Eval(op, first, second) => match operands_named(state, first, second.as_ref())? {
+            Some(of) => list_made(
+                alloc,
+                operate_alone(alloc, *op, &of.first, of.second.as_ref()),
+            ),
+            None => refuse_name(alloc),
+        },
         Query::Trace(number) => show_trace(alloc, state, *number),
         Query::Ask(pred, first, second) => show_truth(alloc, state, *pred, first, second),
         Query::Num(num, first, second) => show_number(alloc, state, *num, first, second.as_ref()),

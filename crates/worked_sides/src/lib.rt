@@ -1,12 +1,13 @@
-//! The sides of nested squares, as a sweep tells them and as threads tell them. There are tests alone here.
-//! Begin at `tests.rt`; `squares.rt` has what they are about.
+//! The sides of nested squares, as a sweep tells them and as threads tell them. There are tests alone here, and what
+//! they ask of their lists. Begin at `tests.rt`; `squares.rt` has what they are about.
 #![tactic(auto)]
 
 #[cfg(test)]
 mod counting;
-#[cfg(test)]
 mod noded;
 #[cfg(test)]
 mod squares;
 #[cfg(test)]
 mod tests;
+
+pub use noded::are_one_realm;

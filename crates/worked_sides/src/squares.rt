@@ -1,9 +1,9 @@
 //! A hundred nested squares: square i goes from (i, i) to (400 - i, 400 - i). Beside a side of square i lie the
 //! inside of i + 1 squares and that of i.
-use crate::noded::are_noded;
 use grid_base::{Point, Segment, Sides};
 use rose_overlay::ascending_segments;
 use rose_values::RegionsValue;
+use segment_lists::are_noded;
 use std::alloc::Global;
 
 const SIDE: u64 = 400;

@@ -1,8 +1,8 @@
 //! The sides of the sides of nested squares, by a sweep whose calls are counted, and by threads.
 ghost use Rattle.std.specs.Prelude.{◌≡◌};
 
+use crate::are_one_realm;
 use crate::counting::Counting;
-use crate::noded::are_one_realm;
 use crate::squares::{all_sides_of_squares, region, wanted};
 use grid_base::{Segment, Sides, Steps};
 use plane_sweep::all_sides_by;
