@@ -4,16 +4,17 @@ use Rattle.std.proofs.Common.{sym, ap, subst, ◌∙◌, inl, inr}
 use Rattle.std.proofs.lemmas.List.{take_more, take-append-drop}
 use Rattle.std.proofs.lemmas.List.Elements.{All-contains, Contains-push_cases, Contains-append_cases}
 use Rattle.grid_base.specs.Point.{GridPoint}
-use Rattle.grid_base.specs.Segment.{GridSegment, BoxesMeet}
+use Rattle.grid_base.specs.Segment.{GridSegment, IsEnd, BoxesMeet}
 use Rattle.grid_base.specs.Crossing.{Inside}
 use Rattle.grid_base.specs.Drawing.{Drawing, IsPoint, IsPiece}
 use Rattle.realm_drawing.specs.Chains.{AllValid}
 use Rattle.realm_drawing.specs.Keyed.{KeyedDrawing, HasKey, AreKeyed}
 use Rattle.realm_index.specs.Index.{Entries, HasKeysWhere}
 use Rattle.realm_insert.specs.Kept.{IsIndexed}
-use Rattle.realm_insert.specs.Clashes.{IsInsideNone, NoClash, HasNoClashAmong}
+use Rattle.realm_insert.specs.Clashes.{IsInsideNone, NoClash, HasNoClashAmong, IsWithin, HasKeysRound, HasKeysAt}
 use Rattle.realm_insert.specs.Work.{IsClean}
-use Rattle.realm_insert.proofs.CommonBoxes.{boxes_meet_at_end, boxes_meet_inside, boxes_meet_crossing}
+use Rattle.realm_insert.proofs.CommonBoxes.{boxes_meet_at_end, boxes_meet_round_end, boxes_meet_inside, boxes_meet_crossing}
+use Rattle.realm_insert.proofs.CommonBoxes.{boxes_meet_within}
 use Rattle.realm_insert.proofs.Vertices.{explicit_or_end}
 
 -- what holds of the first elements and of the next one
@@ -26,27 +27,43 @@ next_too P xs i d y within is before here x there =
       | inr last ↦ subst P last here
     ]
 
-module _ (P : GridSegment → Type 0) (d : KeyedDrawing) (index : Entries) (keys : List ℕ) (indexed : IsIndexed d index)
-    (keyed : AreKeyed d) (listed : HasKeysWhere P index keys) where
-  -- the index lists a key of each piece as P says
-  listed_key : (t : GridSegment) → IsPiece d.drawing t → P t → (k : ℕ) × (Contains keys k × HasKey d t k)
-  listed_key t piece is =
-      let has = keyed.some_key t piece in
-      let entry = (indexed t has.0).1 has.1 in
-      (has.0, ((listed.exact has.0).1 (subst (λ o. IsSomeAnd o P) (sym entry) is), has.1))
+-- the index lists the key of each piece as P says
+pub key_is_listed : (P : GridSegment → Type 0) (d : KeyedDrawing) (index : Entries) (keys : List ℕ) → IsIndexed d index
+    → HasKeysWhere P index keys → (t : GridSegment) (k : ℕ) → HasKey d t k → P t → Contains keys k
+key_is_listed P d index keys indexed listed t k has is =
+    (listed.exact k).1 (subst (λ o. IsSomeAnd o P) (sym ((indexed t k).1 has)) is)
 
-  -- so what holds of each piece with a listed key holds of each piece as P says
-  pub of_listed : (Q : GridSegment → Type 0) → ((k : ℕ) → Contains keys k → (t : GridSegment) → HasKey d t k → Q t)
-      → (t : GridSegment) → IsPiece d.drawing t → P t → Q t
-  of_listed Q each t piece is = let found = listed_key t piece is in each found.0 found.1.0 t found.1.1
+-- so the keys that it answers to a box are those round it
+pub keys_round : (d : KeyedDrawing) (index : Entries) (near : GridSegment) (keys list : List ℕ) → IsIndexed d index
+    → HasKeysWhere (BoxesMeet near) index keys → list ≡ keys → HasKeysRound d near list
+keys_round d index near keys list indexed listed is =
+    subst (HasKeysRound d near) (sym is) (key_is_listed (BoxesMeet near) d index keys indexed listed)
+
+-- what holds of each piece with a listed key holds of each piece as P says, where the keys of these are listed
+pub of_listed : (P Q : GridSegment → Type 0) (d : KeyedDrawing) (keys : List ℕ) → AreKeyed d
+    → ((t : GridSegment) (k : ℕ) → HasKey d t k → P t → Contains keys k)
+    → ((k : ℕ) → Contains keys k → (t : GridSegment) → HasKey d t k → Q t)
+    → (t : GridSegment) → IsPiece d.drawing t → P t → Q t
+of_listed P Q d keys keyed listed each t piece is =
+    let has = keyed.some_key t piece in
+    each has.0 (listed t has.0 has.1 is) t has.1
+
+-- the keys round a box are those round each segment in it
+pub round_within : (d : KeyedDrawing) (near s : GridSegment) (keys : List ℕ) → IsWithin near s → HasKeysRound d near keys
+    → HasKeysRound d s keys
+round_within d near s keys within round t k has meet = round t k has (boxes_meet_within near s t within meet)
+
+-- and at each end of such a segment
+pub round_end : (d : KeyedDrawing) (s : GridSegment) (p : GridPoint) (keys : List ℕ) → IsEnd p s → HasKeysRound d s keys
+    → HasKeysAt d p keys
+round_end d s p keys end round t k has in_t = round t k has (boxes_meet_round_end s t p end in_t)
 
 -- no violation is left at the piece s where no explicit point is inside it, and no piece whose box meets its box clashes
 -- with it
-pub clean_by : (d : KeyedDrawing) (index : Entries) (keys : List ℕ) (s : GridSegment) → AllValid d.drawing
-    → IsIndexed d index → AreKeyed d → HasKeysWhere (BoxesMeet s) index keys → All (λ p. Inside p s → ⊥) d.drawing.points
-    → HasNoClashAmong d s keys → IsClean d.drawing s
-clean_by d index keys s valid indexed keyed listed explicit each =
-    let clear = of_listed (BoxesMeet s) d index keys indexed keyed listed (NoClash d.drawing s) each in
+pub clean_by : (d : KeyedDrawing) (keys : List ℕ) (s : GridSegment) → AllValid d.drawing → AreKeyed d
+    → HasKeysRound d s keys → All (λ p. Inside p s → ⊥) d.drawing.points → HasNoClashAmong d s keys → IsClean d.drawing s
+clean_by d keys s valid keyed round explicit each =
+    let clear = of_listed (BoxesMeet s) (NoClash d.drawing s) d keys keyed round each in
     record {
       nothing_inside = λ p point piece inside. elim (explicit_or_end d.drawing p valid point) [
         | inl there ↦ All-contains (λ q. Inside q s → ⊥) d.drawing.points p explicit there inside

@@ -1,4 +1,4 @@
--- This file shows that the boxes of segments that have a common point or cross meet.
+-- This file shows that the boxes of segments that have a common point or cross meet, and what meets a box within another.
 use Rattle.std.proofs.Common.{ℕ, ◌*◌, ◌<◌, ◌≤◌, min, max, sym, subst, inl, inr, arith}
 use Rattle.std.proofs.Math.Nat.{mul-lt-mul_of_pos_right}
 use Rattle.grid_base.specs.Point.{GridPoint, IsFromTo, InBox}
@@ -6,6 +6,7 @@ use Rattle.grid_base.specs.Segment.{GridSegment, IsEnd, RangesMeet, BoxesMeet}
 use Rattle.grid_base.specs.Crossing.{Inside, Cross}
 use Rattle.grid_base.specs.MeetPoint.{crossing_of}
 use Rattle.grid_rational.proofs.Crossings.{crossing_is_place}
+use Rattle.realm_insert.specs.Clashes.{IsWithin}
 
 -- ---- a common point
 -- a number in both ranges
@@ -31,13 +32,28 @@ end_in_box s p (inl first) =
     subst (InBox s.a s.b) (sym first) (first_in_range s.a.x s.b.x, first_in_range s.a.y s.b.y)
 end_in_box s p (inr last) = subst (InBox s.a s.b) (sym last) (last_in_range s.a.x s.b.x, last_in_range s.a.y s.b.y)
 
+-- an end of s is in the box of t
+pub boxes_meet_round_end : (s t : GridSegment) (p : GridPoint) → IsEnd p s → InBox t.a t.b p → BoxesMeet s t
+boxes_meet_round_end s t p end in_t = boxes_meet_at s t p (end_in_box s p end) in_t
+
 -- an end of s is inside t
 pub boxes_meet_at_end : (s t : GridSegment) (p : GridPoint) → IsEnd p s → Inside p t → BoxesMeet s t
-boxes_meet_at_end s t p end inside = boxes_meet_at s t p (end_in_box s p end) inside.on.box
+boxes_meet_at_end s t p end inside = boxes_meet_round_end s t p end inside.on.box
 
 -- an end of t is inside s
 pub boxes_meet_inside : (s t : GridSegment) (p : GridPoint) → IsEnd p t → Inside p s → BoxesMeet s t
 boxes_meet_inside s t p end inside = boxes_meet_at s t p inside.on.box (end_in_box t p end)
+
+-- ---- a box within another
+-- what meets a range meets each range that it is within
+range_meets_within : (a b m n v w : ℕ) → IsFromTo a b m → IsFromTo a b n → RangesMeet m n v w → RangesMeet a b v w
+range_meets_within a b m n v w first last meet = (omega arith, omega arith)
+
+pub boxes_meet_within : (near s t : GridSegment) → IsWithin near s → BoxesMeet s t → BoxesMeet near t
+boxes_meet_within near s t within meet = record {
+  across = range_meets_within near.a.x near.b.x s.a.x s.b.x t.a.x t.b.x within.0.0 within.1.0 meet.across;
+  up = range_meets_within near.a.y near.b.y s.a.y s.b.y t.a.y t.b.y within.0.1 within.1.1 meet.up;
+}
 
 -- ---- a crossing
 -- where the least of one range is above the greatest of another, so it is with their multiples

@@ -1,7 +1,7 @@
 -- What the search round one segment looks for. No public clause cites this file.
 use Rattle.std.specs.Prelude.{ℕ, List, Contains}
-use Rattle.grid_base.specs.Point.{GridPoint}
-use Rattle.grid_base.specs.Segment.{GridSegment, IsEnd}
+use Rattle.grid_base.specs.Point.{GridPoint, InBox}
+use Rattle.grid_base.specs.Segment.{GridSegment, IsEnd, BoxesMeet}
 use Rattle.grid_base.specs.Crossing.{Inside, Cross}
 use Rattle.grid_base.specs.Drawing.{Drawing, IsPoint, IsPiece}
 use Rattle.realm_drawing.specs.Keyed.{KeyedDrawing, HasKey}
@@ -24,3 +24,15 @@ pub record NoClash (d : Drawing) (s t : GridSegment) : Type 0 where
 abbrev pub HasNoClashAmong : KeyedDrawing → GridSegment → List ℕ → Type 0
 HasNoClashAmong d s keys =
     (k : ℕ) → Contains keys k → (t : GridSegment) → HasKey d t k → NoClash d.drawing s t
+
+-- s is in the bounding box of near
+abbrev pub IsWithin : GridSegment → GridSegment → Type 0
+IsWithin near s = InBox near.a near.b s.a × InBox near.a near.b s.b
+
+-- the keys of the pieces whose boxes meet that of s are listed
+abbrev pub HasKeysRound : KeyedDrawing → GridSegment → List ℕ → Type 0
+HasKeysRound d s keys = (t : GridSegment) (k : ℕ) → HasKey d t k → BoxesMeet s t → Contains keys k
+
+-- the keys of the pieces whose boxes hold p are listed
+abbrev pub HasKeysAt : KeyedDrawing → GridPoint → List ℕ → Type 0
+HasKeysAt d p keys = (t : GridSegment) (k : ℕ) → HasKey d t k → InBox t.a t.b p → Contains keys k

@@ -11,6 +11,7 @@ mod figure;
 mod indexing;
 mod laws;
 mod making;
+mod near_box;
 mod operands;
 mod placing;
 mod refusal;

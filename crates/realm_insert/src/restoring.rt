@@ -110,7 +110,8 @@ fn is_settled(
         (HasViolation drawing.now.drawing)) }
 {
     step_mends();
-    let found = next_step(alloc, drawing, index, &mut pieces)?;
+    let before = pieces.len();
+    let found = next_step(alloc, drawing, index, &mut pieces, before)?;
     Ok(found.is_none())
 }
 

@@ -1,6 +1,6 @@
-//! The search for violations round one segment of the list. Most are pieces; of one that isn't any more only
-//! the ends count.
-ghost use Rattle.std.specs.Prelude.{◌≡◌, ◌↔◌, IfOk, MatchOption, Contains};
+//! The search for violations round one segment of the list, among the pieces that are near it. Most are pieces; of
+//! one that isn't any more only the ends count.
+ghost use Rattle.std.specs.Prelude.{◌≡◌, ◌↔◌, IfOk, IsTrue, MatchOption, Contains};
 ghost use Rattle.grid_base.specs.Point.{InBox};
 ghost use Rattle.grid_base.specs.Segment.{GridSegment, BoxesMeet};
 ghost use Rattle.grid_base.specs.Crossing.{Inside};
@@ -11,38 +11,45 @@ ghost use Rattle.realm_drawing.specs.Mending.{IsPermitted};
 ghost use Rattle.realm_index.specs.Index.{HasKeysWhere};
 ghost use Rattle.realm_insert.specs.Kept.{IsIndexed};
 ghost use Rattle.realm_insert.specs.Clashes.{IsInsideNone, HasNoEndInside, NoClash, HasNoClashAmong};
+ghost use Rattle.realm_insert.specs.Clashes.{HasKeysRound, HasKeysAt};
 ghost use Rattle.realm_insert.specs.Work.{IsClean};
 
-use grid_base::{NoMemory, Point, Segment, Step, Steps, in_side};
+use grid_base::{NoMemory, Point, Segment, Step, Steps, box_meets, in_side};
 use realm_drawing::{Drawing, crossing_step};
 use realm_index::Index;
 use std::alloc::Global;
 use std::marker::Brand;
 use std::sync::ledger::{Blank, Ledger};
 
-// A step that mends a violation with `s` or an end of it; none where there is none.
+// A step that mends a violation with `s` or an end of it; none where there is none. The pieces that are near `s` have keys
+// of the list.
 pub(crate) fn violation_at(
     alloc: Global,
     drawing: &Drawing,
-    index: &Index,
+    keys: &[usize],
     s: &Segment,
 ) -> Result<Option<Step>, NoMemory>
-    requires indexed { IsIndexed drawing.now index.now }
+    requires round { HasKeysRound drawing.now s.now keys.now }
     requires keyed { AreKeyed drawing.now }
     requires valid { AllValid drawing.now.drawing }
     ensures { IfOk result
         (λ found. MatchOption found (IsClean drawing.now.drawing s.now) (IsPermitted drawing.now.drawing)) }
 {
     if drawing.key(s).is_some() {
-        violation_of(drawing, index, s)
+        violation_of(alloc, drawing, keys, s)
     } else {
-        split_by_ends(alloc, drawing, index, s)
+        split_by_ends(alloc, drawing, keys, s)
     }
 }
 
 // The same of the piece `s`.
-fn violation_of(drawing: &Drawing, index: &Index, s: &Segment) -> Result<Option<Step>, NoMemory>
-    requires indexed { IsIndexed drawing.now index.now }
+fn violation_of(
+    alloc: Global,
+    drawing: &Drawing,
+    keys: &[usize],
+    s: &Segment,
+) -> Result<Option<Step>, NoMemory>
+    requires round { HasKeysRound drawing.now s.now keys.now }
     requires keyed { AreKeyed drawing.now }
     requires valid { AllValid drawing.now.drawing }
     requires piece { IsPiece drawing.now.drawing s.now }
@@ -52,37 +59,66 @@ fn violation_of(drawing: &Drawing, index: &Index, s: &Segment) -> Result<Option<
     if let Some(p) = drawing.explicit_inside(s) {
         return Ok(Some(Step::Split { p, t: *s }));
     }
-    let keys = meeting(index, s)?;
-    Ok(clash_among(drawing, s, keys.as_slice()))
+    let met = keys_met(alloc, drawing, keys, s)?;
+    Ok(clash_among(drawing, s, met.as_slice()))
+}
+
+// Those of the keys whose pieces have boxes that meet that of `s`.
+fn keys_met(
+    alloc: Global,
+    drawing: &Drawing,
+    keys: &[usize],
+    s: &Segment,
+) -> Result<Vec<usize>, NoMemory>
+    requires round { HasKeysRound drawing.now s.now keys.now }
+    ensures { IfOk result (λ met. HasKeysRound drawing.now s.now met.items) }
+{
+    let mut met = Vec::new(alloc);
+    for key in keys {
+        if is_met(drawing, s, *key) {
+            met.push(*key)?;
+        }
+    }
+    Ok(met)
+}
+
+// Whether the box of the piece with this key meets that of `s`.
+fn is_met(drawing: &Drawing, s: &Segment, key: usize) -> bool
+    ensures { (t : GridSegment) → HasKey drawing.now t key → BoxesMeet s.now t → IsTrue result }
+{
+    match drawing.piece(key) {
+        Some(t) => box_meets(s, &t),
+        None => false,
+    }
 }
 
 // The same of `s` where it is no piece, so that only its ends are left.
 fn split_by_ends(
     alloc: Global,
     drawing: &Drawing,
-    index: &Index,
+    keys: &[usize],
     s: &Segment,
 ) -> Result<Option<Step>, NoMemory>
-    requires indexed { IsIndexed drawing.now index.now }
+    requires round { HasKeysRound drawing.now s.now keys.now }
     requires keyed { AreKeyed drawing.now }
     requires no_piece { IsPiece drawing.now.drawing s.now → ⊥ }
     ensures { IfOk result
         (λ found. MatchOption found (IsClean drawing.now.drawing s.now) (IsPermitted drawing.now.drawing)) }
 {
-    if let Some(step) = split_by(alloc, drawing, index, &s.a())? {
+    if let Some(step) = split_by(alloc, drawing, keys, &s.a())? {
         return Ok(Some(step));
     }
-    split_by(alloc, drawing, index, &s.b())
+    split_by(alloc, drawing, keys, &s.b())
 }
 
 // A step to `p` inside a piece; none where `p` is no point or inside no piece.
 fn split_by(
     alloc: Global,
     drawing: &Drawing,
-    index: &Index,
+    keys: &[usize],
     p: &Point,
 ) -> Result<Option<Step>, NoMemory>
-    requires indexed { IsIndexed drawing.now index.now }
+    requires round { HasKeysAt drawing.now p.now keys.now }
     requires keyed { AreKeyed drawing.now }
     ensures { IfOk result (λ found.
         MatchOption found (IsInsideNone drawing.now.drawing p.now) (IsPermitted drawing.now.drawing)) }
@@ -90,7 +126,7 @@ fn split_by(
     if !drawing.is_point(p) {
         return Ok(None);
     }
-    let round = pieces_round(alloc, drawing, index, p)?;
+    let round = pieces_among(alloc, drawing, keys, p)?;
     match round.as_slice().first() {
         Some(t) => Ok(Some(Step::Split { p: *p, t: *t })),
         None => Ok(None),
@@ -179,7 +215,7 @@ fn split_at(drawing: &Drawing, p: &Point, t: &Segment) -> Option<Step>
 }
 
 // The keys of the pieces whose boxes meet that of `s`.
-fn meeting(index: &Index, s: &Segment) -> Result<Vec<usize>, NoMemory>
+pub(crate) fn meeting(index: &Index, s: &Segment) -> Result<Vec<usize>, NoMemory>
     ensures { IfOk result (λ keys. HasKeysWhere (BoxesMeet s.now) index.now keys.items) }
 {
     meeting_counted::<Brand>(index, s, Blank::new(1))
@@ -231,8 +267,23 @@ pub(crate) fn pieces_round(
         → Contains list.items t ↔ (IsPiece drawing.now.drawing t × Inside p.now t)) }
 {
     let keys = holding(index, p)?;
+    pieces_among(alloc, drawing, keys.as_slice(), p)
+}
+
+// The same, of which the keys are listed.
+fn pieces_among(
+    alloc: Global,
+    drawing: &Drawing,
+    keys: &[usize],
+    p: &Point,
+) -> Result<Vec<Segment>, NoMemory>
+    requires round { HasKeysAt drawing.now p.now keys.now }
+    requires keyed { AreKeyed drawing.now }
+    ensures { IfOk result (λ list. (t : GridSegment)
+        → Contains list.items t ↔ (IsPiece drawing.now.drawing t × Inside p.now t)) }
+{
     let mut list = Vec::new(alloc);
-    for key in &keys {
+    for key in keys {
         if let Some(t) = drawing.piece(*key) {
             if in_side(&t, p) {
                 list.push(t)?;

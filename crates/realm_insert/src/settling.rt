@@ -2,20 +2,24 @@
 //! at: each violation has one of them or an end of one. What a step draws anew joins the list; a piece that a
 //! step replaced stays on it, for its ends. A trace that is given is taken in the same way, and then the list shows
 //! whether a violation is left.
-ghost use Rattle.std.specs.Prelude.{◌≡◌, ◌++◌, ℕ, map, Err, IfOk, OnOk, MatchOption, IfSome, IsSomeAnd};
+ghost use Rattle.std.specs.Prelude.{◌≡◌, ◌<◌, ◌≤◌, ◌-◌, ◌++◌, ℕ, length, map, Some, Err, IfOk, OnOk, MatchOption};
+ghost use Rattle.std.specs.Prelude.{IfSome, IsNone, IsSomeAnd};
+ghost use Rattle.std.specs.List.{slice_get};
 ghost use Rattle.grid_base.specs.Drawing.{HasViolation};
 ghost use Rattle.realm_drawing.specs.Steps.{Permitted, Settles};
 ghost use Rattle.realm_drawing.specs.Chains.{AllValid};
 ghost use Rattle.realm_drawing.specs.Keyed.{AreKeyed};
 ghost use Rattle.realm_drawing.specs.Mending.{IsPermitted};
 ghost use Rattle.realm_drawing.specs.declared.errors.StepError.TheVariants.{NotPermitted};
+ghost use Rattle.realm_insert.specs.Clashes.{HasKeysRound};
 ghost use Rattle.realm_insert.specs.Kept.{IsIndexed};
 ghost use Rattle.realm_insert.specs.Misfits.{Misfits};
 ghost use Rattle.realm_insert.specs.Work.{IsCoveredBy};
 ghost use Rattle.realm_insert.specs.declared.settling.SettleError.TheVariants.{Mismatch, NoMemory as NoRoom};
 
 use crate::indexing::{forget_gone, keyed_pieces, put_in_index};
-use crate::searching::violation_at;
+use crate::near_box::{box_of_last, lies_within};
+use crate::searching::{meeting, violation_at};
 use grid_base::{NoMemory, Segment, Step};
 use realm_drawing::{Drawing, KeyedPiece, StepError};
 use realm_index::Index;
@@ -96,7 +100,8 @@ fn retrace(
             }
         }
     }
-    match next_step(alloc, drawing, index, &mut fresh)? {
+    let before = fresh.len();
+    match next_step(alloc, drawing, index, &mut fresh, before)? {
         None => Ok(trace),
         Some(_) => Err(SettleError::Mismatch {
             step: steps.len() as u64 + 1,
@@ -122,7 +127,9 @@ fn settle(
 {
     let mut fresh = fresh;
     let mut trace = Trace::new(alloc);
-    while let Some(step) = next_step(alloc, drawing, index, &mut fresh)? {
+    let mut before = fresh.len();
+    while let Some(step) = next_step(alloc, drawing, index, &mut fresh, before)? {
+        before = fresh.len();
         mend(alloc, drawing, index, &step, &mut fresh)?;
         trace.push(step)?;
     }
@@ -130,12 +137,14 @@ fn settle(
 }
 
 // A step that may be taken, and the list without the pieces that were found clean; none where no violation is
-// left.
+// left. The last step drew the pieces behind the first `before`: of these, and of the one before them, those that lie
+// by one another are looked at together.
 pub(crate) fn next_step(
     alloc: Global,
     drawing: &Drawing,
     index: &Index,
     fresh: &mut Vec<Segment>,
+    before: usize,
 ) -> Result<Option<Step>, NoMemory>
     requires indexed { IsIndexed drawing.now index.now }
     requires keyed { AreKeyed drawing.now }
@@ -145,14 +154,74 @@ pub(crate) fn next_step(
         (IsPermitted drawing.now.drawing)) }
     ensures covered { OnOk result (IsCoveredBy drawing.now.drawing fresh.new.items) }
 {
-    while let Some(piece) = fresh.as_slice().last() {
-        let found = violation_at(alloc, drawing, index, piece)?;
+    while let Some(piece) = fresh.as_slice().last().copied() {
+        let many = fresh.len().saturating_sub(before).saturating_add(1);
+        let near = box_of_last(fresh.as_slice(), &piece, many);
+        let keys = meeting(index, &near)?;
+        let found = step_at_last(alloc, drawing, keys.as_slice(), &piece, fresh)?;
         if found.is_some() {
             return Ok(found);
         }
-        fresh.pop();
+        let found = step_within(alloc, drawing, keys.as_slice(), &near, fresh)?;
+        if found.is_some() {
+            return Ok(found);
+        }
     }
     Ok(None)
+}
+
+// A step that mends a violation at one of the pieces at the end of the list that lie in the box of `near`.
+fn step_within(
+    alloc: Global,
+    drawing: &Drawing,
+    keys: &[usize],
+    near: &Segment,
+    fresh: &mut Vec<Segment>,
+) -> Result<Option<Step>, NoMemory>
+    requires round { HasKeysRound drawing.now near.now keys.now }
+    requires keyed { AreKeyed drawing.now }
+    requires valid { AllValid drawing.now.drawing }
+    requires covered { IsCoveredBy drawing.now.drawing fresh.old.items }
+    ensures found { IfOk result (λ found. IfSome found (IsPermitted drawing.now.drawing)) }
+    ensures covered { OnOk result (IsCoveredBy drawing.now.drawing fresh.new.items) }
+    ensures shorter { length fresh.new.items ≤ length fresh.old.items }
+{
+    while let Some(piece) = fresh.as_slice().last().copied() {
+        if !lies_within(near, &piece) {
+            return Ok(None);
+        }
+        let found = step_at_last(alloc, drawing, keys, &piece, fresh)?;
+        if found.is_some() {
+            return Ok(found);
+        }
+    }
+    Ok(None)
+}
+
+// A step that mends a violation at the last piece of the list, which comes off where it is clean.
+fn step_at_last(
+    alloc: Global,
+    drawing: &Drawing,
+    keys: &[usize],
+    piece: &Segment,
+    fresh: &mut Vec<Segment>,
+) -> Result<Option<Step>, NoMemory>
+    requires last { slice_get fresh.old.items (length fresh.old.items - 1) ≡ Some piece.now }
+    requires round { HasKeysRound drawing.now piece.now keys.now }
+    requires keyed { AreKeyed drawing.now }
+    requires valid { AllValid drawing.now.drawing }
+    requires covered { IsCoveredBy drawing.now.drawing fresh.old.items }
+    ensures found { IfOk result (λ found. IfSome found (IsPermitted drawing.now.drawing)) }
+    ensures covered { OnOk result (IsCoveredBy drawing.now.drawing fresh.new.items) }
+    ensures longer { length fresh.new.items ≤ length fresh.old.items }
+    ensures shorter { IfOk result (λ found.
+        IsNone found → length fresh.new.items < length fresh.old.items) }
+{
+    let found = violation_at(alloc, drawing, keys, piece)?;
+    if found.is_none() {
+        fresh.pop();
+    }
+    Ok(found)
 }
 
 // Takes a step that is permitted.

@@ -1,12 +1,21 @@
-use Rattle.std.proofs.Common.{Option, MatchOption, subst}
+use Rattle.std.proofs.Common.{Option, MatchOption, inl, inr, subst}
 use Rattle.std.proofs.lemmas.Result.{IfOk-weaker}
 use Rattle.grid_base.specs.declared.kinds.Step.{Step}
 use Rattle.realm_drawing.specs.Mending.{IsPermitted}
 use Rattle.realm_insert.specs.Clashes.{IsInsideNone}
 use Rattle.realm_insert.specs.Work.{IsClean}
-use Rattle.realm_insert.proofs.CleanPieces.{clean_by_ends}
+use Rattle.realm_insert.proofs.CleanPieces.{clean_by_ends, round_end}
 use Rattle.realm_insert.proofs.FoundSteps.{none_means}
 use Rattle.realm_insert.proofs.searching.split_by_ends.Goals as goal
+
+-- the keys round s are those at its ends
+pub split_by-requires-clause-round : goal.split_by-requires-clause-round
+split_by-requires-clause-round c =
+    round_end c.args.drawing.now c.args.s.now c.a.result c.args.keys.now (inl c.a.ensures.end) c.requires.round
+
+pub split_by-requires-2-clause-round : goal.split_by-requires-2-clause-round
+split_by-requires-2-clause-round c =
+    round_end c.args.drawing.now c.args.s.now c.b.result c.args.keys.now (inr c.b.ensures.end) c.requires.round
 
 -- the lesser end is inside no piece, and what is found of the greater is all
 pub returns : goal.returns

@@ -1,8 +1,6 @@
 use Rattle.std.proofs.Common.{refl, sym, subst, inl}
-use Rattle.grid_base.specs.Segment.{BoxesMeet}
 use Rattle.realm_drawing.specs.Mending.{IsPermitted}
-use Rattle.realm_index.specs.Index.{HasKeysWhere}
-use Rattle.realm_insert.specs.Clashes.{HasNoClashAmong}
+use Rattle.realm_insert.specs.Clashes.{HasNoClashAmong, HasKeysRound}
 use Rattle.realm_insert.specs.Work.{IsClean}
 use Rattle.realm_insert.proofs.CleanPieces.{clean_by}
 use Rattle.realm_insert.proofs.FoundSteps.{none_means, split_is_permitted}
@@ -19,11 +17,9 @@ pub returns : goal.returns
 returns c =
     let d = c.args.drawing.now in
     let s = c.args.s.now in
-    let index = c.args.index.now in
     let keys = c.as_slice.result.now in
     let none = rw c.in_default.is at c.explicit_inside.ensures.none in
-    let listed = subst (HasKeysWhere (BoxesMeet s) index) (sym c.as_slice.ensures.value) c.in_ok-keys.ensures in
+    let round = subst (HasKeysRound d s) (sym c.as_slice.ensures.value) c.in_ok-met.ensures in
     none_means c.clash_among.result (HasNoClashAmong d s keys) (IsClean d.drawing s) (IsPermitted d.drawing)
-    (clean_by d index keys s c.requires.valid c.requires.indexed c.requires.keyed listed
-    (none.0 refl))
+    (clean_by d keys s c.requires.valid c.requires.keyed round (none.0 refl))
     c.clash_among.ensures
