@@ -12,6 +12,7 @@ use Rattle.realm_drawing.specs.Keyed.{KeyedDrawing, HasKey, AreKeyed}
 use Rattle.realm_index.specs.Index.{Entries, HasKeysWhere}
 use Rattle.realm_insert.specs.Kept.{IsIndexed}
 use Rattle.realm_insert.specs.Clashes.{IsInsideNone, NoClash, HasNoClashAmong, IsWithin, HasKeysRound, HasKeysAt}
+use Rattle.realm_insert.specs.Clashes.{CanBeSearched}
 use Rattle.realm_insert.specs.Work.{IsClean}
 use Rattle.realm_insert.proofs.CommonBoxes.{boxes_meet_at_end, boxes_meet_round_end, boxes_meet_inside, boxes_meet_crossing}
 use Rattle.realm_insert.proofs.CommonBoxes.{boxes_meet_within}
@@ -33,11 +34,14 @@ pub key_is_listed : (P : GridSegment → Type 0) (d : KeyedDrawing) (index : Ent
 key_is_listed P d index keys indexed listed t k has is =
     (listed.exact k).1 (subst (λ o. IsSomeAnd o P) (sym ((indexed t k).1 has)) is)
 
--- so the keys that it answers to a box are those round it
-pub keys_round : (d : KeyedDrawing) (index : Entries) (near : GridSegment) (keys list : List ℕ) → IsIndexed d index
-    → HasKeysWhere (BoxesMeet near) index keys → list ≡ keys → HasKeysRound d near list
-keys_round d index near keys list indexed listed is =
-    subst (HasKeysRound d near) (sym is) (key_is_listed (BoxesMeet near) d index keys indexed listed)
+-- so those that it answers to a box are what is looked for round it
+pub searched_by_index : (d : KeyedDrawing) (index : Entries) (near : GridSegment) (keys list : List ℕ) → IsIndexed d index
+    → AreKeyed d → AllValid d.drawing → HasKeysWhere (BoxesMeet near) index keys → list ≡ keys → CanBeSearched d near list
+searched_by_index d index near keys list indexed keyed valid listed is = record {
+  round = subst (HasKeysRound d near) (sym is) (key_is_listed (BoxesMeet near) d index keys indexed listed);
+  keyed = keyed;
+  valid = valid;
+}
 
 -- what holds of each piece with a listed key holds of each piece as P says, where the keys of these are listed
 pub of_listed : (P Q : GridSegment → Type 0) (d : KeyedDrawing) (keys : List ℕ) → AreKeyed d
@@ -49,9 +53,13 @@ of_listed P Q d keys keyed listed each t piece is =
     each has.0 (listed t has.0 has.1 is) t has.1
 
 -- the keys round a box are those round each segment in it
-pub round_within : (d : KeyedDrawing) (near s : GridSegment) (keys : List ℕ) → IsWithin near s → HasKeysRound d near keys
-    → HasKeysRound d s keys
-round_within d near s keys within round t k has meet = round t k has (boxes_meet_within near s t within meet)
+pub searched_within : (d : KeyedDrawing) (near s : GridSegment) (keys : List ℕ) → IsWithin near s → CanBeSearched d near keys
+    → CanBeSearched d s keys
+searched_within d near s keys within search = record {
+  round = λ t k has meet. search.round t k has (boxes_meet_within near s t within meet);
+  keyed = search.keyed;
+  valid = search.valid;
+}
 
 -- and at each end of such a segment
 pub round_end : (d : KeyedDrawing) (s : GridSegment) (p : GridPoint) (keys : List ℕ) → IsEnd p s → HasKeysRound d s keys

@@ -4,7 +4,8 @@ use Rattle.grid_base.specs.Point.{GridPoint, InBox}
 use Rattle.grid_base.specs.Segment.{GridSegment, IsEnd, BoxesMeet}
 use Rattle.grid_base.specs.Crossing.{Inside, Cross}
 use Rattle.grid_base.specs.Drawing.{Drawing, IsPoint, IsPiece}
-use Rattle.realm_drawing.specs.Keyed.{KeyedDrawing, HasKey}
+use Rattle.realm_drawing.specs.Chains.{AllValid}
+use Rattle.realm_drawing.specs.Keyed.{KeyedDrawing, HasKey, AreKeyed}
 
 -- p is no point, or it is inside no piece
 abbrev pub IsInsideNone : Drawing → GridPoint → Type 0
@@ -36,3 +37,9 @@ HasKeysRound d s keys = (t : GridSegment) (k : ℕ) → HasKey d t k → BoxesMe
 -- the keys of the pieces whose boxes hold p are listed
 abbrev pub HasKeysAt : KeyedDrawing → GridPoint → List ℕ → Type 0
 HasKeysAt d p keys = (t : GridSegment) (k : ℕ) → HasKey d t k → InBox t.a t.b p → Contains keys k
+
+-- so violations at s can be looked for among these keys
+pub record CanBeSearched (d : KeyedDrawing) (s : GridSegment) (keys : List ℕ) : Type 0 where
+  pub round : HasKeysRound d s keys
+  pub keyed : AreKeyed d
+  pub valid : AllValid d.drawing

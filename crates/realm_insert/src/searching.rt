@@ -5,13 +5,12 @@ ghost use Rattle.grid_base.specs.Point.{InBox};
 ghost use Rattle.grid_base.specs.Segment.{GridSegment, BoxesMeet};
 ghost use Rattle.grid_base.specs.Crossing.{Inside};
 ghost use Rattle.grid_base.specs.Drawing.{IsPoint, IsPiece};
-ghost use Rattle.realm_drawing.specs.Chains.{AllValid};
 ghost use Rattle.realm_drawing.specs.Keyed.{HasKey, AreKeyed};
 ghost use Rattle.realm_drawing.specs.Mending.{IsPermitted};
 ghost use Rattle.realm_index.specs.Index.{HasKeysWhere};
 ghost use Rattle.realm_insert.specs.Kept.{IsIndexed};
 ghost use Rattle.realm_insert.specs.Clashes.{IsInsideNone, HasNoEndInside, NoClash, HasNoClashAmong};
-ghost use Rattle.realm_insert.specs.Clashes.{HasKeysRound, HasKeysAt};
+ghost use Rattle.realm_insert.specs.Clashes.{HasKeysRound, HasKeysAt, CanBeSearched};
 ghost use Rattle.realm_insert.specs.Work.{IsClean};
 
 use grid_base::{NoMemory, Point, Segment, Step, Steps, box_meets, in_side};
@@ -29,9 +28,7 @@ pub(crate) fn violation_at(
     keys: &[usize],
     s: &Segment,
 ) -> Result<Option<Step>, NoMemory>
-    requires round { HasKeysRound drawing.now s.now keys.now }
-    requires keyed { AreKeyed drawing.now }
-    requires valid { AllValid drawing.now.drawing }
+    requires search { CanBeSearched drawing.now s.now keys.now }
     ensures { IfOk result
         (λ found. MatchOption found (IsClean drawing.now.drawing s.now) (IsPermitted drawing.now.drawing)) }
 {
@@ -49,9 +46,7 @@ fn violation_of(
     keys: &[usize],
     s: &Segment,
 ) -> Result<Option<Step>, NoMemory>
-    requires round { HasKeysRound drawing.now s.now keys.now }
-    requires keyed { AreKeyed drawing.now }
-    requires valid { AllValid drawing.now.drawing }
+    requires search { CanBeSearched drawing.now s.now keys.now }
     requires piece { IsPiece drawing.now.drawing s.now }
     ensures { IfOk result
         (λ found. MatchOption found (IsClean drawing.now.drawing s.now) (IsPermitted drawing.now.drawing)) }

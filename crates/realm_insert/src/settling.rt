@@ -11,7 +11,7 @@ ghost use Rattle.realm_drawing.specs.Chains.{AllValid};
 ghost use Rattle.realm_drawing.specs.Keyed.{AreKeyed};
 ghost use Rattle.realm_drawing.specs.Mending.{IsPermitted};
 ghost use Rattle.realm_drawing.specs.declared.errors.StepError.TheVariants.{NotPermitted};
-ghost use Rattle.realm_insert.specs.Clashes.{HasKeysRound};
+ghost use Rattle.realm_insert.specs.Clashes.{CanBeSearched};
 ghost use Rattle.realm_insert.specs.Kept.{IsIndexed};
 ghost use Rattle.realm_insert.specs.Misfits.{Misfits};
 ghost use Rattle.realm_insert.specs.Work.{IsCoveredBy};
@@ -178,9 +178,7 @@ fn step_within(
     near: &Segment,
     fresh: &mut Vec<Segment>,
 ) -> Result<Option<Step>, NoMemory>
-    requires round { HasKeysRound drawing.now near.now keys.now }
-    requires keyed { AreKeyed drawing.now }
-    requires valid { AllValid drawing.now.drawing }
+    requires search { CanBeSearched drawing.now near.now keys.now }
     requires covered { IsCoveredBy drawing.now.drawing fresh.old.items }
     ensures found { IfOk result (λ found. IfSome found (IsPermitted drawing.now.drawing)) }
     ensures covered { OnOk result (IsCoveredBy drawing.now.drawing fresh.new.items) }
@@ -207,9 +205,7 @@ fn step_at_last(
     fresh: &mut Vec<Segment>,
 ) -> Result<Option<Step>, NoMemory>
     requires last { slice_get fresh.old.items (length fresh.old.items - 1) ≡ Some piece.now }
-    requires round { HasKeysRound drawing.now piece.now keys.now }
-    requires keyed { AreKeyed drawing.now }
-    requires valid { AllValid drawing.now.drawing }
+    requires search { CanBeSearched drawing.now piece.now keys.now }
     requires covered { IsCoveredBy drawing.now.drawing fresh.old.items }
     ensures found { IfOk result (λ found. IfSome found (IsPermitted drawing.now.drawing)) }
     ensures covered { OnOk result (IsCoveredBy drawing.now.drawing fresh.new.items) }

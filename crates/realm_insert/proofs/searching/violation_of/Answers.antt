@@ -21,5 +21,5 @@ returns c =
     let none = rw c.in_default.is at c.explicit_inside.ensures.none in
     let round = subst (HasKeysRound d s) (sym c.as_slice.ensures.value) c.in_ok-met.ensures in
     none_means c.clash_among.result (HasNoClashAmong d s keys) (IsClean d.drawing s) (IsPermitted d.drawing)
-    (clean_by d keys s c.requires.valid c.requires.keyed round (none.0 refl))
+    (clean_by d keys s c.requires.search.valid c.requires.search.keyed round (none.0 refl))
     c.clash_among.ensures
