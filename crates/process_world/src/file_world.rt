@@ -1,13 +1,17 @@
 //! The real world: standard input, standard output, and two files of the current folder. It is the trusted
-//! edge: what the system does isn't told to any contract, so no clause on content speaks of this world. It
-//! only counts how often a call failed.
-ghost use Rattle.std.specs.Prelude.{◌≡◌, ◌≤◌, OnErr};
+//! edge: what the system does with files isn't told to any contract, so no clause on their content speaks of this
+//! world. It counts how often a call failed.
+ghost use Rattle.std.specs.Prelude.{◌≡◌, ◌≤◌, length, IfOk, OnOk, OnErr};
+ghost use Rattle.std.specs.Io.KnownBytes.{ReadConsumes};
 ghost use Rattle.outside_world.specs.Counts.{Rose};
+ghost use Rattle.outside_world.specs.declared.world.FileName.{FileName};
+ghost use Rattle.process_world.specs.Opened.{IsOpen, letter};
 ghost use Rattle.process_world.specs.Untold.{untold};
 
 use crate::real_file::{read_from, size_of, sync_of, write_to};
 use outside_world::{Failed, FileName, Outside};
 use std::io::Read;
+use std::os::unix::fs::FileExt;
 use std::rt::Files;
 
 /// The name of the one file,
@@ -17,7 +21,9 @@ const A: &str = "realm.a";
 const B: &str = "realm.b";
 
 /// The letter of a file, with which its name ends.
-pub fn letter_of(file: FileName) -> &'static str {
+pub fn letter_of(file: FileName) -> &'static str
+    ensures { result.now ≡ letter file }
+{
     match file {
         FileName::A => "a",
         FileName::B => "b",
@@ -40,7 +46,10 @@ pub struct FileWorld<R: Files + Input + Print + Drop> {
 impl<R: Files + Input + Print + Drop> FileWorld<R> {
     /// The world of this runtime. Nothing is read before the first take, and no file is opened before its
     /// first use.
-    pub fn new(rt: R) -> FileWorld<R> {
+    pub fn new(rt: R) -> FileWorld<R>
+        ensures shut { (file : FileName) → IsOpen file result.a result.b → ⊥ }
+        ensures no_fault { (result.source_faults ≡ 0) × (result.sink_faults ≡ 0) × (result.disk_faults ≡ 0) }
+    {
         let input = rt.reader();
         FileWorld {
             rt,
@@ -54,7 +63,10 @@ impl<R: Files + Input + Print + Drop> FileWorld<R> {
     }
 }
 
-impl<R: Files + Input + Print + Drop> Outside for FileWorld<R> {
+impl<R: Files + Input + Print + Drop> Outside for FileWorld<R>
+where
+    <R as Files>::File: FileExt,
+{
     ghost tells = { λ _. ⊥ };
 
     ghost view = { λ _. untold };
@@ -75,7 +87,15 @@ impl<R: Files + Input + Print + Drop> Outside for FileWorld<R> {
 
     ghost none_asked = { λ w a told asked. absurd told };
 
-    fn take(&mut self, buf: &mut [u8]) -> Result<usize, Failed> {
+    fn take(&mut self, buf: &mut [u8]) -> Result<usize, Failed>
+        ensures within { IfOk result (λ n. n ≤ length buf.old) }
+        ensures later { self.old.source_faults ≤ self.new.source_faults }
+        ensures others { (self.new.sink_faults ≡ self.old.sink_faults)
+            × (self.new.disk_faults ≡ self.old.disk_faults) }
+        ensures source_fault { OnErr result (Rose self.old.source_faults self.new.source_faults) }
+        ensures read { ReadConsumes (R.Reader.remaining self.old.input) (R.Reader.remaining self.new.input)
+            result buf.new }
+    {
         match self.input.read(buf) {
             Ok(count) => Ok(count),
             Err(_) => {
@@ -95,7 +115,13 @@ impl<R: Files + Input + Print + Drop> Outside for FileWorld<R> {
         }
     }
 
-    fn size(&mut self, file: FileName) -> Result<u64, Failed> {
+    fn size(&mut self, file: FileName) -> Result<u64, Failed>
+        ensures later { self.old.disk_faults ≤ self.new.disk_faults }
+        ensures others { (self.new.source_faults ≡ self.old.source_faults)
+            × (self.new.sink_faults ≡ self.old.sink_faults) }
+        ensures disk_fault { OnErr result (Rose self.old.disk_faults self.new.disk_faults) }
+        ensures opened { OnOk result (IsOpen file self.new.a self.new.b) }
+    {
         let done = match file {
             FileName::A => size_of(&self.rt, &mut self.a, A),
             FileName::B => size_of(&self.rt, &mut self.b, B),
@@ -103,7 +129,14 @@ impl<R: Files + Input + Print + Drop> Outside for FileWorld<R> {
         counted(done, &mut self.disk_faults)
     }
 
-    fn read_at(&mut self, file: FileName, at: u64, buf: &mut [u8]) -> Result<usize, Failed> {
+    fn read_at(&mut self, file: FileName, at: u64, buf: &mut [u8]) -> Result<usize, Failed>
+        ensures within { IfOk result (λ n. n ≤ length buf.old) }
+        ensures later { self.old.disk_faults ≤ self.new.disk_faults }
+        ensures others { (self.new.source_faults ≡ self.old.source_faults)
+            × (self.new.sink_faults ≡ self.old.sink_faults) }
+        ensures disk_fault { OnErr result (Rose self.old.disk_faults self.new.disk_faults) }
+        ensures opened { OnOk result (IsOpen file self.new.a self.new.b) }
+    {
         let done = match file {
             FileName::A => read_from(&self.rt, &mut self.a, A, at, buf),
             FileName::B => read_from(&self.rt, &mut self.b, B, at, buf),
@@ -111,7 +144,13 @@ impl<R: Files + Input + Print + Drop> Outside for FileWorld<R> {
         counted(done, &mut self.disk_faults)
     }
 
-    fn write_at(&mut self, file: FileName, at: u64, bytes: &[u8]) -> Result<(), Failed> {
+    fn write_at(&mut self, file: FileName, at: u64, bytes: &[u8]) -> Result<(), Failed>
+        ensures later { self.old.disk_faults ≤ self.new.disk_faults }
+        ensures others { (self.new.source_faults ≡ self.old.source_faults)
+            × (self.new.sink_faults ≡ self.old.sink_faults) }
+        ensures disk_fault { OnErr result (Rose self.old.disk_faults self.new.disk_faults) }
+        ensures opened { OnOk result (IsOpen file self.new.a self.new.b) }
+    {
         let done = match file {
             FileName::A => write_to(&self.rt, &mut self.a, A, at, bytes),
             FileName::B => write_to(&self.rt, &mut self.b, B, at, bytes),
@@ -119,7 +158,13 @@ impl<R: Files + Input + Print + Drop> Outside for FileWorld<R> {
         counted(done, &mut self.disk_faults)
     }
 
-    fn sync(&mut self, file: FileName) -> Result<(), Failed> {
+    fn sync(&mut self, file: FileName) -> Result<(), Failed>
+        ensures later { self.old.disk_faults ≤ self.new.disk_faults }
+        ensures others { (self.new.source_faults ≡ self.old.source_faults)
+            × (self.new.sink_faults ≡ self.old.sink_faults) }
+        ensures disk_fault { OnErr result (Rose self.old.disk_faults self.new.disk_faults) }
+        ensures opened { OnOk result (IsOpen file self.new.a self.new.b) }
+    {
         let done = match file {
             FileName::A => sync_of(&self.rt, &mut self.a, A),
             FileName::B => sync_of(&self.rt, &mut self.b, B),

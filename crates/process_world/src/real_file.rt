@@ -1,9 +1,9 @@
 //! A file of the real world. It is opened at its first use, and stays open.
-ghost use Rattle.std.specs.Prelude.{◌≤◌, length, IfOk};
+ghost use Rattle.std.specs.Prelude.{◌≤◌, length, IfOk, IsSome, OnOk};
 
 use outside_world::Failed;
 use std::fs::{OpenFile, OpenOptions};
-use std::io::{Read, Seek, SeekFrom, Write};
+use std::os::unix::fs::FileExt;
 use std::rt::Files;
 
 /// The length of the file of this name, once it is opened.
@@ -11,8 +11,11 @@ pub(crate) fn size_of<R: Files>(
     rt: &R,
     slot: &mut Option<<R as Files>::File>,
     name: &str,
-) -> Result<u64, Failed> {
-    let file = opened(rt, slot, name)?;
+) -> Result<u64, Failed>
+    ensures opened { OnOk result (IsSome slot.new) }
+{
+    open(rt, slot, name)?;
+    let file = slot.as_ref().ok_or(Failed)?;
     match file.metadata() {
         Ok(data) => Ok(data.len()),
         Err(_) => Err(Failed),
@@ -27,15 +30,17 @@ pub(crate) fn read_from<R: Files>(
     at: u64,
     buf: &mut [u8],
 ) -> Result<usize, Failed>
+where
+    <R as Files>::File: FileExt,
     ensures within { IfOk result (λ n. n ≤ length buf.old) }
+    ensures opened { OnOk result (IsSome slot.new) }
 {
-    let file = opened(rt, slot, name)?;
-    if file.seek(SeekFrom::Start(at)).is_err() {
-        return Err(Failed);
-    }
+    open(rt, slot, name)?;
+    let file = slot.as_ref().ok_or(Failed)?;
     let mut filled = 0;
     while filled < buf.len() {
-        match file.read(&mut buf[filled..]) {
+        let place = at.saturating_add(filled as u64);
+        match file.read_at(&mut buf[filled..], place) {
             Ok(0) => return Ok(filled),
             Ok(n) => filled += n,
             Err(_) => return Err(Failed),
@@ -51,12 +56,14 @@ pub(crate) fn write_to<R: Files>(
     name: &str,
     at: u64,
     bytes: &[u8],
-) -> Result<(), Failed> {
-    let file = opened(rt, slot, name)?;
-    if file.seek(SeekFrom::Start(at)).is_err() {
-        return Err(Failed);
-    }
-    match file.write_all(bytes) {
+) -> Result<(), Failed>
+where
+    <R as Files>::File: FileExt,
+    ensures opened { OnOk result (IsSome slot.new) }
+{
+    open(rt, slot, name)?;
+    let file = slot.as_ref().ok_or(Failed)?;
+    match file.write_all_at(bytes, at) {
         Ok(()) => Ok(()),
         Err(_) => Err(Failed),
     }
@@ -67,27 +74,25 @@ pub(crate) fn sync_of<R: Files>(
     rt: &R,
     slot: &mut Option<<R as Files>::File>,
     name: &str,
-) -> Result<(), Failed> {
-    let file = opened(rt, slot, name)?;
+) -> Result<(), Failed>
+    ensures opened { OnOk result (IsSome slot.new) }
+{
+    open(rt, slot, name)?;
+    let file = slot.as_ref().ok_or(Failed)?;
     match file.sync_data() {
         Ok(()) => Ok(()),
         Err(_) => Err(Failed),
     }
 }
 
-// The open file of this name in the current folder, which is made where it is missing.
-fn opened<'a, R: Files>(
-    rt: &R,
-    slot: &'a mut Option<<R as Files>::File>,
-    name: &str,
-) -> Result<&'a mut <R as Files>::File, Failed> {
+// Opens the file of this name in the current folder, where it isn't open yet. It is made where it is missing.
+fn open<R: Files>(rt: &R, slot: &mut Option<<R as Files>::File>, name: &str) -> Result<(), Failed>
+    ensures { OnOk result (IsSome slot.new) }
+{
     if slot.is_none() {
         *slot = Some(open_or_make(rt, name)?);
     }
-    match slot {
-        Some(file) => Ok(file),
-        None => Err(Failed),
-    }
+    Ok(())
 }
 
 // The folder is synced before anything is written, since a file that was made is lost with its name.
