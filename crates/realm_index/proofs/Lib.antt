@@ -8,6 +8,8 @@ pub mod Picked
 pub mod Sums
 -- what a search through a tree finds
 pub mod Searches
+-- a square put round a part
+pub mod Rounds
 -- lists of numbers that don't fall
 pub mod Orders
 -- sums over the entries of a map

@@ -2,9 +2,10 @@
 ghost use Rattle.std.specs.Prelude.{◌≡◌, ◌↔◌, ◌+◌, ◌<◌, ◌≤◌, ◌++◌, ◌∷◌, ℕ, [], IsTrue, false, All, length, get_or};
 ghost use Rattle.std.specs.Prelude.{OnOk, OnErr, IfOk, MatchOption, MatchResult};
 ghost use Rattle.std.specs.Bool.{OnTrue, OnFalse};
-ghost use Rattle.realm_index.specs.Bounds.{holds};
+ghost use Rattle.std.specs.Prelude.{IfSome, vec_capacity};
+ghost use Rattle.realm_index.specs.Bounds.{holds, is_smaller_in};
 ghost use Rattle.realm_index.specs.declared.tree.Entry.{Entry as Item};
-ghost use Rattle.realm_index.specs.Branch.{flatten, AreLess, StayBelow, HasPartFor};
+ghost use Rattle.realm_index.specs.Branch.{Branch, flatten, AreLess, StayBelow, HasPartFor};
 ghost use Rattle.realm_index.specs.Branch.{HasMore, HasSame, Lacks, AddsKeys, count_near};
 
 use crate::bounds::Bounds;
@@ -12,6 +13,7 @@ use crate::square::Square;
 use grid_base::{NoMemory, Steps};
 use std::alloc::Global;
 use std::marker::Model;
+use std::mem;
 use std::sync::ledger::Ledger;
 
 // A key, and the box of the segment under it.
@@ -55,6 +57,33 @@ impl Tree {
             own: Vec::new(alloc),
             parts: Vec::new(alloc),
         }
+    }
+
+    // The part alone, in a greater square. There is room for it in the list.
+    fn round(square: Square, mut list: Vec<Tree>, part: Tree) -> Tree
+        requires empty { list.items ≡ [] }
+        requires room { 1 ≤ vec_capacity list }
+        requires has { IsTrue (is_smaller_in part.square square) }
+        ensures square { result.square ≡ square }
+        ensures same { HasSame part.entries result.entries }
+    {
+        // that its square holds the boxes is known where it is asked for
+        let _ = part.is_in(&square);
+        let own = Vec::new(*list.allocator());
+        list.push_reserved(part);
+        Tree {
+            square,
+            own,
+            parts: list,
+        }
+    }
+
+    // Whether its square is a smaller one in the other.
+    fn is_in(&self, other: &Square) -> bool
+        ensures within { result ≡ is_smaller_in self.now.square other.now }
+        ensures all { All (λ e. IsTrue (holds self.now.square e.bounds)) self.now.entries }
+    {
+        other.has(&self.square)
     }
 
     // Whether its square holds the box.
@@ -222,7 +251,8 @@ fn find_among<L: Ledger>(
     Ok(())
 }
 
-// Where the part is that holds the box; where there is none, `part` is added, which does.
+// Where the part is that holds the box. Where there is none, one is added in the quarter `part`: the least that holds the
+// box, and round the part that is there already.
 fn place_for(
     alloc: Global,
     parts: &mut Vec<Tree>,
@@ -237,10 +267,45 @@ fn place_for(
     if let Some(place) = place_of(parts, b) {
         return Ok(place);
     }
+    if let Some(place) = place_in(parts, &part) {
+        put_round(alloc, parts, place, &part, b)?;
+        return Ok(place);
+    }
     let place = parts.len();
     parts.reserve_exact(1)?;
-    parts.push(Tree::new(alloc, part))?;
+    parts.push(Tree::new(alloc, part.least_for(b)))?;
     Ok(place)
+}
+
+// Where the part is that lies in the quarter.
+fn place_in(parts: &[Tree], quarter: &Square) -> Option<usize>
+    ensures { IfSome result (λ place. (place < length parts.now)
+        × ((d : Branch) → IsTrue (is_smaller_in (get_or parts.now place d).square quarter.now))) }
+{
+    parts.iter().position(|part| part.is_in(quarter))
+}
+
+// Puts a square round the part at this place, the least in the quarter that holds the box too.
+fn put_round(
+    alloc: Global,
+    parts: &mut Vec<Tree>,
+    place: usize,
+    quarter: &Square,
+    b: &Bounds,
+) -> Result<(), NoMemory>
+    requires within { place < length parts.old.items }
+    requires held { IsTrue (holds quarter.now b.now) }
+    requires inside { (d : Branch) → IsTrue (is_smaller_in (get_or parts.old.items place d).square quarter.now) }
+    ensures place { OnOk result (HasPartFor parts.new.items b.now place) }
+    ensures same { HasSame (flatten parts.old.items) (flatten parts.new.items) }
+    ensures lower { (n : ℕ) → quarter.now.level < n → AreLess n parts.old.items → AreLess n parts.new.items }
+{
+    let list = Vec::with_capacity(alloc, 1)?;
+    let part = &mut parts[place];
+    let square = quarter.least_round(&part.square, b);
+    let inner = mem::replace(part, Tree::new(alloc, square));
+    let _bare = mem::replace(part, Tree::round(square, list, inner));
+    Ok(())
 }
 
 // Where the part is that holds the box.
