@@ -29,12 +29,15 @@ pub fn write_line(alloc: Global, c: &Command) -> Result<Reply, NoMemory>
     Ok(Reply::new(text.into_bytes()))
 }
 
+// Room for a segment between any places of the grid.
+const ROOM: usize = 48;
+
 /// The one text of the change, which is that of its command.
 pub fn write_change(alloc: Global, change: &Change) -> Result<Reply, NoMemory>
     requires { IsSpellableChange change.now }
     ensures { IfOk result (λ reply. reply ≡ change_text change.now) }
 {
-    let mut text = String::new(alloc);
+    let mut text = String::with_capacity(alloc, ROOM)?;
     push_change(&mut text, change)?;
     Ok(Reply::new(text.into_bytes()))
 }

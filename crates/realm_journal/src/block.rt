@@ -29,7 +29,7 @@ impl Block {
     pub fn new(alloc: Global, text: &[u8]) -> Result<Block, NoMemory>
         ensures text { IfOk result (λ block. block ≡ text.now) }
     {
-        let mut whole = Vec::new(alloc);
+        let mut whole = Vec::with_capacity(alloc, text.len().saturating_add(2))?;
         whole.push(OPEN)?;
         whole.extend_from_slice(text)?;
         whole.push(CLOSED)?;

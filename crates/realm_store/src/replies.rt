@@ -6,6 +6,9 @@ use grid_base::{NoMemory, Reply};
 use realm_insert::Applied;
 use std::alloc::Global;
 
+// Room for the longest reply: four words, and four numbers of at most 20 digits.
+const ROOM: usize = 104;
+
 /// The reply to the change with this number.
 pub(crate) fn accept(alloc: Global, number: u64, applied: &Applied) -> Result<Reply, NoMemory>
     ensures { IfOk result (λ reply. reply
@@ -13,6 +16,10 @@ pub(crate) fn accept(alloc: Global, number: u64, applied: &Applied) -> Result<Re
 {
     let steps = applied.trace.steps().len();
     let (first, added) = (applied.first, applied.added);
-    let text = format!(in alloc; "ok {number} steps {steps} first {first} new {added}\n")?;
+    let mut text = String::with_capacity(alloc, ROOM)?;
+    write!(
+        text,
+        "ok {number} steps {steps} first {first} new {added}\n"
+    )?;
     Ok(Reply::new(text.into_bytes()))
 }
