@@ -7,7 +7,5 @@ mod hashed;
 mod holding;
 mod holdings;
 mod registry;
-#[cfg(test)]
-mod tests;
 
 pub use registry::Registry;

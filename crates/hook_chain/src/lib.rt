@@ -7,10 +7,6 @@ mod closeness;
 mod fraction;
 mod hulls;
 mod laws;
-#[cfg(test)]
-mod plain_tests;
-#[cfg(test)]
-mod tests;
 mod walking;
 
 pub use closeness::close;

@@ -24,6 +24,3 @@ pub use name::Name;
 pub use path::{Path, Paths};
 pub use reading::read_line;
 pub use writing::{write_change, write_line};
-
-#[cfg(test)]
-mod tests;

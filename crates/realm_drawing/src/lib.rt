@@ -12,12 +12,8 @@ mod leaving;
 mod mending;
 mod originals;
 mod passages;
-#[cfg(test)]
-mod plain_tests;
 mod redrawing;
 mod shares;
-#[cfg(test)]
-mod tests;
 mod violations;
 
 pub use drawing::Drawing;

@@ -3,8 +3,6 @@
 #![tactic(auto)]
 
 mod table;
-#[cfg(test)]
-mod tests;
 mod users;
 mod value;
 

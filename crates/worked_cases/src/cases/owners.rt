@@ -1,6 +1,7 @@
-//! Worked cases, counted on paper.
-use crate::Registry;
-use grid_base::{Point, Segment};
+//! Who owns which piece, counted on paper.
+use crate::paper::drawn;
+use component_registry::Registry;
+use grid_base::Point;
 use std::alloc::Global;
 use std::process::Abort;
 use std::test::Fail;
@@ -10,14 +11,9 @@ const BOTTOM: [u64; 4] = [0, 0, 4, 0];
 
 const RIGHT: [u64; 4] = [4, 0, 4, 4];
 
-fn segment([x, y, u, v]: [u64; 4]) -> Result<Segment, Fail> {
-    let found = Segment::new(Point::new(x, y)?, Point::new(u, v)?);
-    Ok(found.ok_or("equal ends")?)
-}
-
 // A piece is put for an id that doesn't own it yet.
 fn add(registry: &mut Registry, ends: [u64; 4], id: u32) -> Result<usize, Fail> {
-    let piece = segment(ends)?;
+    let piece = drawn(ends)?;
     if registry.remove(&piece, id) {
         return Err(Fail::new("an owner already"));
     }
@@ -33,13 +29,13 @@ fn assert_pieces(
 ) -> Result<(), Fail> {
     let mut list = Vec::new(alloc);
     for &(ends, owners) in pieces {
-        let piece = segment(ends)?;
+        let piece = drawn(ends)?;
         let key = registry.key(&piece).ok_or("no piece")?;
-        assert_eq!(rt; registry.piece(key), Some(piece), "{ends:?}");
-        assert_eq!(rt; registry.owners(key), owners, "{ends:?}");
+        assert!(rt; registry.piece(key) == Some(piece), "{ends:?}");
+        assert!(rt; registry.owners(key) == owners, "{ends:?}");
         list.push(piece)?;
     }
-    assert_eq!(rt; registry.pieces()?.as_slice(), list.as_slice());
+    assert!(rt; registry.pieces()?.as_slice() == list.as_slice());
     Ok(())
 }
 
@@ -53,10 +49,10 @@ fn assert_uses(
     let mut points = Vec::new(alloc);
     for &[x, y, count] in uses {
         let p = Point::new(x, y)?;
-        assert_eq!(rt; registry.vertex_uses(&p), count, "{x} {y}");
+        assert!(rt; registry.vertex_uses(&p) == count, "{x} {y}");
         points.push(p)?;
     }
-    assert_eq!(rt; registry.vertices()?.as_slice(), points.as_slice());
+    assert!(rt; registry.vertices()?.as_slice() == points.as_slice());
     Ok(())
 }
 
@@ -65,7 +61,7 @@ fn a_shared_piece_goes_with_its_last_owner(rt: HostRuntime) -> Result<(), Fail> 
     let mut registry = Registry::new(rt.alloc());
     let key = add(&mut registry, BOTTOM, 7)?;
     add(&mut registry, RIGHT, 3)?;
-    assert_eq!(rt; add(&mut registry, BOTTOM, 3)?, key);
+    assert!(rt; add(&mut registry, BOTTOM, 3)? == key);
     let both = &[(BOTTOM, &[3, 7][..]), (RIGHT, &[3])][..];
     assert_pieces(&rt, rt.alloc(), &registry, both)?;
     for &(id, found, pieces, uses) in &[
@@ -78,11 +74,11 @@ fn a_shared_piece_goes_with_its_last_owner(rt: HostRuntime) -> Result<(), Fail> 
         ),
         (3, true, &[(RIGHT, &[3])], &[[4, 0, 1], [4, 4, 1]]),
     ] {
-        assert_eq!(rt; registry.remove(&segment(BOTTOM)?, id), found, "{id}");
+        assert!(rt; registry.remove(&drawn(BOTTOM)?, id) == found, "{id}");
         assert_pieces(&rt, rt.alloc(), &registry, pieces)?;
         assert_uses(&rt, rt.alloc(), &registry, uses)?;
     }
-    assert_eq!(rt; registry.piece(key), None);
+    assert!(rt; registry.piece(key).is_none());
     Ok(())
 }
 

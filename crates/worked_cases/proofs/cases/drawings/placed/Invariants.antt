@@ -1,6 +1,6 @@
 -- The next id is greater than those that were given.
 use Rattle.realm_drawing.specs.Straight.{AllBelow}
-use Rattle.realm_drawing.proofs.tests.placed.Given as goal
+use Rattle.worked_cases.proofs.cases.drawings.placed.Given as goal
 
 abbrev pub invariant-loop-ends : goal.invariant-loop-ends
 invariant-loop-ends l = AllBelow l.id l.drawing.drawing

@@ -1,10 +1,10 @@
 //! Lines, and the places where they go wrong, worked out on paper from the grammar in
 //! `docs/formats/LINES.md`.
-use crate::{
+use grid_base::Reply;
+use line_grammar::{
     At, Change, Command, LineError, Name, Path, Paths, Query, a_change_is_a_line,
     one_command_a_text, read_line, spellable, spellable_change, write_change, write_line,
 };
-use grid_base::Reply;
 use rose_values::{Num, Op};
 use std::alloc::Global;
 use std::test::Fail;
@@ -226,10 +226,10 @@ fn other_place<'a>(alloc: Global, table: &[(&'a str, usize)]) -> Option<&'a str>
 
 #[test]
 fn other_lines_are_refused_where_they_go_wrong(rt: HostRuntime) {
-    assert_eq!(rt; other_place(rt.alloc(), &WORDS), None);
-    assert_eq!(rt; other_place(rt.alloc(), &NUMBERS), None);
-    assert_eq!(rt; other_place(rt.alloc(), &LISTS), None);
-    assert_eq!(rt; other_place(rt.alloc(), &NAMES), None);
+    assert!(rt; other_place(rt.alloc(), &WORDS).is_none());
+    assert!(rt; other_place(rt.alloc(), &NUMBERS).is_none());
+    assert!(rt; other_place(rt.alloc(), &LISTS).is_none());
+    assert!(rt; other_place(rt.alloc(), &NAMES).is_none());
 }
 
 // The line of the command that the line is read as.
@@ -256,7 +256,7 @@ fn other_line<'a>(alloc: Global, lines: &[&'a str]) -> Option<&'a str> {
 fn every_form_is_read_and_written(rt: HostRuntime) {
     one_command_a_text();
     a_change_is_a_line();
-    assert_eq!(rt; other_line(rt.alloc(), &GOOD), None);
+    assert!(rt; other_line(rt.alloc(), &GOOD).is_none());
 }
 
 #[test]
@@ -267,17 +267,14 @@ fn the_parts_of_a_line_are_its_command(rt: HostRuntime) -> Result<(), Fail> {
     ) else {
         return Err(Fail::new("another command"));
     };
-    assert_eq!(rt; name.into_text().as_str(), "r2");
+    assert!(rt; name.into_text().as_str() == "r2");
     let mut paths = paths.into_paths();
     let last = paths.pop().ok_or("no list")?;
     let first = paths.pop().ok_or("one list")?;
     assert!(rt; paths.is_empty());
-    assert_eq!(rt; last.places(), [At { x: 5, y: 6 }].as_slice());
+    assert!(rt; last.places() == [At { x: 5, y: 6 }].as_slice());
     let places = first.into_places();
-    assert_eq!(rt;
-        places.as_slice(),
-        [At { x: 1, y: 2 }, At { x: 3, y: 4 }].as_slice()
-    );
+    assert!(rt; places.as_slice() == [At { x: 1, y: 2 }, At { x: 3, y: 4 }].as_slice());
     Ok(())
 }
 
@@ -298,7 +295,7 @@ fn other_name<'a>(alloc: Global, table: &[(&'a str, bool)]) -> Result<Option<&'a
 #[test]
 fn some_commands_have_no_line(rt: HostRuntime) -> Result<(), Fail> {
     let alloc = rt.alloc();
-    assert_eq!(rt; other_name(alloc, &TEXTS)?, None);
+    assert!(rt; other_name(alloc, &TEXTS)?.is_none());
     assert!(rt; spellable(&Command::Batch(9_999_999_999_999_999_999)));
     assert!(rt; !spellable(&Command::Batch(10_000_000_000_000_000_000)));
     let two = Query::Eval(Op::Contour, name(alloc, "p")?, Some(name(alloc, "q")?));
@@ -323,6 +320,6 @@ fn a_long_line_is_read(rt: HostRuntime) -> Result<(), Fail> {
     let Ok(Command::Change(Change::Points(_, path))) = read_line(rt.alloc(), line.as_bytes()) else {
         return Err(Fail::new("refused"));
     };
-    assert_eq!(rt; path.places().len(), 250_000);
+    assert!(rt; path.places().len() == 250_000);
     Ok(())
 }

@@ -1,23 +1,17 @@
-//! Worked cases, read off squared paper.
-use crate::{Drawing, crossing_step};
+//! Drawings, read off squared paper.
+use crate::paper::place;
 use grid_base::{NoMemory, Point, Segment};
+use realm_drawing::{Drawing, crossing_step};
+use segment_lists::segment_with;
 use std::alloc::Global;
 use std::process::Abort;
-
-pub(crate) fn point(rt: &impl Abort, [x, y]: [u64; 2]) -> Point {
-    Point::new(x, y).expect(rt, "a point of the grid")
-}
-
-fn segment([x, y, u, v]: [u64; 4]) -> Option<Segment> {
-    Segment::new(Point::new(x, y).ok()?, Point::new(u, v).ok()?)
-}
 
 // Straight originals 1, 2 and so on along these segments.
 pub(crate) fn placed(alloc: Global, segments: &[[u64; 4]]) -> Result<Drawing, NoMemory> {
     let mut drawing = Drawing::new(alloc);
     let mut id: u32 = 1;
     for ends in segments {
-        drawing.place(id, segment(*ends).ok_or(NoMemory)?)?;
+        drawing.place(id, segment_with(ends).ok_or(NoMemory)?)?;
         id = id.checked_add(1).ok_or(NoMemory)?;
     }
     Ok(drawing)
@@ -54,7 +48,7 @@ fn compare(
 ) {
     let mut drawing = placed(alloc, segments).expect(rt, "originals");
     for at in explicit {
-        drawing.add_point(point(rt, *at)).expect(rt, "memory");
+        drawing.add_point(place(rt, *at)).expect(rt, "memory");
     }
     settle(rt, &mut drawing);
     let mut id: u32 = 0;
@@ -131,21 +125,21 @@ fn lists(
 fn a_drawing_lists_what_it_has(rt: HostRuntime) {
     let ends = [[0, 0, 10, 4], [0, 4, 10, 0]];
     let (t, u) = (
-        segment(ends[0]).expect(&rt, "a segment"),
-        segment(ends[1]).expect(&rt, "a segment"),
+        segment_with(&ends[0]).expect(&rt, "a segment"),
+        segment_with(&ends[1]).expect(&rt, "a segment"),
     );
     let mut drawing = placed(rt.alloc(), &ends).expect(&rt, "originals");
     assert!(rt; crossing_step(&u, &t) == drawing.first_violation());
     assert!(rt; drawn_anew(&rt, &mut drawing) == 4);
     assert!(rt; drawing.pieces().expect(&rt, "memory").len() == 4);
-    assert!(rt; drawing.add_point(point(&rt, [10, 4])).expect(&rt, "memory"));
+    assert!(rt; drawing.add_point(place(&rt, [10, 4])).expect(&rt, "memory"));
     let all = [[0, 0], [0, 4], [5, 2], [10, 0], [10, 4]];
     assert!(rt; lists(&rt, &drawing, &u, &all, &[[10, 4]]));
 }
 
 #[test]
 fn a_list_that_may_be_a_chain_is_taken(rt: HostRuntime) {
-    let chain = [point(&rt, [0, 0]), point(&rt, [3, 1]), point(&rt, [9, 3])];
+    let chain = [place(&rt, [0, 0]), place(&rt, [3, 1]), place(&rt, [9, 3])];
     let mut drawing = Drawing::new(rt.alloc());
     drawing.place_chain(7, &chain).expect(&rt, "a chain");
     assert!(rt; drawing.chain(7) == Some(chain.as_slice()));

@@ -4,8 +4,8 @@
 //! lies between the two places, compared as fractions.
 ghost use Rattle.std.specs.Prelude.{◌<◌};
 
-use crate::{HookError, close, hook};
 use grid_base::{Point, Segment, in_box};
+use hook_chain::{HookError, close, hook};
 use std::alloc::Global;
 use std::process::Abort;
 

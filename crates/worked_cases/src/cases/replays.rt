@@ -1,10 +1,11 @@
 //! A replay against a program that knows lists of points alone. On a grid of nine by nine, where segments cross, overlap
 //! and have ends inside one another, steps are taken in both until no violation is left, and all chains are compared
 //! after each.
-use crate::Drawing;
-use crate::tests::{placed, point};
+use crate::cases::drawings::placed;
+use crate::paper::place;
 use grid_base::{Point, Segment, Step};
 use hook_chain::hook;
+use realm_drawing::Drawing;
 use std::alloc::Global;
 use std::process::Abort;
 
@@ -98,7 +99,7 @@ fn round(
     let mut path = Vec::new(alloc);
     path.push(piece.a()).expect(rt, "memory");
     for at in [[x, y.wrapping_add(1)], [x, y], [x.wrapping_add(1), y]] {
-        path.push(point(rt, at)).expect(rt, "memory");
+        path.push(place(rt, at)).expect(rt, "memory");
     }
     path.push(piece.b()).expect(rt, "memory");
     path.dedup();
@@ -119,7 +120,7 @@ fn take(rt: &impl Abort, alloc: Global, chains: &mut [Vec<Point>], step: &Step) 
         }
         Step::Corner { t, u } => {
             let z = corner(t, u);
-            lead(rt, alloc, chains, t, point(rt, z));
+            lead(rt, alloc, chains, t, place(rt, z));
             round(rt, alloc, chains, u, z);
             2
         }
@@ -131,8 +132,8 @@ fn straight(rt: &impl Abort, alloc: Global, segments: &[[u64; 4]]) -> Vec<Vec<Po
     let mut chains = Vec::new(alloc);
     for [x, y, u, v] in segments {
         let mut chain = Vec::new(alloc);
-        chain.push(point(rt, [*x, *y])).expect(rt, "memory");
-        chain.push(point(rt, [*u, *v])).expect(rt, "memory");
+        chain.push(place(rt, [*x, *y])).expect(rt, "memory");
+        chain.push(place(rt, [*u, *v])).expect(rt, "memory");
         chain.sort_unstable();
         chains.push(chain).expect(rt, "memory");
     }

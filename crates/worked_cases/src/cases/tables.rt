@@ -1,11 +1,11 @@
-//! Worked cases, counted on paper.
+//! A table of values: two roads that share an original, and a well.
 ghost use Rattle.std.specs.Prelude.{◌<◌, AllPairs, IfOk};
 
-use crate::{IdList, Parts, Table, TableError, Value};
 use grid_base::{Kind, Point};
 use rose_values::PointsValue;
 use std::alloc::Global;
 use std::test::Fail;
+use value_table::{IdList, Parts, Table, TableError, Value};
 
 // A lines value of two originals.
 fn lines(alloc: Global, first: u32, second: u32) -> Result<Value, Fail> {
@@ -68,10 +68,10 @@ fn values_stand_in_the_order_of_definition(rt: HostRuntime) -> Result<(), Fail> 
     let mut table = town(rt.alloc())?;
     assert!(rt; has_names(&table, &["road", "well", "lane"]));
     let again = table.define("road", points(rt.alloc(), 0, 0)?);
-    assert_eq!(rt; again, Err(TableError::Taken));
+    assert!(rt; again == Err(TableError::Taken));
     assert!(rt; has_names(&table, &["road", "well", "lane"]));
-    assert_eq!(rt; table.drop_name("road"), true);
-    assert_eq!(rt; table.drop_name("road"), false);
+    assert!(rt; table.drop_name("road"));
+    assert!(rt; !table.drop_name("road"));
     assert!(rt; has_names(&table, &["well", "lane"]));
     Ok(())
 }
@@ -80,25 +80,19 @@ fn values_stand_in_the_order_of_definition(rt: HostRuntime) -> Result<(), Fail> 
 fn a_shared_original_has_two_users(rt: HostRuntime) -> Result<(), Fail> {
     let mut table = town(rt.alloc())?;
     let well = Point::new(5, 7)?;
-    assert_eq!(rt;
-        other_users(&table, &[(1, 1), (2, 2), (3, 0), (9, 1)]),
-        None
-    );
-    assert_eq!(rt; table.users_of_point(&well), 1);
+    assert!(rt; other_users(&table, &[(1, 1), (2, 2), (3, 0), (9, 1)]).is_none());
+    assert!(rt; table.users_of_point(&well) == 1);
     table.drop_name("road");
     table.drop_name("well");
-    assert_eq!(rt;
-        other_users(&table, &[(1, 0), (2, 1), (3, 0), (9, 1)]),
-        None
-    );
-    assert_eq!(rt; table.users_of_point(&well), 0);
+    assert!(rt; other_users(&table, &[(1, 0), (2, 1), (3, 0), (9, 1)]).is_none());
+    assert!(rt; table.users_of_point(&well) == 0);
     Ok(())
 }
 
 #[test]
 fn a_value_is_found_by_its_name(rt: HostRuntime) -> Result<(), Fail> {
     let table = town(rt.alloc())?;
-    assert_eq!(rt; table.get("well").map(|v| v.kind), Some(Kind::Points));
+    assert!(rt; table.get("well").map(|v| v.kind) == Some(Kind::Points));
     assert!(rt; table.get("river").is_none());
     let Some(
         Value {
@@ -109,8 +103,8 @@ fn a_value_is_found_by_its_name(rt: HostRuntime) -> Result<(), Fail> {
     else {
         return Err(Fail::new("no ids"));
     };
-    assert_eq!(rt; list.ids(), &[2, 9][..]);
+    assert!(rt; list.ids() == &[2, 9][..]);
     let again = IdList::new(Vec::from_slice(rt.alloc(), list.ids())?);
-    assert_eq!(rt; again.into_ids().as_slice(), &[2, 9][..]);
+    assert!(rt; again.into_ids().as_slice() == &[2, 9][..]);
     Ok(())
 }

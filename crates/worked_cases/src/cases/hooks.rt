@@ -1,20 +1,12 @@
 //! Worked cases. The expected hooks are those of another program, which looks at every grid point of the
 //! triangle. What is close comes from a scan of all columns or rows by the definition, with fractions, and
 //! for the long originals from another search and from paper.
-use crate::{HookError, close, hook, one_hook};
-use grid_base::{Point, Segment, in_box};
+use crate::paper::point;
+use grid_base::{Point, in_box};
+use hook_chain::{HookError, close, hook, one_hook};
+use segment_lists::segment_with;
 use std::alloc::Global;
 use std::process::Abort;
-
-// The point with these coordinates.
-fn point(x: u64, y: u64) -> Option<Point> {
-    Point::new(x, y).ok()
-}
-
-// The segment between two points.
-fn segment([k, l, m, n]: [u64; 4]) -> Option<Segment> {
-    Segment::new(point(k, l)?, point(m, n)?)
-}
 
 // Whether the points have these coordinates, two for each.
 fn are_at(points: &[Point], coordinates: &[u64]) -> bool {
@@ -33,7 +25,7 @@ fn is_hook(alloc: Global, row: &[u64]) -> Option<bool> {
     let [k, l, m, n, x, y, path @ ..] = row else {
         return None;
     };
-    let t = segment([*k, *l, *m, *n])?;
+    let t = segment_with(&[*k, *l, *m, *n])?;
     match hook(alloc, &t, point(*x, *y)?) {
         Ok(chain) => Some(are_at(chain.points(), path)),
         Err(error) => Some(error == HookError::NotNear && path.is_empty()),
@@ -139,8 +131,8 @@ fn hooks_in_the_least_and_the_largest_cases(rt: HostRuntime) {
 // Whether the piece is close to the original, in whose box it is. A row has the ends of the original, and
 // those of the piece.
 fn is_close([k, l, m, n, x, y, u, v]: [u64; 8]) -> Option<bool> {
-    let o = segment([k, l, m, n])?;
-    let p = segment([x, y, u, v])?;
+    let o = segment_with(&[k, l, m, n])?;
+    let p = segment_with(&[x, y, u, v])?;
     if in_box(&o, &p.a()) && in_box(&o, &p.b()) {
         Some(close(&o, &p))
     } else {

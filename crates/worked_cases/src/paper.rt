@@ -1,0 +1,32 @@
+//! Points by their coordinates, as tables write them.
+ghost use Rattle.std.specs.Prelude.{◌≡◌, ◌⊎◌, ◌≤◌, ◌^◌, MatchOption};
+ghost use Rattle.grid_base.specs.Point.{point_at};
+
+use grid_base::Point;
+#[cfg(test)]
+use grid_base::Segment;
+#[cfg(test)]
+use segment_lists::segment_with;
+#[cfg(test)]
+use std::process::Abort;
+#[cfg(test)]
+use std::test::Fail;
+
+/// The point with these coordinates; none off the grid.
+pub fn point(x: u64, y: u64) -> Option<Point>
+    ensures { MatchOption result ((2 ^ 28 ≤ x) ⊎ (2 ^ 28 ≤ y)) (λ p. p ≡ point_at x y) }
+{
+    Point::new(x, y).ok()
+}
+
+// A point that is known to be on the grid.
+#[cfg(test)]
+pub(crate) fn place(rt: &impl Abort, [x, y]: [u64; 2]) -> Point {
+    point(x, y).expect(rt, "a point of the grid")
+}
+
+// A segment that is known to have two ends on the grid.
+#[cfg(test)]
+pub(crate) fn drawn(ends: [u64; 4]) -> Result<Segment, Fail> {
+    Ok(segment_with(&ends).ok_or("no segment")?)
+}
