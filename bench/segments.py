@@ -70,21 +70,26 @@ def write_input(segments):
     return file
 
 
-def run(program, file, times, folder):
-    """The output of the program on the file, its least processor seconds of so many runs, and its greatest memory in bytes."""
-    least, memory, output = None, 0, b""
-    for _ in range(times):
-        with (open(file.name, "rb") as source, tempfile.NamedTemporaryFile("r") as told,
-              tempfile.TemporaryDirectory(dir=folder) as empty):
-            # A process that starts others counts its own memory in, so a small one stands between.
-            command = ["/usr/bin/time", "-o", told.name, "-f", "%M", program, "run"]
-            before = resource.getrusage(resource.RUSAGE_CHILDREN)
-            output = subprocess.run(command, cwd=empty, stdin=source, stdout=subprocess.PIPE, check=True).stdout
-            after = resource.getrusage(resource.RUSAGE_CHILDREN)
-            seconds = after.ru_utime - before.ru_utime + after.ru_stime - before.ru_stime
-            least = seconds if least is None else min(least, seconds)
-            memory = max(memory, int(told.read()) * 1024)
-    return output, least, memory
+def run(program, file, folder):
+    """The output of the program on the file, its processor seconds, and its greatest memory in bytes."""
+    with (open(file.name, "rb") as source, tempfile.NamedTemporaryFile("r") as told,
+          tempfile.TemporaryFile(dir=folder) as given, tempfile.TemporaryDirectory(dir=folder) as empty):
+        # A process that starts others counts its own memory in, so a small one stands between. The replies go to a file: a
+        # pipe would wake its reader at each of them, which costs the program more than the reply.
+        command = ["/usr/bin/time", "-o", told.name, "-f", "%M", program, "run"]
+        before = resource.getrusage(resource.RUSAGE_CHILDREN)
+        subprocess.run(command, cwd=empty, stdin=source, stdout=given, check=True)
+        after = resource.getrusage(resource.RUSAGE_CHILDREN)
+        given.seek(0)
+        seconds = after.ru_utime - before.ru_utime + after.ru_stime - before.ru_stime
+        return given.read(), seconds, int(told.read()) * 1024
+
+
+def run_in_turn(programs, file, times, folder):
+    """Of each program the output, the least processor seconds of so many runs, and the greatest memory in bytes."""
+    runs = [[run(program, file, folder) for program in programs] for _ in range(times)]
+    for tried in zip(*runs):
+        yield tried[0][0], min(seconds for _, seconds, _ in tried), max(memory for _, _, memory in tried)
 
 
 def instructions(program, file, folder):
@@ -98,43 +103,51 @@ def instructions(program, file, folder):
     return int(found.group(1)) if found else None
 
 
-def measure(program, name, file, before, chosen):
-    """Prints a row, and answers its microseconds per piece, with which the next row is compared."""
-    output, seconds, memory = run(program, file, chosen.times, chosen.folder)
+def counted(output):
+    """How many pieces, segments and steps the output tells."""
     pieces = int(re.search(rb"^realm \d+ (\d+)$", output, re.M).group(1))
     drawn = len(re.findall(rb"^ok ", output, re.M))
     steps = sum(int(n) for n in re.findall(rb"^ok \d+ steps (\d+) ", output, re.M))
-    each = 1e6 * seconds / pieces
-    growth = "%7.2f" % (each / before) if before else "      -"
-    row = "%-7s %8d %8d %8d %9.2f %9.2f %s %7.1f %8.0f" % (
-        name, drawn, pieces, steps, seconds, each, growth, memory / 1e6, memory / pieces,
-    )
-    if chosen.instructions:
-        counted = instructions(program, file, chosen.folder)
-        row += "%12.0f" % (counted / pieces) if counted else "           -"
-    print(row, flush=True)
+    return pieces, drawn, steps
+
+
+def measure(name, file, before, chosen):
+    """Prints a row for each program, and answers its microseconds per piece, with which the next row is compared."""
+    each, first = [], None
+    for at, (output, seconds, memory) in enumerate(run_in_turn(chosen.programs, file, chosen.times, chosen.folder)):
+        pieces, drawn, steps = counted(output)
+        first = first or seconds
+        each.append(1e6 * seconds / pieces)
+        growth = "%7.2f" % (each[at] / before[at]) if before else "      -"
+        row = "%-7s %d %8d %8d %8d %9.3f %7.2f %9.2f %s %7.1f %8.0f" % (
+            name, at + 1, drawn, pieces, steps, seconds, first / seconds, each[at], growth, memory / 1e6, memory / pieces,
+        )
+        if chosen.instructions:
+            told = instructions(chosen.programs[at], file, chosen.folder)
+            row += "%12.0f" % (told / pieces) if told else "           -"
+        print(row, flush=True)
     return each
 
 
 def main():
     reader = argparse.ArgumentParser(description=__doc__)
-    reader.add_argument("programs", nargs="+", help="built programs, as crates/rose/out/rose")
+    reader.add_argument("programs", nargs="+", help="built programs, as crates/rose/out/rose, which are run in turn")
     reader.add_argument("--start", type=int, default=7, help="where the draws begin")
     reader.add_argument("--most", type=int, default=100000, help="leaves out rows with more segments")
     reader.add_argument("--fields", nargs="+", default=[name for name, _, _ in FIELDS], help="which fields")
-    reader.add_argument("--times", type=int, default=3, help="how often each is run; the best time counts")
+    reader.add_argument("--times", type=int, default=3, help="how often each is run; its best time counts")
     reader.add_argument("--instructions", action="store_true", help="count instructions too, which is slow")
     reader.add_argument("--folder", help="where the runs keep their files; best in memory, since each change waits for the disk")
     chosen = reader.parse_args()
-    for program in map(os.path.abspath, chosen.programs):
-        print(program)
-        print("field   segments   pieces    steps   seconds  us/piece  growth      MB  B/piece")
-        for name, field, counts in FIELDS:
-            before = None
-            for count in counts:
-                if name in chosen.fields and count <= chosen.most:
-                    with write_input(field(count, draws(chosen.start))) as file:
-                        before = measure(program, name, file, before, chosen)
+    chosen.programs = [os.path.abspath(program) for program in chosen.programs]
+    print("\n".join("%d %s" % numbered for numbered in enumerate(chosen.programs, 1)))
+    print("field   p segments   pieces    steps   seconds   times  us/piece  growth      MB  B/piece")
+    for name, field, counts in FIELDS:
+        before = None
+        for count in counts:
+            if name in chosen.fields and count <= chosen.most:
+                with write_input(field(count, draws(chosen.start))) as file:
+                    before = measure(name, file, before, chosen)
 
 
 main()
