@@ -3,31 +3,35 @@ ghost use Rattle.std.specs.Prelude.{◌≡◌, ◌↔◌, ◌+◌, ◌<◌, ◌�
 ghost use Rattle.std.specs.Prelude.{OnOk, OnErr, IfOk, MatchOption, MatchResult};
 ghost use Rattle.std.specs.Bool.{OnTrue, OnFalse};
 ghost use Rattle.std.specs.Prelude.{IfSome, vec_capacity};
-ghost use Rattle.realm_index.specs.Bounds.{holds, is_smaller_in};
+ghost use Rattle.realm_index.specs.Bounds.{holds, is_near, is_smaller_in};
 ghost use Rattle.realm_index.specs.declared.tree.Entry.{Entry as Item};
 ghost use Rattle.realm_index.specs.Branch.{Branch, flatten, AreLess, StayBelow, HasPartFor};
-ghost use Rattle.realm_index.specs.Branch.{HasMore, HasSame, Lacks, AddsKeys, count_near};
+ghost use Rattle.realm_index.specs.Branch.{HasMore, HasSame, Lacks, AddsKeys, AddsNoKey, count_near};
 
 use crate::bounds::Bounds;
 use crate::square::Square;
 use grid_base::{NoMemory, Steps};
+use smallvec::SmallVec;
 use std::alloc::Global;
 use std::marker::Model;
 use std::mem;
 use std::sync::ledger::Ledger;
 
 // A key, and the box of the segment under it.
-#[derive(Clone, Copy, Debug)]
+#[derive(Clone, Copy, Debug, Default)]
 pub(crate) struct Entry {
     pub(crate) key: usize,
     pub(crate) bounds: Bounds,
 }
 
+// Most squares have one entry of their own or two, which take no memory beside the square.
+type Own = SmallVec<Entry, 2>;
+
 // The entries whose boxes are in one square. Contracts see the square and the list of the entries.
 #[derive(Drop)]
 pub(crate) struct Tree {
     square: Square,
-    own: Vec<Entry>,
+    own: Own,
     parts: Vec<Tree>,
 }
 
@@ -54,7 +58,7 @@ impl Tree {
     {
         Tree {
             square,
-            own: Vec::new(alloc),
+            own: SmallVec::new(alloc),
             parts: Vec::new(alloc),
         }
     }
@@ -69,7 +73,7 @@ impl Tree {
     {
         // that its square holds the boxes is known where it is asked for
         let _ = part.is_in(&square);
-        let own = Vec::new(*list.allocator());
+        let own = SmallVec::new(*list.allocator());
         list.push_reserved(part);
         Tree {
             square,
@@ -105,7 +109,7 @@ impl Tree {
             add_own(&mut self.own, entry)?;
             return Ok(());
         };
-        let alloc = *self.own.allocator();
+        let alloc = *self.parts.allocator();
         let place = place_for(alloc, &mut self.parts, part, &entry.bounds)?;
         let below = &mut self.parts[place];
         below.put(entry)
@@ -133,6 +137,16 @@ impl Tree {
         }
     }
 
+    // Whether its square has a common point with `near`. Where it hasn't, there is nothing to be found.
+    fn is_near(&self, near: &Bounds) -> bool
+        ensures near { result ≡ is_near near.now self.now.square }
+        ensures no_key { OnFalse result (AddsNoKey near.now self.now.entries) }
+        ensures no_step { OnFalse result (count_near near.now self.now.entries ≡ 0) }
+        ensures held { All (λ e. IsTrue (holds self.now.square e.bounds)) self.now.entries }
+    {
+        self.square.is_near(near)
+    }
+
     // Adds the keys of the entries whose boxes meet `near`. A step is a test of one box.
     pub(crate) fn find<L: Ledger>(
         &self,
@@ -146,12 +160,30 @@ impl Tree {
             (λ _. steps.new ≤ steps.old + count_near near.now self.now.entries) }
         ensures held { All (λ e. IsTrue (holds self.now.square e.bounds)) self.now.entries }
     {
-        if !self.square.is_near(near) {
-            return Ok(());
+        if self.is_near(near) {
+            self.find_within(near, keys, steps)
+        } else {
+            Ok(())
         }
-        find_among(&self.own, near, keys, steps)?;
+    }
+
+    // The same, where its square is near.
+    fn find_within<L: Ledger>(
+        &self,
+        near: &Bounds,
+        keys: &mut Vec<usize>,
+        steps: &mut Steps<L>,
+    ) -> Result<(), NoMemory>
+        ensures keys { OnOk result (AddsKeys near.now self.now.entries keys.old.items keys.new.items) }
+        ensures steps { IsTrue (is_near near.now self.now.square) → MatchResult result
+            (λ _. steps.new ≡ steps.old + count_near near.now self.now.entries)
+            (λ _. steps.new ≤ steps.old + count_near near.now self.now.entries) }
+    {
+        find_among(self.own.as_slice(), near, keys, steps)?;
         for part in &self.parts {
-            part.find(near, keys, steps)?;
+            if part.is_near(near) {
+                part.find_within(near, keys, steps)?;
+            }
         }
         Ok(())
     }
@@ -187,26 +219,22 @@ fn drop_bare(parts: &mut Vec<Tree>, place: usize)
     }
 }
 
-// Adds an entry to the list. A full list gets room for half as many more: most lists are short, and stay so.
-fn add_own(own: &mut Vec<Entry>, entry: Entry) -> Result<(), NoMemory>
+// Adds an entry to the list.
+fn add_own(own: &mut Own, entry: Entry) -> Result<(), NoMemory>
     ensures added { OnOk result (own.new.items ≡ own.old.items ++ entry ∷ []) }
     ensures unchanged { OnErr result (own.new.items ≡ own.old.items) }
 {
-    let room = own.capacity() - own.len();
-    if room == 0 {
-        own.reserve_exact(own.len() / 2 + 1)?;
-    }
     own.push(entry)?;
     Ok(())
 }
 
 // Takes an entry out of the list, and says whether it was there.
-fn take_own(own: &mut Vec<Entry>, entry: &Entry) -> bool
+fn take_own(own: &mut Own, entry: &Entry) -> bool
     ensures taken { OnTrue result (HasMore own.new.items own.old.items entry.now) }
     ensures none { OnFalse result (Lacks own.old.items entry.now) }
     ensures unchanged { OnFalse result (own.new.items ≡ own.old.items) }
 {
-    match place_among(own, entry) {
+    match place_among(own.as_slice(), entry) {
         Some(place) => {
             own.swap_remove(place);
             true
@@ -230,7 +258,8 @@ fn is_same(one: &Entry, other: &Entry) -> bool
     one.key == other.key && one.bounds.is(&other.bounds)
 }
 
-// Adds the keys of the entries of the list whose boxes meet `near`, each of which is a step.
+// Adds the keys of the entries of the list whose boxes meet `near`, each of which is a step. A turn has four, since lists at
+// great squares are long, and the test of a box is hardly more than the counting.
 fn find_among<L: Ledger>(
     own: &[Entry],
     near: &Bounds,
@@ -241,12 +270,33 @@ fn find_among<L: Ledger>(
     ensures steps { MatchResult result
         (λ _. steps.new ≡ steps.old + length own.now) (λ _. steps.new ≤ steps.old + length own.now) }
 {
-    let near = *near;
-    for entry in own {
-        steps.tick();
-        if near.meets(&entry.bounds) {
-            keys.push(entry.key)?;
-        }
+    let fours = own.len() / 4;
+    for i in 0..fours {
+        let at = 4 * i;
+        find_one(&own[at], near, keys, steps)?;
+        find_one(&own[at + 1], near, keys, steps)?;
+        find_one(&own[at + 2], near, keys, steps)?;
+        find_one(&own[at + 3], near, keys, steps)?;
+    }
+    for i in 4 * fours..own.len() {
+        find_one(&own[i], near, keys, steps)?;
+    }
+    Ok(())
+}
+
+// Adds the key of the entry, if its box meets `near`, which is a step.
+fn find_one<L: Ledger>(
+    entry: &Entry,
+    near: &Bounds,
+    keys: &mut Vec<usize>,
+    steps: &mut Steps<L>,
+) -> Result<(), NoMemory>
+    ensures keys { OnOk result (AddsKeys near.now (entry.now ∷ []) keys.old.items keys.new.items) }
+    ensures step { steps.new ≡ steps.old + 1 }
+{
+    steps.tick();
+    if near.meets(&entry.bounds) {
+        keys.push(entry.key)?;
     }
     Ok(())
 }
