@@ -45,7 +45,7 @@ module _ {S : Type 0} where
   abbrev pub Wrote : Pieces S → GridSegment → Holding → Pieces S → Type 0
   Wrote old s g new = hash.WritesThrough is_segment (is_segment s) old g new
 
-  puts_through : (old new : Pieces S) (s : GridSegment) (h g : Holding) → held_in old s ≡ Some h → Wrote old s g new
+  pub puts_through : (old new : Pieces S) (s : GridSegment) (h g : Holding) → held_in old s ≡ Some h → Wrote old s g new
       → Puts old new s (Some g)
   puts_through old new s h g there wrote = puts old new s (Some g) (wrote.3 (ap is_some there))
 
@@ -73,24 +73,23 @@ module _ {S : Type 0} where
 
   -- a piece is held otherwise, under its old key
   pub kept_write : (old new : Pieces S) (keys : Slots) (s : GridSegment) (h g : Holding) → IsKept old keys
-      → held_in old s ≡ Some h → Wrote old s g new → g.key ≡ h.key → IsHeld g → IsKept new keys
-  kept_write old new keys s h g kept there wrote key held =
-      let put = puts_through old new s h g there wrote in record {
-        owners = owners_put old new keys s g kept put held;
-        stored = λ t f at. ⊎_elim
-            (λ same.
-            let keys_same = sym (ap (λ x. x.key) (found_here old new s g put t f same at)) ∙ key in
-            ap (slab.get keys) keys_same ∙ kept.stored s h there ∙ ap (λ x. Some x) (sym same))
-            (λ other. kept.stored t f (sym (put.others t other) ∙ at))
-            (this_segment_or_other s t);
-        listed = λ k t under.
-            let was = kept.listed k t under in ⊎_elim
-            (λ same.
-            let was_h = same_Some was.0 h (sym was.1 ∙ ap (held_in old) same ∙ there) in
-            (g, ap (held_in new) same ∙ put.here, key ∙ sym (ap (λ x. x.key) was_h) ∙ was.2))
-            (λ other. (was.0, put.others t other ∙ was.1, was.2))
-            (this_segment_or_other s t);
-      }
+      → held_in old s ≡ Some h → Puts old new s (Some g) → g.key ≡ h.key → IsHeld g → IsKept new keys
+  kept_write old new keys s h g kept there put key held = record {
+    owners = owners_put old new keys s g kept put held;
+    stored = λ t f at. ⊎_elim
+        (λ same.
+        let keys_same = sym (ap (λ x. x.key) (found_here old new s g put t f same at)) ∙ key in
+        ap (slab.get keys) keys_same ∙ kept.stored s h there ∙ ap (λ x. Some x) (sym same))
+        (λ other. kept.stored t f (sym (put.others t other) ∙ at))
+        (this_segment_or_other s t);
+    listed = λ k t under.
+        let was = kept.listed k t under in ⊎_elim
+        (λ same.
+        let was_h = same_Some was.0 h (sym was.1 ∙ ap (held_in old) same ∙ there) in
+        (g, ap (held_in new) same ∙ put.here, key ∙ sym (ap (λ x. x.key) was_h) ∙ was.2))
+        (λ other. (was.0, put.others t other ∙ was.1, was.2))
+        (this_segment_or_other s t);
+  }
 
   -- a slab with more room
   pub kept_room : (m : Pieces S) (keys more : Slots) → IsKept m keys → more.slots ≡ keys.slots → IsKept m more
@@ -156,19 +155,17 @@ module _ {S : Type 0} where
   seen_others old new s o put t other = get-seen new t ∙ put.others t other ∙ sym (get-seen old t)
 
   -- what was there before, written again, changes nothing
-  pub seen_again : (old new : Pieces S) (s : GridSegment) (h g : Holding) → held_in old s ≡ Some h → Wrote old s g new → g ≡ h
-      → seen_of new ≡ seen_of old
-  seen_again old new s h g there wrote same =
-      let put = subst (λ x. Puts old new s (Some x)) same (puts_through old new s h g there wrote) in
-      let here = seen_here old new s (Some h) put ∙ sym there ∙ sym (get-seen old s) in
-      same_registry (seen_of new) (seen_of old) s here (seen_others old new s (Some h) put)
+  pub seen_again : (old new : Pieces S) (s : GridSegment) (h g : Holding) → held_in old s ≡ Some h
+      → Puts old new s (Some g) → g ≡ h → seen_of new ≡ seen_of old
+  seen_again old new s h g there put same =
+      let here = seen_here old new s (Some g) put ∙ ap (λ x. Some x) same ∙ sym there ∙ sym (get-seen old s) in
+      same_registry (seen_of new) (seen_of old) s here (seen_others old new s (Some g) put)
 
   -- a piece that was held has one owner more
   pub adds_write : (old new : Pieces S) (r : Holdings) → seen_of old ≡ r → (s : GridSegment) (id : ℕ) (h g : Holding)
-      → held_in old s ≡ Some h → Wrote old s g new → g.key ≡ h.key → OneMore id h.owners g.owners
+      → held_in old s ≡ Some h → Puts old new s (Some g) → g.key ≡ h.key → OneMore id h.owners g.owners
       → AddsOwner r (seen_of new) s id g.key
-  adds_write old new r view s id h g there wrote key more =
-      let put = puts_through old new s h g there wrote in
+  adds_write old new r view s id h g there put key more =
       let was = get-seen old s ∙ there in
       let is = seen_here old new s (Some g) put in
       let others = seen_others old new s (Some g) put in
@@ -197,10 +194,9 @@ module _ {S : Type 0} where
 
   -- a piece has one owner fewer, and some are left
   pub drops_write : (old new : Pieces S) (r : Holdings) → seen_of old ≡ r → (s : GridSegment) (id : ℕ) (h g : Holding)
-      → held_in old s ≡ Some h → Wrote old s g new → g.key ≡ h.key → OneFewer id h.owners g.owners
+      → held_in old s ≡ Some h → Puts old new s (Some g) → g.key ≡ h.key → OneFewer id h.owners g.owners
       → DropsOwner r (seen_of new) s id
-  drops_write old new r view s id h g there wrote key fewer =
-      let put = puts_through old new s h g there wrote in
+  drops_write old new r view s id h g there put key fewer =
       let was = get-seen old s ∙ there in
       let is = seen_here old new s (Some g) put in
       let others = seen_others old new s (Some g) put in

@@ -1,6 +1,6 @@
 -- This file shows what clauses see of the map and the slab that keep the pieces.
-use Rattle.std.proofs.Common.{◌≡◌, ◌↔◌, ℕ, true≢false, cond, List, [], ◌∷◌, refl, sym, ap, ap₂, ◌∙◌, arith}
-use Rattle.std.proofs.Common.{Option, Some, None, is_some}
+use Rattle.std.proofs.Common.{◌≡◌, ◌↔◌, ℕ, cond, List, [], ◌∷◌, refl, sym, ap, ap₂, ◌∙◌, arith}
+use Rattle.std.proofs.Common.{Option, Some, None}
 use Rattle.std.specs.Option.{option_map}
 use Rattle.std.specs.Map.{lookup}
 use Rattle.std.specs.FinMap as map
@@ -9,7 +9,7 @@ use Rattle.std.proofs.lemmas.Option.{same_Some}
 use Rattle.slab.specs.Slab as slab
 use Rattle.grid_base.specs.Segment.{GridSegment, segment_cmp}
 use Rattle.grid_base.proofs.Orders.{segment_cmp-total}
-use Rattle.component_registry.specs.Registry.{Holding, Holdings, IsPiece, key_of, owners_of, IsSound}
+use Rattle.component_registry.specs.Registry.{Holding, Holdings, key_of, owners_of, IsSound}
 use Rattle.component_registry.specs.Kept.{Pieces, Slots, is_segment, held_in, seen_of, IsKept}
 use Rattle.component_registry.proofs.Lookups.{is_segment-ties}
 
@@ -32,18 +32,6 @@ module _ {S : Type 0} where
   pub owners_nowhere : (m : Pieces S) (r : Holdings) → seen_of m ≡ r → (s : GridSegment) → held_in m s ≡ None
       → owners_of r s ≡ []
   owners_nowhere m r view s none = rw (← view, get-seen m s, none) refl
-
-  -- what the map hasn't is no piece
-  pub no_piece : (m : Pieces S) (s : GridSegment) → held_in m s ≡ None → ¬ IsPiece (seen_of m) s
-  no_piece m s none there = true≢false (sym there ∙ ap is_some (get-seen m s ∙ none))
-
-  -- what clauses see as no piece the map hasn't
-  pub not_in_map : (m : Pieces S) (r : Holdings) → seen_of m ≡ r → (s : GridSegment) → ¬ IsPiece r s → held_in m s ≡ None
-  not_in_map m r view s new = of_what_is_held (held_in m s) refl
-    where
-      of_what_is_held : (o : Option Holding) → held_in m s ≡ o → held_in m s ≡ None
-      of_what_is_held None e = e
-      of_what_is_held (Some h) e = absurd (new (rw (← view, get-seen m s, e) refl))
 
   -- a piece with a key has it in the map
   held_with_key : (m : Pieces S) (s : GridSegment) (k : ℕ) → key_of (seen_of m) s ≡ Some k

@@ -60,14 +60,10 @@ fn raise(ends: &mut Ends, p: Point)
     ensures no_zero { HasNoZero ends.old → HasNoZero ends.new }
     ensures room { spare ends.old ≤ spare ends.new + 1 }
 {
-    if let Some(uses) = ends.get_mut(&p) {
-        *uses += 1;
-        return;
-    }
-    match ends.insert(p, 1) {
-        Ok(_) => (),
-        Err(_) => unreachable!(),
-    }
+    let Ok(entry) = ends.entry(p) else {
+        unreachable!();
+    };
+    *entry.or_insert(0) += 1;
 }
 
 // Counts one use of `p` fewer, and forgets it with its last.

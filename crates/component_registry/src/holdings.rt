@@ -13,6 +13,7 @@ use crate::holding::Holding;
 use grid_base::{NoMemory, Segment};
 use slab::Slab;
 use std::alloc::Global;
+use std::collections::hash_map::Entry;
 use std::marker::Model;
 
 // The pieces with their keys and owners.
@@ -97,24 +98,18 @@ impl Holdings {
         ensures unchanged { OnErr result (self.new ≡ self.old) }
         ensures sound { IsSound self.new }
     {
-        if let Some(holding) = self.pieces.get_mut(&piece) {
-            holding.add_owner(id)?;
-            return Ok(holding.key());
+        match self.pieces.entry(piece)? {
+            Entry::Occupied(entry) => {
+                let holding = entry.into_mut();
+                holding.add_owner(id)?;
+                Ok(holding.key())
+            }
+            Entry::Vacant(entry) => {
+                self.keys.reserve(1)?;
+                entry.insert(Holding::new(self.alloc, self.keys.vacant_key(), id));
+                Ok(self.keys.insert_reserved(piece))
+            }
         }
-        self.add_piece(piece, id)
-    }
-
-    // Puts a new piece with its first owner.
-    fn add_piece(&mut self, piece: Segment, id: u32) -> Result<usize, NoMemory>
-        requires new_piece { ¬ IsPiece self.old piece }
-        ensures ok { IfOk result (AddsOwner self.old self.new piece id) }
-        ensures unchanged { OnErr result (self.new ≡ self.old) }
-        ensures sound { IsSound self.new }
-    {
-        self.keys.reserve(1)?;
-        let holding = Holding::new(self.alloc, self.keys.vacant_key(), id);
-        self.pieces.insert(piece, holding)?;
-        Ok(self.keys.insert_reserved(piece))
     }
 
     // Takes `id` from the owners of `piece`, and says whether it was one.

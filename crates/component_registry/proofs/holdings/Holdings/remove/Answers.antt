@@ -1,7 +1,8 @@
 use Rattle.std.proofs.Common.{◌≡◌, ◌<◌, ◌∙◌, ℕ, refl, sym, ap, subst, length, List, [], ◌∷◌, Contains, true≢false, arith}
 use Rattle.component_registry.specs.Kept.{IsHeld}
 use Rattle.component_registry.proofs.Seen.{sound_seen, owners_there, owners_nowhere}
-use Rattle.component_registry.proofs.Changes.{puts_none, kept_write, kept_remove, seen_again, OneFewer, drops_write, drops_remove}
+use Rattle.component_registry.proofs.Changes.{puts_through, puts_none, kept_write, kept_remove, seen_again}
+use Rattle.component_registry.proofs.Changes.{OneFewer, drops_write, drops_remove}
 use Rattle.component_registry.proofs.holdings.Holdings.remove.Goals as goal
 
 -- a piece that the map hasn't has no owner
@@ -27,7 +28,8 @@ invariant_of-self-then-not-drop_owner c =
     let there = sym c.in-Some.ensures.value in
     let same = c.if-not-drop_owner.ensures.unchanged in
     let held : IsHeld g = rw same (c.self.invariant.owners s h there) in
-    kept_write _ _ _ s h g c.self.invariant there (c.get_mut.follows.holds g) (ap (λ x. x.key) same) held
+    let put = puts_through _ _ s h g there (c.get_mut.follows.holds g) in
+    kept_write _ _ _ s h g c.self.invariant there put (ap (λ x. x.key) same) held
 
 pub returns-then-not-drop_owner-clause-found : goal.returns-then-not-drop_owner-clause-found
 returns-then-not-drop_owner-clause-found c =
@@ -36,10 +38,11 @@ returns-then-not-drop_owner-clause-found c =
 
 pub returns-then-not-drop_owner-clause-unchanged : goal.returns-then-not-drop_owner-clause-unchanged
 returns-then-not-drop_owner-clause-unchanged c =
+    let s = c.args.piece.now in
     let g = c.drop_owner.new.self in
     let there = sym c.in-Some.ensures.value in
-    let same = c.if-not-drop_owner.ensures.unchanged in
-    seen_again _ _ c.args.piece.now _ g there (c.get_mut.follows.holds g) same ∙ c.self.view_is
+    let put = puts_through _ _ s _ g there (c.get_mut.follows.holds g) in
+    seen_again _ _ s _ g there put c.if-not-drop_owner.ensures.unchanged ∙ c.self.view_is
 
 pub returns-then-not-drop_owner-clause-sound : goal.returns-then-not-drop_owner-clause-sound
 returns-then-not-drop_owner-clause-sound c = sound_seen _ _ (invariant_of-self-then-not-drop_owner c)
@@ -82,10 +85,13 @@ some_left (x ∷ owners) none = omega arith
 
 pub invariant_of-self-else-is_unowned : goal.invariant_of-self-else-is_unowned
 invariant_of-self-else-is_unowned c =
+    let s = c.args.piece.now in
+    let h = c.in-Some.holding.now in
     let g = c.drop_owner.new.self in
     let there = sym c.in-Some.ensures.value in
     let left = c.if-not-drop_owner.ensures in
-    kept_write _ _ _ c.args.piece.now c.in-Some.holding.now g c.self.invariant there (c.get_mut.follows.holds g) left.key (record {
+    let put = puts_through _ _ s h g there (c.get_mut.follows.holds g) in
+    kept_write _ _ _ s h g c.self.invariant there put left.key (record {
       owned = some_left g.owners (λ none. true≢false (sym (c.if-is_unowned.ensures.1 none)));
       ascending = left.ascending;
     })
@@ -97,12 +103,14 @@ returns-else-is_unowned-clause-found c =
 
 pub returns-else-is_unowned-clause-removed : goal.returns-else-is_unowned-clause-removed
 returns-else-is_unowned-clause-removed c =
+    let s = c.args.piece.now in
     let h = c.in-Some.holding.now in
     let g = c.drop_owner.new.self in
     let there = sym c.in-Some.ensures.value in
     let left = c.if-not-drop_owner.ensures in
     let fewer : OneFewer c.args.id h.owners g.owners = (left.owners, left.count) in
-    drops_write _ _ _ c.self.view_is c.args.piece.now c.args.id h g there (c.get_mut.follows.holds g) left.key fewer
+    let put = puts_through _ _ s h g there (c.get_mut.follows.holds g) in
+    drops_write _ _ _ c.self.view_is s c.args.id h g there put left.key fewer
 
 pub returns-else-is_unowned-clause-sound : goal.returns-else-is_unowned-clause-sound
 returns-else-is_unowned-clause-sound c = sound_seen _ _ (invariant_of-self-else-is_unowned c)
