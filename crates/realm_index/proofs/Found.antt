@@ -4,7 +4,6 @@ use Rattle.std.proofs.Common.{List, [], All, Contains, Result, Ok, Err, IfOk, �
 use Rattle.std.specs.List.{sum_by}
 use Rattle.std.specs.Bool.{OnTrue, OnFalse}
 use Rattle.std.specs.List.Sorted.{IsNonDecreasing}
-use Rattle.std.specs.BTreeMap.{BTreeMap}
 use Rattle.std.specs.FinMap as map
 use Rattle.std.proofs.lemmas.Bool.{and_parts, and_from, eqb-true, eq-eqb, false_from_ne_true}
 use Rattle.std.proofs.lemmas.List.Elements.{All-contains, All-weaker}
@@ -13,14 +12,14 @@ use Rattle.grid_base.specs.Segment.{GridSegment}
 use Rattle.realm_index.specs.Square.{whole_grid}
 use Rattle.realm_index.specs.Bounds.{Bounds, bounds_of, meets, holds, is_near, fits, home}
 use Rattle.realm_index.specs.Branch.{Branch, if_met, if_near, AddsKeys, count_near, HasMore, Lacks}
-use Rattle.realm_index.specs.Index.{HasKeysWhere, HasCountWhere}
+use Rattle.realm_index.specs.Index.{Entries, HasKeysWhere, HasCountWhere}
 use Rattle.realm_index.specs.Kept.{IsKept}
 use Rattle.realm_index.specs.declared.tree.Entry.{Entry}
 use Rattle.realm_index.proofs.Homes.{fits_from}
 use Rattle.realm_index.proofs.Sums.{fails, all_pass, none_fails}
 use Rattle.realm_index.proofs.Searches.{zero_sum}
 use Rattle.realm_index.proofs.Orders.{HasSameSums, same_sorted}
-use Rattle.realm_index.proofs.Picked.{picks, sum_picks, length_picks, sorted_picks, picked_keys}
+use Rattle.realm_index.proofs.Picked.{picks, sum_picks, length_picks, sorted_picks, entries_ascend, picked_of_map}
 
 -- ---- two facts of one result
 pub both_ok : {V E : Type 0} (P Q R : V → Type 0) (r : Result V E) → IfOk r P → IfOk r Q → ((v : V) → P v → Q v → R v) → IfOk r R
@@ -69,7 +68,7 @@ is_taken mid new e true some taken none = taken
 is_taken mid new e false some taken none = let lacks = none_there mid e none in absurd (omega (arith, some, lacks))
 
 -- ---- answers
-module _ (tree : Branch) (segments : BTreeMap ℕ GridSegment) (kept : IsKept tree segments) (w : Bounds) where
+module _ (tree : Branch) (segments : Entries) (kept : IsKept tree segments) (w : Bounds) where
   -- whether the box of the segment meets w, and whether its home is near it
   abbrev is_met : ℕ × GridSegment → Bool
   is_met e = meets w (bounds_of e.1)
@@ -77,36 +76,36 @@ module _ (tree : Branch) (segments : BTreeMap ℕ GridSegment) (kept : IsKept tr
   abbrev is_home_near : ℕ × GridSegment → Bool
   is_home_near e = is_near w (home (bounds_of e.1))
 
-  met_sums : (ks : List ℕ) → AddsKeys w tree.entries [] ks → HasSameSums ks (picks is_met segments.entries)
+  met_sums : (ks : List ℕ) → AddsKeys w tree.entries [] ks → HasSameSums ks (picks is_met (map.entries segments))
   met_sums ks adds f =
       let found = adds f in
       let same = kept.same (if_met w f) in
-      let picked = sum_picks is_met f segments.entries in
+      let picked = sum_picks is_met f (map.entries segments) in
       omega (arith, found, same, picked)
 
   pub met_keys : (P : GridSegment → Type 0) → ((t : GridSegment) → IsTrue (meets w (bounds_of t)) ↔ P t) → (ks : List ℕ)
-      → AddsKeys w tree.entries [] ks → IsNonDecreasing ks → HasKeysWhere P (map.from_entries segments.entries) ks
+      → AddsKeys w tree.entries [] ks → IsNonDecreasing ks → HasKeysWhere P segments ks
   met_keys P decides ks adds up =
-      let all = sorted_picks is_met segments.entries kept.ordered in
-      let same = same_sorted ks (picks is_met segments.entries) up (non_decreasing_from_sorted (picks is_met segments.entries) all)
+      let all = sorted_picks is_met (map.entries segments) (entries_ascend segments) in
+      let same = same_sorted ks (picks is_met (map.entries segments)) up (non_decreasing_from_sorted (picks is_met (map.entries segments)) all)
       (met_sums ks adds) in
-      subst (HasKeysWhere P (map.from_entries segments.entries)) (sym same)
-      (picked_keys segments.entries kept.ordered P is_met (λ k t there. decides t))
+      subst (HasKeysWhere P segments) (sym same)
+      (picked_of_map segments P is_met (λ k t there. decides t))
 
   module _ (held : All (λ e. IsTrue (holds tree.square e.bounds)) tree.entries) where
-    on_grid : (k : ℕ) (t : GridSegment) → Contains segments.entries (k, t) → IsTrue (fits 28 (bounds_of t))
+    on_grid : (k : ℕ) (t : GridSegment) → Contains (map.entries segments) (k, t) → IsTrue (fits 28 (bounds_of t))
     on_grid k t there =
         let none = none_fails (λ (e : Entry). holds tree.square e.bounds) tree.entries held in
         let same = kept.same (fails (λ (e : Entry). holds tree.square e.bounds)) in
-        let all = all_pass (λ (e : ℕ × GridSegment). holds tree.square (bounds_of e.1)) segments.entries (sym same ∙ none) in
-        let here = All-contains (λ (e : ℕ × GridSegment). IsTrue (holds tree.square (bounds_of e.1))) segments.entries (k, t) all there in
+        let all = all_pass (λ (e : ℕ × GridSegment). holds tree.square (bounds_of e.1)) (map.entries segments) (sym same ∙ none) in
+        let here = All-contains (λ (e : ℕ × GridSegment). IsTrue (holds tree.square (bounds_of e.1))) (map.entries segments) (k, t) all there in
         fits_from whole_grid (bounds_of t) (subst (λ q. IsTrue (holds q (bounds_of t))) kept.whole here)
 
     pub near_count : (P : GridSegment → Type 0)
         → ((t : GridSegment) → IsTrue (fits 28 (bounds_of t)) → IsTrue (is_near w (home (bounds_of t))) ↔ P t)
-        → HasCountWhere P (map.from_entries segments.entries) (count_near w tree.entries)
+        → HasCountWhere P segments (count_near w tree.entries)
     near_count P decides = record {
-      keys = picks is_home_near segments.entries;
-      these = picked_keys segments.entries kept.ordered P is_home_near (λ k t there. decides t (on_grid k t there));
-      count = length_picks is_home_near segments.entries ∙ sym (kept.same (if_near w));
+      keys = picks is_home_near (map.entries segments);
+      these = picked_of_map segments P is_home_near (λ k t there. decides t (on_grid k t there));
+      count = length_picks is_home_near (map.entries segments) ∙ sym (kept.same (if_near w));
     }

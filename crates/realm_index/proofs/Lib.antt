@@ -1,5 +1,5 @@
--- a tree seen as a finite map
-pub mod TreeMaps
+-- the map of the places
+pub mod Placed
 -- the home square of a box
 pub mod Homes
 -- keys picked from entries

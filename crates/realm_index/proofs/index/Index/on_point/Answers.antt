@@ -1,7 +1,6 @@
 -- This file shows that the answer is told of the map, and its steps are those of the homes round the point.
 use Rattle.std.proofs.Common.{ℕ, Vec, Global, [], subst}
 use Rattle.std.specs.List.Sorted.{IsNonDecreasing}
-use Rattle.std.specs.FinMap as map
 use Rattle.grid_base.specs.Point.{InBox}
 use Rattle.grid_base.specs.Segment.{GridSegment}
 use Rattle.realm_index.specs.Square.{HasHomeRound}
@@ -19,7 +18,7 @@ returns-clause-keys g c =
     rw (← c.self.view_is) (both_ok (λ (v : Vec ℕ Global). AddsKeys (bounds_at c.args.p.now) tree.entries [] v.items)
     (λ (v : Vec ℕ Global). IsNonDecreasing v.items)
     (λ (v : Vec ℕ Global). HasKeysWhere (λ (t : GridSegment). InBox t.a t.b c.args.p.now)
-    (map.from_entries c.self.inside.segments.entries) v.items)
+    c.self.inside.segments v.items)
     c.keys_near.result found c.keys_near.ensures.rising
     (λ v adds up. met_keys tree c.self.inside.segments c.self.invariant (bounds_at c.args.p.now) (λ t. InBox t.a t.b c.args.p.now)
     (box_holds c.args.p.now) v.items adds up))
