@@ -31,8 +31,8 @@ type Own = SmallVec<Entry, 2>;
 #[derive(Drop)]
 pub(crate) struct Tree {
     square: Square,
-    own: Own,
     parts: Vec<Tree>,
+    own: Own,
 }
 
 impl Model for Tree {
@@ -270,16 +270,18 @@ fn find_among<L: Ledger>(
     ensures steps { MatchResult result
         (λ _. steps.new ≡ steps.old + length own.now) (λ _. steps.new ≤ steps.old + length own.now) }
 {
+    // What a copy has needn't be read again in each turn.
+    let near = *near;
     let fours = own.len() / 4;
     for i in 0..fours {
         let at = 4 * i;
-        find_one(&own[at], near, keys, steps)?;
-        find_one(&own[at + 1], near, keys, steps)?;
-        find_one(&own[at + 2], near, keys, steps)?;
-        find_one(&own[at + 3], near, keys, steps)?;
+        find_one(&own[at], &near, keys, steps)?;
+        find_one(&own[at + 1], &near, keys, steps)?;
+        find_one(&own[at + 2], &near, keys, steps)?;
+        find_one(&own[at + 3], &near, keys, steps)?;
     }
     for i in 4 * fours..own.len() {
-        find_one(&own[i], near, keys, steps)?;
+        find_one(&own[i], &near, keys, steps)?;
     }
     Ok(())
 }
