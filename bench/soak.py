@@ -329,7 +329,7 @@ def main():
         compared = soak.finish()
         print(f"{soak.kills} kills in {time.time() - began:.0f} s, {soak.waited} of them when all was answered:"
               f" {soak.steady.end()} commands, {soak.kept} of them changes and {soak.checkpoints} checkpoints; no change with a reply"
-              f" was lost, and {soak.more} times the one more that was on its way was there")
+              f" was lost, and {soak.more} times the unanswered change was there")
         print(f"at the end `check` and {compared} questions get the same replies as without a kill")
 
 
