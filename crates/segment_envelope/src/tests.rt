@@ -70,6 +70,21 @@ fn a_column_has_the_points_next_to_the_segment(rt: HostRuntime) {
             [
                 268435454, 0, 268435455, 268435455, 268435454, 268435454, 268435455,
             ],
+            // the same up to the last column and row of the grid
+            [0, 0, 1073741823, 1, 536870912, 0, 1],
+            [0, 1073741823, 1073741823, 1, 1, 1073741822, 1073741823],
+            [
+                1073741822, 0, 1073741823, 1073741823, 1073741822, 1073741822, 1073741823,
+            ],
+            [
+                0, 1073741823, 1073741823, 1073741822, 536870911, 1073741822, 1073741823,
+            ],
+            [
+                0, 0, 1073741823, 1073741822, 536870912, 536870911, 536870912,
+            ],
+            [
+                0, 0, 1073741823, 1073741822, 1073741823, 1073741822, 1073741822,
+            ],
         ],
     );
     // before the first column, after the last, and above the last row
@@ -92,7 +107,7 @@ fn all_lie(rt: &impl Abort, is_near: bool, is_within: bool, rows: &[[u32; 6]]) {
 
 #[test]
 fn the_limits_are_outside(rt: HostRuntime) {
-    // on it, at an end, and close to it
+    // on it, at an end, and close to it; and one of 2^30 - 2, 1 below the greater run
     all_lie(
         &rt,
         true,
@@ -101,6 +116,7 @@ fn the_limits_are_outside(rt: HostRuntime) {
             [0, 0, 10, 4, 5, 2],
             [0, 0, 10, 4, 10, 4],
             [0, 0, 10, 4, 6, 2],
+            [0, 0, 1073741823, 1073741822, 1073741822, 1073741822],
         ],
     );
     all_lie(
@@ -114,13 +130,21 @@ fn the_limits_are_outside(rt: HostRuntime) {
             [0, 0, 4, 3, 2, 0],
             // one of 2^28 - 1, which is the greater run
             [0, 268435455, 268435455, 0, 268435455, 1],
+            // and ones of 2^30 - 1, at the rim
+            [0, 1073741823, 1073741823, 0, 1073741823, 1],
+            [0, 0, 1073741823, 1073741823, 1073741823, 1073741822],
+            [0, 0, 1073741823, 1073741822, 1073741823, 1073741821],
         ],
     );
-    // on its line, and not in its box; and a side number of 4, which is the sum of the runs
+    // on its line, and not in its box; and side numbers of 4 and of 2^31 - 2, which are the sums of the runs
     all_lie(
         &rt,
         false,
         false,
-        &[[0, 0, 10, 4, 15, 6], [0, 0, 2, 2, 2, 0]],
+        &[
+            [0, 0, 10, 4, 15, 6],
+            [0, 0, 2, 2, 2, 0],
+            [0, 0, 1073741823, 1073741823, 1073741821, 1073741823],
+        ],
     );
 }
