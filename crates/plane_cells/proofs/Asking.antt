@@ -1,6 +1,7 @@
 -- This file shows that what the code finds for another segment is the label of a place inside it.
-use Rattle.std.proofs.Common.{◌≡◌, ◌⊎◌, ℕ, zero, suc, ◌+◌, ◌^◌, ◌<◌, ◌≤◌, List, [], ◌∷◌, ◌++◌, length, take, drop, get_or, slice_index}
+use Rattle.std.proofs.Common.{◌≡◌, ◌⊎◌, ℕ, zero, suc, ◌+◌, ◌<◌, ◌≤◌, List, [], ◌∷◌, ◌++◌, length, take, drop, get_or, slice_index}
 use Rattle.std.proofs.Common.{refl, sym, ap, subst, ◌∙◌, arith, inl, inr}
+use Rattle.grid_base.specs.Grid.{grid_side, side_bound}
 use Rattle.grid_base.specs.Point.{GridPoint}
 use Rattle.grid_base.specs.Segment.{GridSegment}
 use Rattle.plane_cells.specs.Steps.{Step, Each, Pairs, label_over}
@@ -98,8 +99,8 @@ pub sorted_there : (B : List GridSegment) (V : List ℕ) (m : ℕ) (status : Lis
     → Pairs (λ i j. IsUnderBegin (numbered B j) t → IsUnderBegin (numbered B i) t) status
 sorted_there B V m status next L right T Y t r vs l o s h e to =
     let k = length Y in
-    under_sorted B t status r (subst (λ (u : GridSegment). u.a.y < 2 ^ 28) (sym e) (o.on_grid k h).1)
-    (subst (λ (u : GridSegment). IsOther (length B) (sheared_number B) (sheared (2 ^ 28) u)) (sym e) (o.other k h))
+    under_sorted B t status r (subst (λ (u : GridSegment). u.a.y < grid_side) (sym e) (o.on_grid k h).1)
+    (subst (λ (u : GridSegment). IsOther (length B) (sheared_number B) (sheared grid_side u)) (sym e) (o.other k h))
     (all_at B V m t status r vs l
     (subst (λ (u : GridSegment). IfWall (λ c. c ≤ column_of u.a) (wall_before V m)) (sym e) (s.asked.later k (omega arith) h)) to
     s.here) s.here.sorted
@@ -116,8 +117,8 @@ asking_more B V m status next L right first list Y Y' t k y r vs l o a h e to be
     let n = length Y in
     let short : n < length first = subst (λ (T : List GridSegment). n < length T) a.same h in
     let e' : t ≡ numbered first n = e ∙ ap (λ (T : List GridSegment). numbered T n) a.same in
-    let low = subst (λ (u : GridSegment). u.a.y < 2 ^ 28) (sym e') (o.on_grid n short).1 in
-    let other = subst (λ (u : GridSegment). IsOther (length B) (sheared_number B) (sheared (2 ^ 28) u)) (sym e') (o.other n short) in
+    let low = subst (λ (u : GridSegment). u.a.y < grid_side) (sym e') (o.on_grid n short).1 in
+    let other = subst (λ (u : GridSegment). IsOther (length B) (sheared_number B) (sheared grid_side u)) (sym e') (o.other n short) in
     let from = subst (λ (u : GridSegment). IfWall (λ c. c ≤ column_of u.a) (wall_before V m)) (sym e')
     (s.asked.later n (omega arith) short) in
     let q = asked_now B s.steps (wall_before V m) status t k r low other s.chain from
@@ -240,5 +241,5 @@ all_asked B V m T n o h l later = elim (le_or (length T) n) [
     le_or : (m n : ℕ) → (m ≤ n) ⊎ (n < m)
     le_or m n = grind arith
 
-    far : (p : GridPoint) → p.x < 2 ^ 28 → p.y < 2 ^ 28 → 2 ^ 57 ≤ column_of p → ⊥
+    far : (p : GridPoint) → p.x < grid_side → p.y < grid_side → side_bound ≤ column_of p → ⊥
     far p h k l = omega (arith, h, k, l)

@@ -1,5 +1,6 @@
 -- This file shows that each class but the outer one has a side of some segment.
-use Rattle.std.proofs.Common.{◌≡◌, ◌⊎◌, ℕ, zero, suc, ◌*◌, ◌^◌, ◌<◌, ◌≤◌, Bool, true, List, [], map, length, refl, inl, inr, arith}
+use Rattle.std.proofs.Common.{◌≡◌, ◌⊎◌, ℕ, zero, suc, ◌*◌, ◌<◌, ◌≤◌, Bool, true, List, [], map, length, refl, inl, inr, arith}
+use Rattle.grid_base.specs.Grid.{grid_side}
 use Rattle.grid_base.specs.Segment.{GridSegment}
 use Rattle.grid_base.specs.Sides.{Left, On}
 use Rattle.grid_base.specs.Plane.{Place, IsFree}
@@ -23,10 +24,10 @@ use Rattle.plane_cells.proofs.ShearedSides.{IsRealmSweep, sweep_of, below_of, si
 
 -- a place with the label of the gap over segment i is in one class with what lies beside it on its left
 over_segment : (B : List GridSegment) (steps : List Step) (right : ℕ → ℕ) (i : ℕ) (q : Place) → AreOfRealm B
-    → IsRealmSweep (2 ^ 28) B steps right → IsFree B q → i < length B
-    → HasLabel (λ j. sheared (2 ^ 28) (numbered B j)) [] steps (sheared_place (2 ^ 28) q) (suc i) → IsBySome B q
+    → IsRealmSweep grid_side B steps right → IsFree B q → i < length B
+    → HasLabel (λ j. sheared grid_side (numbered B j)) [] steps (sheared_place grid_side q) (suc i) → IsBySome B q
 over_segment B steps right i q realm s free within has =
-    let n = 2 ^ 28 in
+    let n = grid_side in
     let C = map (sheared n) B in
     let seg = λ (j : ℕ). sheared n (numbered B j) in
     let r = s.realm in
@@ -46,11 +47,11 @@ over_segment B steps right i q realm s free within has =
     two e = cc
 
 pub every_class : (B : List GridSegment) (steps : List Step) (right : ℕ → ℕ) (q : Place) → AreOfRealm B
-    → IsRealmSweep (2 ^ 28) B steps right → IsFree B q → IsOuter B q ⊎ IsBySome B q
+    → IsRealmSweep grid_side B steps right → IsFree B q → IsOuter B q ⊎ IsBySome B q
 every_class B steps right q realm s free = by hp.label hp.has hp.bounded
   where
     n : ℕ
-    n = 2 ^ 28
+    n = grid_side
 
     seg : ℕ → GridSegment
     seg j = sheared n (numbered B j)

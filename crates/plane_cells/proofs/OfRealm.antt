@@ -1,8 +1,9 @@
 -- This file shows that what the public calls ask of a border is what the sweep stands on.
-use Rattle.std.proofs.Common.{◌≡◌, ◌⊎◌, ◌↔◌, ℕ, zero, suc, ◌^◌, ◌<◌, ◌≤◌}
+use Rattle.std.proofs.Common.{◌≡◌, ◌⊎◌, ◌↔◌, ℕ, zero, suc, ◌<◌, ◌≤◌}
 use Rattle.std.proofs.Common.{List, [], ◌∷◌, ◌++◌, length, All, refl, ap, sym, subst, arith, inl, inr}
 use Rattle.std.specs.Prelude.{AllPairs, Contains}
 use Rattle.std.proofs.lemmas.List.Elements.{All-contains, Contains-append_left, Contains-append_right}
+use Rattle.grid_base.specs.Grid.{grid_side}
 use Rattle.grid_base.specs.Segment.{GridSegment, IsSegmentBefore}
 use Rattle.grid_base.specs.Border.{AreNoded}
 use Rattle.grid_base.proofs.Elements.{Contains-cases}
@@ -62,11 +63,11 @@ realm_with B U t noded part t_there grid fresh r = record {
     once (suc i) zero hi hj e = absurd (fresh (subst (Contains B) e (numbered_in B i (omega (arith, hi)))))
     once (suc i) (suc j) hi hj e = ap (λ (n : ℕ). suc n) (r.once i j (omega (arith, hi)) (omega (arith, hj)) e)
 
-column_up : (s t : GridSegment) → s.a.y < 2 ^ 28 → IsSegmentBefore s t → column_of s.a ≤ column_of t.a
-column_up s t low (inl h) = let c = columns_in_order (2 ^ 28) s.a t.a low h in omega (arith, c)
+column_up : (s t : GridSegment) → s.a.y < grid_side → IsSegmentBefore s t → column_of s.a ≤ column_of t.a
+column_up s t low (inl h) = let c = columns_in_order grid_side s.a t.a low h in omega (arith, c)
 column_up s t low (inr h) = let c = ap column_of h.0 in omega (arith, c)
 
-ascending_by : (B : List GridSegment) → AllPairs IsSegmentBefore B → ((k : ℕ) → k < length B → (numbered B k).a.y < 2 ^ 28) → AreAscending B
+ascending_by : (B : List GridSegment) → AllPairs IsSegmentBefore B → ((k : ℕ) → k < length B → (numbered B k).a.y < grid_side) → AreAscending B
 ascending_by B pairs low i j le hj = elim (three i j) [
   | inl l ↦ column_up (numbered B i) (numbered B j) (low i (omega (arith, l, hj))) (pairs i j nowhere l hj)
   | inr o ↦ elim o [
@@ -105,7 +106,7 @@ others_of B L T noded pairs grid list_grid up members = record {
     on_grid : (k : ℕ) → k < length T → IsOnGrid (numbered T k)
     on_grid k h = All-contains IsOnGrid L (numbered T k) list_grid (member k h).0
 
-    less_on : (m n : ℕ) → m ≤ n → n < 2 ^ 28 → m < 2 ^ 28
+    less_on : (m n : ℕ) → m ≤ n → n < grid_side → m < grid_side
     less_on m n h k = omega (arith, h, k)
 
     ascends : AreAscending T

@@ -1,8 +1,9 @@
 -- This file shows that the least linked labels of other segments tell whether they lie in the outer class.
-use Rattle.std.proofs.Common.{◌≡◌, ℕ, ◌^◌, ◌<◌, ◌==◌, Bool, true, List, [], ◌∷◌, ◌++◌, length, slice_index}
+use Rattle.std.proofs.Common.{◌≡◌, ℕ, ◌<◌, ◌==◌, Bool, true, List, [], ◌∷◌, ◌++◌, length, slice_index}
 use Rattle.std.proofs.Common.{slice_index_or}
 use Rattle.std.proofs.Common.{refl, sym, subst, ◌∙◌, arith}
 use Rattle.std.specs.List.{AllZip}
+use Rattle.grid_base.specs.Grid.{grid_side}
 use Rattle.grid_base.specs.Segment.{GridSegment}
 use Rattle.grid_base.specs.Sides.{Side, On, Left, Right}
 use Rattle.grid_base.specs.Plane.{Tells}
@@ -32,17 +33,17 @@ other_numbers B L right labels T Y numbers h o c a = record { one_each = a.one_e
         let y = slice_index Y k in
         let w = sweep_of B L right h.realm T Y s in
         let p = s.asked k (omega (arith, short, c)) in
-        let asked : IsAsked (2 ^ 28) B s.steps t y = record { other = p.other; place = p.place; inside = p.inside; has = p.has } in
+        let asked : IsAsked grid_side B s.steps t y = record { other = p.other; place = p.place; inside = p.inside; has = p.has } in
         let m = linked_labels (length B) L (links s.steps) labels s.links h.least in
         let read = a.each k (omega (arith, short, c)) in
         let low = (o.on_grid k short).1 in
         record {
-          some = beside_other (2 ^ 28) B t d (realm_below B h.realm) (o.other k short) (o.order k short) low (slanted_of d sided);
+          some = beside_other grid_side B t d (realm_below B h.realm) (o.other k short) (o.order k short) low (slanted_of d sided);
           outer = λ q b. (
-            (λ none. outer_by_asked (2 ^ 28) B s.steps (λ i. slice_index right i) t y d q w asked (o.order k short) low b
+            (λ none. outer_by_asked grid_side B s.steps (λ i. slice_index right i) t y d q w asked (o.order k short) low b
                 (m.linked y 0 (s.known k) (omega arith) (sym read ∙ none ∙ sym m.zero))),
             λ outer. read ∙ m.same y 0 (s.known k) (omega arith)
-                (asked_by_outer (2 ^ 28) B s.steps (λ i. slice_index right i) t y d q w asked (o.order k short) low b outer) ∙ m.zero,
+                (asked_by_outer grid_side B s.steps (λ i. slice_index right i) t y d q w asked (o.order k short) low b outer) ∙ m.zero,
           );
         }
 

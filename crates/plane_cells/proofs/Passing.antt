@@ -1,8 +1,9 @@
 -- This file shows what the parts of a step may ask, and that together they lead the sweep behind the vertex.
-use Rattle.std.proofs.Common.{◌≡◌, ◌⊎◌, ℕ, zero, suc, ◌+◌, ◌^◌, ◌<◌, ◌≤◌, List, [], ◌∷◌, ◌++◌, length, take, drop, slice_index, ℤ, pos}
+use Rattle.std.proofs.Common.{◌≡◌, ◌⊎◌, ℕ, zero, suc, ◌+◌, ◌<◌, ◌≤◌, List, [], ◌∷◌, ◌++◌, length, take, drop, slice_index, ℤ, pos}
 use Rattle.std.proofs.Common.{◌<ℤ◌, refl, sym, ap, subst, ◌∙◌, arith, inl, inr}
 use Rattle.std.proofs.lemmas.Int.{ints}
 use Rattle.std.proofs.lemmas.List.{take-append-drop}
+use Rattle.grid_base.specs.Grid.{grid_side, product_bound}
 use Rattle.grid_base.specs.Point.{GridPoint, IsBefore}
 use Rattle.grid_base.specs.Segment.{GridSegment}
 use Rattle.plane_classes.proofs.Heights.{at_b}
@@ -27,35 +28,35 @@ before_x : (p q : GridPoint) → IsBefore p q → p.x ≤ q.x
 before_x p q (inl h) = omega (arith, h)
 before_x p q (inr h) = omega (arith, h.0)
 
-fits : (p : GridPoint) → p.x < 2 ^ 28 → p.y < 2 ^ 28 → column_of p < 2 ^ 56
+fits : (p : GridPoint) → p.x < grid_side → p.y < grid_side → column_of p < product_bound
 fits p h k = omega (arith, h, k)
 
-pub vertex_fits : (B : List GridSegment) (V : List ℕ) (m : ℕ) → AreOfRealm B → AreVertices B V → m < length V → slice_index V m < 2 ^ 56
+pub vertex_fits : (B : List GridSegment) (V : List ℕ) (m : ℕ) → AreOfRealm B → AreVertices B V → m < length V → slice_index V m < product_bound
 vertex_fits B V m r vs l =
     let e = listed_end B (slice_index V m) (vs.only (slice_index V m) (listed_at V m l)) in
     let s = numbered B e.0 in
     let c = numbered_in B e.0 e.1 in
     let g = r.on_grid s c in
     elim e.2 [
-      | inl f ↦ subst (λ (n : ℕ). n < 2 ^ 56) (sym f)
+      | inl f ↦ subst (λ (n : ℕ). n < product_bound) (sym f)
           (fits s.a (low s.a.x s.b.x (before_x s.a s.b ((r.on_grid s c).order)) g.end_column) g.row)
-      | inr f ↦ subst (λ (n : ℕ). n < 2 ^ 56) (sym f) (fits s.b g.end_column g.end_row)
+      | inr f ↦ subst (λ (n : ℕ). n < product_bound) (sym f) (fits s.b g.end_column g.end_row)
     ]
   where
-    low : (a b : ℕ) → a ≤ b → b < 2 ^ 28 → a < 2 ^ 28
+    low : (a b : ℕ) → a ≤ b → b < grid_side → a < grid_side
     low a b h k = omega (arith, h, k)
 
 -- ---- what the parts ask
 pub sorted_here : (B : List GridSegment) (V : List ℕ) (m : ℕ) (v : GridPoint) (status : List ℕ) (next : ℕ) (L : Links) (right : List ℕ) (T :
-    List GridSegment) (Y : List ℕ) → AreOfRealm B → AreVertices B V → m < length V → v.y < 2 ^ 28 → column_of v ≡ slice_index V m
+    List GridSegment) (Y : List ℕ) → AreOfRealm B → AreVertices B V → m < length V → v.y < grid_side → column_of v ≡ slice_index V m
     → IsSwept B (wall_before V m) status next L right T Y → IsSortedAt B v status
 sorted_here B V m v status next L right T Y r vs l low e s =
     let nv = next_vertex B V m v r vs l low e in
     sorted_at B (wall_before V m) status v nv.later
-    (slab_status (length B) (sheared_number B) (wall_before V m) (sheared_point (2 ^ 28) v) status s.here nv)
+    (slab_status (length B) (sheared_number B) (wall_before V m) (sheared_point grid_side v) status s.here nv)
 
 pub next_here : (B : List GridSegment) (V : List ℕ) (m : ℕ) (v : GridPoint) (status : List ℕ) (next : ℕ) (L : Links) (right : List ℕ) (T :
-    List GridSegment) (Y : List ℕ) → AreOfRealm B → AreVertices B V → m < length V → v.y < 2 ^ 28 → column_of v ≡ slice_index V m
+    List GridSegment) (Y : List ℕ) → AreOfRealm B → AreVertices B V → m < length V → v.y < grid_side → column_of v ≡ slice_index V m
     → IsSwept B (wall_before V m) status next L right T Y → IsNext B v next
 next_here B V m v status next L right T Y r vs l low e s =
     let nv = next_vertex B V m v r vs l low e in
@@ -163,7 +164,7 @@ rights_up_to f n d (i ∷ A) h a r = (subst (λ (x : ℕ). x ≤ n) (sym r.0) h,
 -- ---- behind the vertex
 pub passed : (B : List GridSegment) (V : List ℕ) (index : ℕ) (v : GridPoint) (status : List ℕ) (next : ℕ) (L : Links) (right right' : List
     ℕ) (m e : ℕ) (F : List ℕ) (under over other : ℕ) (status' : List ℕ) (L' : Links) (next' : ℕ) (T : List GridSegment) (Y : List ℕ)
-    → AreOfRealm B → AreVertices B V → index < length V → v.y < 2 ^ 28 → column_of v ≡ slice_index V index
+    → AreOfRealm B → AreVertices B V → index < length V → v.y < grid_side → column_of v ≡ slice_index V index
     → IsSwept B (wall_before V index) status next L right T Y → ((k : ℕ) → k < length Y → column_of (numbered T k).a < slice_index V index)
     → ((k : ℕ) → length Y ≤ k → k < length T → slice_index V index ≤ column_of (numbered T k).a)
     → Each (IsLeftOf B v) (take m status) → Each (λ i. IsLeftOf B v i → ⊥) (drop m status)

@@ -1,8 +1,9 @@
 -- This file shows that the segments of which just one side is outer are the border of all that isn't outer.
-use Rattle.std.proofs.Common.{◌≡◌, ◌⊎◌, ◌↔◌, ℕ, zero, suc, ◌+◌, ◌*◌, ◌^◌, ◌%◌, ◌<◌, ◌≤◌, ◌==◌, Bool, true, false, not, ◌&&◌, cond}
+use Rattle.std.proofs.Common.{◌≡◌, ◌⊎◌, ◌↔◌, ℕ, zero, suc, ◌+◌, ◌*◌, ◌%◌, ◌<◌, ◌≤◌, ◌==◌, Bool, true, false, not, ◌&&◌, cond}
 use Rattle.std.proofs.Common.{if◌then◌else◌, List, [], map, length, slice_index, slice_index_or, count_by, refl, sym, ap, subst, ◌∙◌}
 use Rattle.std.proofs.Common.{arith, inl, inr}
 use Rattle.std.proofs.lemmas.List.Elements.{All-contains}
+use Rattle.grid_base.specs.Grid.{grid_side}
 use Rattle.grid_base.specs.Point.{GridPoint, is_point}
 use Rattle.grid_base.specs.Segment.{GridSegment, IsEnd}
 use Rattle.grid_base.specs.Plane.{Place, IsFree}
@@ -138,7 +139,7 @@ pub interior_of : (B : List GridSegment) (L : Links) (right labels : List ℕ) (
 interior_of B L right labels numbers T Y h have = record { even = even; places = places }
   where
     n : ℕ
-    n = 2 ^ 28
+    n = grid_side
 
     C : List GridSegment
     C = rims B numbers
