@@ -8,12 +8,13 @@ use Rattle.std.specs.FinMap as map
 use Rattle.std.proofs.lemmas.Bool.{and_parts, and_from, eqb-true, eq-eqb, false_from_ne_true}
 use Rattle.std.proofs.lemmas.List.Elements.{All-contains, All-weaker}
 use Rattle.std.proofs.lemmas.Map.Keys.{non_decreasing_from_sorted}
+use Rattle.grid_base.specs.Grid.{grid_bits}
 use Rattle.grid_base.specs.Segment.{GridSegment}
 use Rattle.realm_index.specs.Square.{whole_grid}
 use Rattle.realm_index.specs.Bounds.{Bounds, bounds_of, meets, holds, is_near, fits, home}
 use Rattle.realm_index.specs.Branch.{Branch, if_met, if_near, AddsKeys, count_near, HasMore, Lacks}
 use Rattle.realm_index.specs.Index.{Entries, HasKeysWhere, HasCountWhere}
-use Rattle.realm_index.specs.Kept.{IsKept}
+use Rattle.realm_index.specs.Kept.{HoldsEntries}
 use Rattle.realm_index.specs.declared.tree.Entry.{Entry}
 use Rattle.realm_index.proofs.Homes.{fits_from}
 use Rattle.realm_index.proofs.Sums.{fails, all_pass, none_fails}
@@ -68,7 +69,7 @@ is_taken mid new e true some taken none = taken
 is_taken mid new e false some taken none = let lacks = none_there mid e none in absurd (omega (arith, some, lacks))
 
 -- ---- answers
-module _ (tree : Branch) (segments : Entries) (kept : IsKept tree segments) (w : Bounds) where
+module _ (tree : Branch) (segments : Entries) (kept : HoldsEntries tree segments) (w : Bounds) where
   -- whether the box of the segment meets w, and whether its home is near it
   abbrev is_met : ℕ × GridSegment → Bool
   is_met e = meets w (bounds_of e.1)
@@ -93,7 +94,7 @@ module _ (tree : Branch) (segments : Entries) (kept : IsKept tree segments) (w :
       (picked_of_map segments P is_met (λ k t there. decides t))
 
   module _ (held : All (λ e. IsTrue (holds tree.square e.bounds)) tree.entries) where
-    on_grid : (k : ℕ) (t : GridSegment) → Contains (map.entries segments) (k, t) → IsTrue (fits 28 (bounds_of t))
+    on_grid : (k : ℕ) (t : GridSegment) → Contains (map.entries segments) (k, t) → IsTrue (fits grid_bits (bounds_of t))
     on_grid k t there =
         let none = none_fails (λ (e : Entry). holds tree.square e.bounds) tree.entries held in
         let same = kept.same (fails (λ (e : Entry). holds tree.square e.bounds)) in
@@ -102,7 +103,7 @@ module _ (tree : Branch) (segments : Entries) (kept : IsKept tree segments) (w :
         fits_from whole_grid (bounds_of t) (subst (λ q. IsTrue (holds q (bounds_of t))) kept.whole here)
 
     pub near_count : (P : GridSegment → Type 0)
-        → ((t : GridSegment) → IsTrue (fits 28 (bounds_of t)) → IsTrue (is_near w (home (bounds_of t))) ↔ P t)
+        → ((t : GridSegment) → IsTrue (fits grid_bits (bounds_of t)) → IsTrue (is_near w (home (bounds_of t))) ↔ P t)
         → HasCountWhere P segments (count_near w tree.entries)
     near_count P decides = record {
       keys = picks is_home_near (map.entries segments);

@@ -1,7 +1,8 @@
 //! Both sides at once. The segments of the border above the middle of a segment are counted, and the segment
 //! itself: on the side below it, or left of it where it is vertical, it is above too, so there its own number
 //! in the border counts as well.
-ghost use Rattle.std.specs.Prelude.{◌≡◌, ◌↔◌, ◌<◌, ◌*◌, ◌^◌, ◌∷◌, ◌&&◌, IsTrue};
+ghost use Rattle.std.specs.Prelude.{◌≡◌, ◌↔◌, ◌<◌, ◌*◌, ◌∷◌, ◌&&◌, IsTrue};
+ghost use Rattle.grid_base.specs.Grid.{grid_side, product_bound};
 ghost use Rattle.grid_base.specs.Point.{IsBefore};
 ghost use Rattle.grid_base.specs.Border.{AreNoded, IsEvenBorder};
 ghost use Rattle.grid_base.specs.Plane.{as_place};
@@ -55,10 +56,10 @@ fn is_over_middle(t: &Segment, s: &Segment) -> bool
 
 // The product of two sums of coordinates.
 fn product(m: u32, n: u32) -> u64
-    requires m_below { m < 2 ^ 29 }
-    requires n_below { n < 2 ^ 29 }
+    requires m_below { m < 2 * grid_side }
+    requires n_below { n < 2 * grid_side }
     ensures product { result ≡ m * n }
-    ensures below { result < 2 ^ 58 }
+    ensures below { result < 4 * product_bound }
 {
     u64::from(m) * u64::from(n)
 }

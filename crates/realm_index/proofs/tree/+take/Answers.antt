@@ -4,6 +4,7 @@ use Rattle.std.proofs.Common.{List, [], ◌∷◌, ◌++◌, length, take, get_o
 use Rattle.std.specs.Bool.{OnTrue, OnFalse}
 use Rattle.std.proofs.lemmas.Bool.{OnTrue_at, OnFalse_at, OnTrue_from, OnFalse_from, ltb-true, both_ways}
 use Rattle.std.proofs.lemmas.List.Elements.{All-append, All-weaker, All-head, All-tail, All-more}
+use Rattle.grid_base.specs.Grid.{grid_bits}
 use Rattle.realm_index.specs.Square.{GridSquare}
 use Rattle.std.specs.List.{slice_set, sum_by}
 use Rattle.std.proofs.lemmas.List.{set-get_or, take_all}
@@ -97,7 +98,7 @@ Tree::take-returns-in-Some-clause-none t c =
     let own = c.self.inside.own.items in
     let back = flatten c.self.inside.parts.items in
     let seen = ap (λ (b : Branch). b.entries) c.self.view_is in
-    let least = least_le 28 c.in-Some.field-0.level c.args.entry.now.bounds
+    let least = least_le grid_bits c.in-Some.field-0.level c.args.entry.now.bounds
     (fits_from c.in-Some.field-0 c.args.entry.now.bounds c.in-Some.ensures.0) in
     OnFalse_from c.take_below.result (Lacks c.args.self.now.entries c.args.entry.now) (λ is.
     subst (λ es. Lacks es c.args.entry.now) seen

@@ -3,6 +3,7 @@ use Rattle.std.proofs.Common.{◌≡◌, IsTrue, sym, ap, subst, arith, ◌<◌,
 use Rattle.std.proofs.lemmas.Result.{MatchResult-from_err, MatchResult-weaker}
 use Rattle.std.specs.List.{slice_set}
 use Rattle.std.proofs.lemmas.List.Elements.{All-set}
+use Rattle.grid_base.specs.Grid.{grid_bits}
 use Rattle.realm_index.specs.Square.{GridSquare}
 use Rattle.std.proofs.lemmas.Bool.{lt-ltb}
 use Rattle.realm_index.specs.Bounds.{holds, home}
@@ -86,7 +87,7 @@ invariant_of-self-2 t c =
     let part = subst (λ (b : Branch). b.square.level < q.level) (sym at) (lower i below within) in
     let part2 = subst (λ (r : GridSquare). r.level < q.level) (sym c.put.ensures.square) part in
     let lower2 = All-set (λ (b : Branch). b.square.level < q.level) parts i c.put.new.self part2 lower in
-    let least = least_le 28 c.in-Some.part.level c.args.entry.bounds (fits_from c.in-Some.part c.args.entry.bounds c.in-Some.ensures.0) in
+    let least = least_le grid_bits c.in-Some.part.level c.args.entry.bounds (fits_from c.in-Some.part c.args.entry.bounds c.in-Some.ensures.0) in
     let deeper = lt-ltb (home c.args.entry.bounds).level q.level (omega (arith, least, c.in-Some.ensures.1)) in
     either c.put.result c.put.ensures.entries
     (λ more. branch_parts_more q own old c.self.invariant (slice_set parts i c.put.new.self) c.args.entry
