@@ -14,13 +14,16 @@ use indexmap::IndexMap;
 use std::alloc::Global;
 use std::collections::HashMap;
 use std::marker::Model;
+use thiserror::Error;
 
 /// Why a value isn't defined.
-#[derive(Clone, Copy, Debug, PartialEq, Eq)]
+#[derive(Clone, Copy, Debug, PartialEq, Eq, Error)]
 pub enum TableError {
     /// The name is there already; drop it first.
+    #[error("the name is taken")]
     Taken,
     /// Memory ran out.
+    #[error("no memory")]
     NoMemory,
 }
 
