@@ -1,6 +1,7 @@
 -- This file shows that the places of a class are the odd ones of its rim, where it isn't the outer class.
-use Rattle.std.proofs.Common.{◌≡◌, ◌↔◌, ℕ, zero, suc, ◌*◌, ◌^◌, ◌<◌, ◌==◌, Bool, true, false, not, ◌&&◌, ◌||◌, if◌then◌else◌, List, []}
+use Rattle.std.proofs.Common.{◌≡◌, ◌↔◌, ℕ, zero, suc, ◌*◌, ◌<◌, ◌==◌, Bool, true, false, not, ◌&&◌, ◌||◌, if◌then◌else◌, List, []}
 use Rattle.std.proofs.Common.{◌∷◌, map, length, Contains, refl, sym, ap, ◌∙◌, arith}
+use Rattle.grid_base.specs.Grid.{grid_side}
 use Rattle.grid_base.specs.Point.{IsBefore}
 use Rattle.grid_base.specs.Segment.{GridSegment}
 use Rattle.grid_base.specs.Sides.{Side, Left, On, Right}
@@ -90,7 +91,7 @@ rim_parity B N n i d q realm c not_outer h lies = counts ∙ same
     C : List GridSegment
     C = class_rim n B N
 
-    r : IsRealmBelow (2 ^ 28) B
+    r : IsRealmBelow grid_side B
     r = h.sweep.realm
 
     f : ℕ → Bool
@@ -100,27 +101,27 @@ rim_parity B N n i d q realm c not_outer h lies = counts ∙ same
     free = free_beside B (numbered B i) d q lies.beside
 
     Q : Place
-    Q = sheared_place (2 ^ 28) q
+    Q = sheared_place grid_side q
 
-    free_Q : IsFree (map (sheared (2 ^ 28)) B) Q
-    free_Q = free_sheared (2 ^ 28) B q r.order r.some free
+    free_Q : IsFree (map (sheared grid_side) B) Q
+    free_Q = free_sheared grid_side B q r.order r.some free
 
-    sweep : IsSweep (map (sheared (2 ^ 28)) B) (length B) (sheared_number B) (2 ^ 28 * 2 ^ 28) h.steps h.right
-    sweep = sweep_of (2 ^ 28) B h.steps h.right h.sweep
+    sweep : IsSweep (map (sheared grid_side) B) (length B) (sheared_number B) (grid_side * grid_side) h.steps h.right
+    sweep = sweep_of grid_side B h.steps h.right h.sweep
 
     hp : HasParity (length B) (sheared_number B) f h.right [] h.steps Q
-    hp = parity_of_place (map (sheared (2 ^ 28)) B) (length B) (sheared_number B) (links h.steps) h.right f Q (position (2 ^ 28) B r) free_Q
+    hp = parity_of_place (map (sheared grid_side) B) (length B) (sheared_number B) (links h.steps) h.right f Q (position grid_side B r) free_Q
         (respects B N n h c) None [] h.steps h.sweep.walk (all_among h.steps (links h.steps) (λ y z m. m)) h.sweep.rights tt tt
         (linked_here (links h.steps) 0)
 
-    own : IsSideLabel (map (sheared (2 ^ 28)) B) (sheared_number B) h.steps h.right i d Q
-    own = side_place (map (sheared (2 ^ 28)) B) (length B) (sheared_number B) (2 ^ 28 * 2 ^ 28) h.steps h.right i d Q sweep lies.within
-        (slanted_of d lies.sided) (side_of_sweep (2 ^ 28) B i d q r lies.within lies.beside)
+    own : IsSideLabel (map (sheared grid_side) B) (sheared_number B) h.steps h.right i d Q
+    own = side_place (map (sheared grid_side) B) (length B) (sheared_number B) (grid_side * grid_side) h.steps h.right i d Q sweep lies.within
+        (slanted_of d lies.sided) (side_of_sweep grid_side B i d q r lies.within lies.beside)
 
     linked : AreLinked (links h.steps) (side_label h.right i d) hp.label
     linked = linked_both (links h.steps) (side_label h.right i d) own.label hp.label own.fits
         (linked_back (links h.steps) hp.label own.label
-        (linked_in_class (map (sheared (2 ^ 28)) B) (length B) (sheared_number B) (2 ^ 28 * 2 ^ 28) h.steps h.right Q own.place hp.label
+        (linked_in_class (map (sheared grid_side) B) (length B) (sheared_number B) (grid_side * grid_side) h.steps h.right Q own.place hp.label
         own.label sweep own.class hp.has own.has))
 
     same : xor (f hp.label) (f 0) ≡ (number_at N i d == n)
@@ -139,9 +140,9 @@ rim_parity B N n i d q realm c not_outer h lies = counts ∙ same
 
     counts : par (is_over q) C ≡ xor (f hp.label) (f 0)
     counts =
-        parity_sheared (2 ^ 28) C q r.some order (λ s m. below_of (2 ^ 28) B r s (rim_part n B N s m))
+        parity_sheared grid_side C q r.some order (λ s m. below_of grid_side B r s (rim_part n B N s m))
         (even_is C order (rim_is_even B N n realm c)) (free_of_part C B q (rim_part n B N) free)
-        ∙ par_map (2 ^ 28) (is_over Q) C ∙ rim_counted n (λ s. is_over Q (sheared (2 ^ 28) s)) B N c.one_each
+        ∙ par_map grid_side (is_over Q) C ∙ rim_counted n (λ s. is_over Q (sheared grid_side s)) B N c.one_each
         ∙ below_alike (λ j. is_alone n (numbers_at N j) && is_over Q (sheared_number B j))
         (λ j. divides f h.right j && is_over Q (sheared_number B j)) (length B)
         (λ j hj. ap (λ (b : Bool). b && is_over Q (sheared_number B j)) (divided j hj))
