@@ -10,6 +10,7 @@ use Rattle.grid_base.specs.Places.{RationalPoint, IsPlace, IsAt}
 use Rattle.grid_base.specs.Plane.{Place, side_number_at, side_at, Holds, IsAtPoint, blend}
 use Rattle.grid_base.proofs.Ends.{columns_in_order}
 use Rattle.grid_base.proofs.Turns.{in_order}
+use Rattle.grid_base.proofs.Signs.{on_by_zero}
 use Rattle.side_parity.proofs.Images.{IsImage, moved, moved_point, number_moved}
 use Rattle.side_parity.proofs.Regions.{mean}
 
@@ -40,9 +41,6 @@ zero_by : (z : ℤ) → side_of z ≡ On → z ≡ pos 0
 zero_by (pos zero) e = refl
 zero_by (pos (suc n)) e = cc
 zero_by (negsuc n) e = cc
-
-on_by_zero : (z : ℤ) → z ≡ pos 0 → side_of z ≡ On
-on_by_zero z h = rw h refl
 
 no_difference : (y z : ℤ) → y -ℤ z ≡ pos 0 → y ≡ z
 no_difference y z h = omega (arith, ints)
