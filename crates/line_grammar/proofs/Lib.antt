@@ -16,6 +16,8 @@ pub mod Names
 pub mod Numbers
 -- one of several words
 pub mod Choices
+-- the rows of the commands
+pub mod CommandRows
 -- the words of the lines
 pub mod WordLemmas
 -- places, and rows of them
