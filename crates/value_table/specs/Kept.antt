@@ -17,7 +17,7 @@ abbrev pub seen_of : {Y : Type 0} → List (String Y × Value) → NamedValues
 seen_of entries = map named entries
 
 -- no two names are the same, and the counts are those of the values
-pub record IsKept {Y R S T : Type 0} (values : HashMap (String Y) Value R) (ids : HashMap ℕ ℕ S)
+pub record CountsUses {Y R S T : Type 0} (values : HashMap (String Y) Value R) (ids : HashMap ℕ ℕ S)
     (points : HashMap GridPoint ℕ T) : Type 0 where
   pub distinct : IsUnique string_eq values
   pub ids_counted : (id : ℕ) → users_in nat_eq ids id ≡ users_of (seen_of values.entries) id

@@ -7,12 +7,12 @@ ghost use Rattle.std.specs.Map.{keys_of};
 ghost use Rattle.value_table.specs.Table.{value_named, IsNamed, without, HasDistinctNames};
 ghost use Rattle.value_table.specs.Table.{users_of, users_of_point};
 
-use crate::users;
+use crate::users::{self, Counts};
 use crate::value::Value;
 use grid_base::{NoMemory, Point};
 use indexmap::IndexMap;
 use std::alloc::Global;
-use std::collections::HashMap;
+use std::hash::{BuildHasherDefault, DefaultHasher};
 use std::marker::Model;
 use thiserror::Error;
 
@@ -31,9 +31,9 @@ pub enum TableError {
 /// their values.
 #[derive(Drop)]
 pub struct Table {
-    values: IndexMap<String, Value>,
-    ids: HashMap<u32, u64>,
-    points: HashMap<Point, u64>,
+    values: IndexMap<String, Value, BuildHasherDefault<DefaultHasher>>,
+    ids: Counts<u32>,
+    points: Counts<Point>,
     alloc: Global,
 }
 
@@ -42,11 +42,11 @@ impl Model for Table {
 
     ghost Value = { NamedValues };
 
-    ghost use Rattle.value_table.specs.Kept.{seen_of, IsKept};
+    ghost use Rattle.value_table.specs.Kept.{seen_of, CountsUses};
 
     ghost view = { λ t. seen_of t.values.entries };
 
-    ghost invariant = { λ t. IsKept t.values t.ids t.points };
+    ghost invariant = { λ t. CountsUses t.values t.ids t.points };
 }
 
 impl Table {
@@ -55,9 +55,9 @@ impl Table {
         ensures { result ≡ [] }
     {
         Table {
-            values: IndexMap::new(alloc),
-            ids: HashMap::new(alloc),
-            points: HashMap::new(alloc),
+            values: IndexMap::with_hasher(alloc, BuildHasherDefault::new()),
+            ids: users::empty(alloc),
+            points: users::empty(alloc),
             alloc,
         }
     }
