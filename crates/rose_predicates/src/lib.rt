@@ -7,7 +7,5 @@ mod members;
 mod of_lines;
 mod of_points;
 mod of_regions;
-#[cfg(test)]
-mod tests;
 
 pub use answering::{HoldsError, holds};

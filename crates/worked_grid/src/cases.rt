@@ -1,0 +1,3 @@
+//! The cases, by what they are about. Nothing but the public calls of the crates is used.
+mod blocks;
+mod lists;
