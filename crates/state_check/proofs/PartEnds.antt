@@ -60,12 +60,6 @@ some_point : (a b : GridPoint) (chain : List GridPoint) → RunsFrom a b chain �
 some_point a b [] leads = absurd leads
 some_point a b (v ∷ chain) leads = omega arith
 
--- a chain has points
-pub has_points : (d : Drawing) (id : ℕ) (points : List GridPoint) → IsChainOf d id points → AllStand d → 0 < length points
-has_points d id points is stand =
-    let one = found d id points is stand in
-    some_point one.original.a one.original.b points one.valid.leads
-
 -- so an original is made again from its chain
 pub made_again : (d : Drawing) (id : ℕ) (points chain : List GridPoint) → IsChainOf d id points → AllStand d → (x y : GridPoint)
     → x ≡ get_or points 0 x → y ≡ get_or points (length points - 1) y → chain ≡ points
