@@ -1,3 +1,5 @@
+-- how far two texts agree
+pub mod Agree
 -- how far texts with a common front agree
 pub mod Agreement
 -- a token and then an exact rest

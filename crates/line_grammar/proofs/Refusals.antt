@@ -1,7 +1,7 @@
 -- This file shows that a line is refused at the end of the longest front with which a command's text begins.
 use Rattle.std.proofs.Common.{◌≡◌, ℕ, ◌-◌, ◌≤◌, List, ◌++◌, length, take, Ok, Err, refl, sym, ap, subst, ◌∙◌, arith}
 use Rattle.line_grammar.specs.declared.command.Command.{Command}
-use Rattle.line_grammar.specs.Agree.{agree}
+use Rattle.line_grammar.proofs.Agree.{agree}
 use Rattle.line_grammar.specs.Spelling.{command_text}
 use Rattle.line_grammar.specs.Lines.{Says, Begins, IsFaultAt}
 use Rattle.line_grammar.specs.Forms.{command_at}

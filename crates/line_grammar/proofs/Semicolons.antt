@@ -5,7 +5,7 @@ use Rattle.std.specs.Prelude.{codes}
 use Rattle.std.proofs.lemmas.Bool.{eq-eqb, ne_eqb}
 use Rattle.std.proofs.lemmas.List.{length-append}
 use Rattle.line_grammar.specs.declared.command.At.{At}
-use Rattle.line_grammar.specs.Agree.{agree}
+use Rattle.line_grammar.proofs.Agree.{agree}
 use Rattle.line_grammar.specs.Pieces.{space, point}
 use Rattle.line_grammar.specs.Fitting.{is_digit, IsPoint}
 use Rattle.line_grammar.specs.Reading.{◌>>=◌, literal_at}

@@ -16,8 +16,6 @@ pub mod Spelling
 pub mod Spellable
 -- which texts are read, and where the others go wrong
 pub mod Lines
--- how far two texts agree
-pub mod Agree
 -- reading tokens from left to right, with the place where it stops
 pub mod Reading
 -- reading one of several words
