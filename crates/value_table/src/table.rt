@@ -1,5 +1,5 @@
-//! Values by name, in the order in which they were defined. Room is made in all three maps before
-//! one is changed, so want of memory leaves nothing to undo.
+//! Values by name, in the order in which they were defined. Room for a name is made before its uses are
+//! counted, so want of memory leaves nothing to undo but counts.
 ghost use Rattle.std.specs.Prelude.{◌≡◌, ◌↔◌, ◌++◌, ◌∷◌, [], Err, IsTrue, OnOk, OnErr};
 ghost use Rattle.std.specs.Prelude.{length, slice_get};
 ghost use Rattle.std.specs.Option.{option_copied};
@@ -7,11 +7,12 @@ ghost use Rattle.std.specs.Map.{keys_of};
 ghost use Rattle.value_table.specs.Table.{value_named, IsNamed, without, HasDistinctNames};
 ghost use Rattle.value_table.specs.Table.{users_of, users_of_point};
 
-use crate::users::{self, Counts};
+use crate::users;
 use crate::value::Value;
 use grid_base::{NoMemory, Point};
 use indexmap::IndexMap;
 use std::alloc::Global;
+use std::collections::BTreeMap;
 use std::hash::{BuildHasherDefault, DefaultHasher};
 use std::marker::Model;
 use thiserror::Error;
@@ -31,9 +32,10 @@ pub enum TableError {
 /// their values.
 #[derive(Drop)]
 pub struct Table {
+    // The hash is SipHash: of the faster one that maps have by default, names that collide can be worked out.
     values: IndexMap<String, Value, BuildHasherDefault<DefaultHasher>>,
-    ids: Counts<u32>,
-    points: Counts<Point>,
+    ids: BTreeMap<u32, u64>,
+    points: BTreeMap<Point, u64>,
     alloc: Global,
 }
 
@@ -56,8 +58,8 @@ impl Table {
     {
         Table {
             values: IndexMap::with_hasher(alloc, BuildHasherDefault::new()),
-            ids: users::empty(alloc),
-            points: users::empty(alloc),
+            ids: BTreeMap::new(alloc),
+            points: BTreeMap::new(alloc),
             alloc,
         }
     }
@@ -92,10 +94,9 @@ impl Table {
     {
         let name = String::from_str(self.alloc, name)?;
         self.values.reserve(1)?;
-        users::make_room(&mut self.ids, &mut self.points, &v)?;
         // The length of a map is below 2^63, so each count is.
         let _ = self.values.len();
-        users::note(&mut self.ids, &mut self.points, &v);
+        users::note(&mut self.ids, &mut self.points, &v)?;
         match self.values.insert(name, v) {
             Ok(_) => Ok(()),
             Err(_) => unreachable!(),
