@@ -4,7 +4,7 @@ use Rattle.std.proofs.Common.{length, get_or, map, All, Contains, refl, sym, ap,
 use Rattle.std.proofs.lemmas.Bool.{cases_eq, cases_lt}
 use Rattle.std.proofs.lemmas.List.Elements.{All-contains, Contains-get_or}
 use Rattle.grid_base.specs.Segment.{GridSegment, IsSegmentBefore}
-use Rattle.grid_base.proofs.Ends.{not_before_itself}
+use Rattle.grid_base.proofs.Ends.{segment_before_itself}
 use Rattle.rose_values.specs.Border.{AreSegmentsAscending}
 use Rattle.linked_parts.specs.Parts.{Links, IsLink, AreLinked, AreLabels}
 use Rattle.linked_parts.specs.Parts as parts
@@ -86,10 +86,6 @@ in_block list links labels places count blocks made block s (p, below, is) has =
 -- a segment to stand where none does
 origin : GridSegment
 origin = record { a = record { x = 0; y = 0 }; b = record { x = 0; y = 0 } }
-
-segment_before_itself : (s : GridSegment) → IsSegmentBefore s s → ⊥
-segment_before_itself s (inl lesser) = not_before_itself s.a s.a refl lesser
-segment_before_itself s (inr greater) = not_before_itself s.b s.b refl greater.1
 
 -- the root of a place comes before all segments of later places
 pub blocks_in_order : (list : List GridSegment) (links : Links) (labels places : List ℕ) (count : ℕ) (blocks : List (List GridSegment))

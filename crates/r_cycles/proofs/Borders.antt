@@ -9,29 +9,26 @@ use Rattle.std.proofs.lemmas.List.Elements.{All-head, All-tail, All-contains}
 use Rattle.grid_base.specs.Point.{GridPoint, IsBefore, is_before, is_point}
 use Rattle.grid_base.specs.Segment.{GridSegment, IsSegmentBefore, segment_of}
 use Rattle.grid_base.proofs.Orders.{is_point-same, is_point-itself}
-use Rattle.grid_base.proofs.Ends.{not_before_itself}
+use Rattle.grid_base.proofs.Ends.{not_before_itself, segment_before_itself}
 use Rattle.grid_base.proofs.Elements.{same_place}
+use Rattle.grid_base.proofs.Booleans.{both_true, one_true}
 use Rattle.grid_base.specs.Border.{is_end}
 use Rattle.rose_values.specs.Border.{AreSegmentsAscending}
 use Rattle.r_cycles.specs.Cycles.{link, joins}
 use Rattle.r_cycles.specs.Left.{way_of, leads, begins, one_if, times_in, AreSimple}
 use Rattle.r_cycles.specs.declared.ways.Way.{Way}
 use Rattle.r_cycles.proofs.Counts.{count_by-cons, count_by-none}
-use Rattle.r_cycles.proofs.Joins.{both_true, count_from_there, joins_by_ways, times_in-swap}
+use Rattle.r_cycles.proofs.Joins.{count_from_there, joins_by_ways, times_in-swap}
 
 -- the lesser end of each segment comes first
 abbrev pub AreOrdered : List GridSegment → Type 0
 AreOrdered border = All (λ s. IsBefore s.a s.b) border
 
 -- ---- which segment joins two points
-one_of : (b c : Bool) → (b || c) ≡ true → (b ≡ true) ⊎ (c ≡ true)
-one_of true c h = inl refl
-one_of false c h = inr h
-
 -- the ends of s are p and q, in one order or the other
 ends_are : (p q : GridPoint) (s : GridSegment) → joins p q (link s.a s.b) ≡ true
     → ((s.a ≡ p) × (s.b ≡ q)) ⊎ ((s.a ≡ q) × (s.b ≡ p))
-ends_are p q s h = elim (one_of (is_point s.a p && is_point s.b q) (is_point s.a q && is_point s.b p) h) [
+ends_are p q s h = elim (one_true (is_point s.a p && is_point s.b q) (is_point s.a q && is_point s.b p) h) [
   | inl first ↦
       let both = both_true (is_point s.a p) (is_point s.b q) first in
       inl (is_point-same s.a p both.0, is_point-same s.b q both.1)
@@ -65,10 +62,6 @@ apart_ends p s before = by (joins p p (link s.a s.b)) refl
         let same = ⊎_elim (λ one. one) (λ other. other) (ends_are p p s e) in
         absurd (not_before_itself p p refl (subst (λ v. IsBefore v p) same.0 (subst (λ v. IsBefore s.a v) same.1 before)))
     by false e = refl
-
-segment_before_itself : (s : GridSegment) → IsSegmentBefore s s → ⊥
-segment_before_itself s (inl lesser) = not_before_itself s.a s.a refl lesser
-segment_before_itself s (inr greater) = not_before_itself s.b s.b refl greater.1
 
 -- ---- a border
 after_first : (s : GridSegment) (border : List GridSegment) (t : GridSegment) → AreSegmentsAscending (s ∷ border)

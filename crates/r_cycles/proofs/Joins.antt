@@ -5,6 +5,7 @@ use Rattle.std.proofs.lemmas.List.Sums.{sum_by-append}
 use Rattle.grid_base.specs.Point.{GridPoint, is_point}
 use Rattle.grid_base.specs.Segment.{GridSegment}
 use Rattle.grid_base.proofs.Orders.{is_point-same, is_point-itself}
+use Rattle.grid_base.proofs.Booleans.{both_true}
 use Rattle.r_cycles.specs.Cycles.{Link, link, links, round, joins, times_joined, times_used}
 use Rattle.r_cycles.specs.Left.{way_of, leads, begins, one_if, times_in, BeginsAt, EndsAt}
 use Rattle.r_cycles.specs.declared.ways.Way.{Way}
@@ -17,10 +18,6 @@ other_point p q other = by (is_point p q) refl
     by : (b : Bool) → is_point p q ≡ b → is_point p q ≡ false
     by true e = absurd (other (is_point-same p q e))
     by false e = e
-
-pub both_true : (b c : Bool) → (b && c) ≡ true → (b ≡ true) × (c ≡ true)
-both_true true c h = (refl, h)
-both_true false c h = cc
 
 -- ---- ways
 -- the way from p to q leads from p to q, and no other

@@ -8,6 +8,8 @@ use Rattle.grid_base.specs.Segment.{GridSegment, IsSegmentBefore, segment_of}
 use Rattle.grid_base.specs.Sides.{Side, Left, On, Right}
 use Rattle.grid_base.specs.Plane.{Place}
 use Rattle.grid_base.proofs.Elements.{Contains-here, Contains-later}
+use Rattle.grid_base.proofs.Booleans.{both_true, one_true, either_true, same_number}
+use Rattle.grid_base.proofs.Signs.{left_off, right_off}
 use Rattle.plane_classes.specs.Classes.{FromLeft, FromRight}
 use Rattle.plane_cells.specs.Numbered.{numbered}
 use Rattle.plane_cells.specs.Sheared.{AreOfRealm}
@@ -28,23 +30,6 @@ use Rattle.r_faces.specs.Turned.{IsTurned, BeginsLeast}
 use Rattle.r_faces.proofs.TurnedLinks.{cycle_turned, cycle_reversed, HaveLinks, link_was, link_is}
 
 -- ---- each segment of a class's rim lies between the class and the face
-tells : (m n : ℕ) → (m == n) ≡ true → m ≡ n
-tells m n h = grind arith
-
-both_true : (b c : Bool) → (b && c) ≡ true → b ≡ true
-both_true true c h = refl
-both_true false c h = cc
-
-one_of : (b c : Bool) → (b || c) ≡ true → (b ≡ true) ⊎ (c ≡ true)
-one_of true c h = inl refl
-one_of false c h = inr h
-
-off_left : Left ≡ On → ⊥
-off_left e = cc
-
-off_right : Right ≡ On → ⊥
-off_right e = cc
-
 -- the class is on one side, and the face on the other
 pub data HasSides (N : List SideClasses) (face n i : ℕ) : Type 0 where
   OnLeft : number_at N i Left ≡ n → number_at N i Right ≡ face → HasSides N face n i
@@ -53,15 +38,15 @@ pub data HasSides (N : List SideClasses) (face n i : ℕ) : Type 0 where
 pub has_sides : (R : List GridSegment) (N : List SideClasses) (face n i : ℕ) → IsFaceNumber R N face → n ≢ face → i < length R
     → is_alone n (numbers_at N i) ≡ true → HasSides N face n i
 has_sides R N face n i two other hi alone =
-    by (one_of (is_left_alone n (numbers_at N i)) (is_right_alone n (numbers_at N i)) alone) (two i hi)
+    by (one_true (is_left_alone n (numbers_at N i)) (is_right_alone n (numbers_at N i)) alone) (two i hi)
   where
     by : (is_left_alone n (numbers_at N i) ≡ true) ⊎ (is_right_alone n (numbers_at N i) ≡ true)
         → ((number_at N i Left ≡ face) × (number_at N i Right ≢ face)) ⊎ ((number_at N i Right ≡ face) × (number_at N i Left ≢ face))
         → HasSides N face n i
-    by (inl a) (inl f) = absurd (other (sym (tells _ n (both_true _ _ a)) ∙ f.0))
-    by (inl a) (inr f) = OnLeft (tells _ n (both_true _ _ a)) f.0
-    by (inr a) (inl f) = OnRight (tells _ n (both_true _ _ a)) f.0
-    by (inr a) (inr f) = absurd (other (sym (tells _ n (both_true _ _ a)) ∙ f.0))
+    by (inl a) (inl f) = absurd (other (sym (same_number _ n (both_true _ _ a).0) ∙ f.0))
+    by (inl a) (inr f) = OnLeft (same_number _ n (both_true _ _ a).0) f.0
+    by (inr a) (inl f) = OnRight (same_number _ n (both_true _ _ a).0) f.0
+    by (inr a) (inr f) = absurd (other (sym (same_number _ n (both_true _ _ a).0) ∙ f.0))
 
 -- a place beside segment i on the side d
 at_side : (R : List GridSegment) (N : List SideClasses) (i : ℕ) (d : Side) → AreClassNumbers R N → i < length R → (d ≡ On → ⊥)
@@ -96,10 +81,10 @@ between R N face n s c two other there = first (has_sides R N face n r.0 two oth
         lies t (i, hi, is, alone) = subst (LiesBetween R p.0 q.0) is (sides (has_sides R N face n i two other hi alone))
           where
             left : (u : Place) × LiesBeside R i Left u
-            left = c.some i Left hi off_left
+            left = c.some i Left hi left_off
 
             right : (u : Place) × LiesBeside R i Right u
-            right = c.some i Right hi off_right
+            right = c.some i Right hi right_off
 
             sides : HasSides N face n i → LiesBetween R p.0 q.0 (numbered R i)
             sides (OnLeft a b) = (
@@ -119,19 +104,14 @@ between R N face n s c two other there = first (has_sides R N face n r.0 two oth
 
     first : HasSides N face n r.0
         → (p : Place) × (q : Place) × ((t : GridSegment) → Contains (class_rim n R N) t → LiesBetween R p q t)
-    first (OnLeft a b) = by Left Right off_left off_right a b
-    first (OnRight a b) = by Right Left off_right off_left a b
+    first (OnLeft a b) = by Left Right left_off right_off a b
+    first (OnRight a b) = by Right Left right_off left_off a b
 
 -- ---- the one cycle goes along the links of the class
 link_of : (s : GridSegment) (l : Link) → ((l.from ≡ s.a) × (l.to ≡ s.b)) ⊎ ((l.from ≡ s.b) × (l.to ≡ s.a))
     → (l ≡ link s.a s.b) ⊎ (l ≡ link s.b s.a)
 link_of s l (inl e) = inl (ap₂ link e.0 e.1)
 link_of s l (inr e) = inr (ap₂ link e.0 e.1)
-
-either : (b c : Bool) → (b ≡ true) ⊎ (c ≡ true) → (b || c) ≡ true
-either true c h = refl
-either false c (inl h) = cc
-either false c (inr h) = h
 
 rim_has : (n : ℕ) (B : List GridSegment) (N : List SideClasses) (i : ℕ) → length N ≡ length B → i < length B
     → is_alone n (numbers_at N i) ≡ true → Contains (class_rim n B N) (numbered B i)
@@ -161,7 +141,7 @@ class_link_of R N n l even there = by (rim_number n R N (along l) there)
     by : (i : ℕ) × (i < length R) × (numbered R i ≡ along l) × (is_alone n (numbers_at N i) ≡ true)
         → Contains (class_links n R N) l ⊎ Contains (class_links n R N) (back l)
     by (i, hi, is, alone) =
-        ways (link_of (along l) l (along_ends l)) (one_of (is_left_alone n (numbers_at N i)) (is_right_alone n (numbers_at N i)) alone)
+        ways (link_of (along l) l (along_ends l)) (one_true (is_left_alone n (numbers_at N i)) (is_right_alone n (numbers_at N i)) alone)
       where
         left : is_left_alone n (numbers_at N i) ≡ true → Contains (class_links n R N) (link (along l).a (along l).b)
         left e = subst (λ (s : GridSegment). Contains (class_links n R N) (link s.a s.b)) is (left_link n R N i even hi e)
@@ -201,13 +181,13 @@ goes_along_class R N n c even cut = record { each = λ l there. each l (link_alo
         by : ((is_left_alone n (numbers_at N h.place) ≡ true) × (l ≡ link s.a s.b))
             ⊎ ((is_right_alone n (numbers_at N h.place) ≡ true) × (l ≡ link s.b s.a))
             → Contains (links (round c)) l ⊎ Contains (links (round c)) (back l)
-        by (inl a) = found (joined s (in_rim h.place h.within (either _ _ (inl a.0)))) a.1
+        by (inl a) = found (joined s (in_rim h.place h.within (either_true _ _ (inl a.0)))) a.1
           where
             found : (k : Link) × Contains (links (round c)) k × ((k ≡ link s.a s.b) ⊎ (k ≡ link s.b s.a)) → l ≡ link s.a s.b
                 → Contains (links (round c)) l ⊎ Contains (links (round c)) (back l)
             found (k, m, inl e) f = inl (subst (Contains (links (round c))) (e ∙ sym f) m)
             found (k, m, inr e) f = inr (subst (Contains (links (round c))) (e ∙ sym (ap back f)) m)
-        by (inr a) = found (joined s (in_rim h.place h.within (either _ _ (inr a.0)))) a.1
+        by (inr a) = found (joined s (in_rim h.place h.within (either_true _ _ (inr a.0)))) a.1
           where
             found : (k : Link) × Contains (links (round c)) k × ((k ≡ link s.a s.b) ⊎ (k ≡ link s.b s.a)) → l ≡ link s.b s.a
                 → Contains (links (round c)) l ⊎ Contains (links (round c)) (back l)
@@ -339,21 +319,13 @@ first_link (a ∷ b ∷ c) v w h e f = subst (Contains (links (round (a ∷ b �
     (Contains-here (link a b) (links (b ∷ (c ++ a ∷ []))))
 
 -- the test of the order of points
-split_or : (b c : Bool) → (b || c) ≡ true → (b ≡ true) ⊎ (c ≡ true)
-split_or true c h = inl refl
-split_or false c h = inr h
-
-split_and : (b c : Bool) → (b && c) ≡ true → (b ≡ true) × (c ≡ true)
-split_and true c h = (refl, h)
-split_and false c h = cc
-
 less : (m n : ℕ) → nat_lt m n ≡ true → m < n
 less m n h = grind (arith, nat_tests)
 
 point_before : (v w : GridPoint) → is_before v w ≡ true → IsBefore v w
-point_before v w h = elim (split_or (nat_lt v.x w.x) ((v.x == w.x) && nat_lt v.y w.y) h) [
+point_before v w h = elim (one_true (nat_lt v.x w.x) ((v.x == w.x) && nat_lt v.y w.y) h) [
   | inl e ↦ inl (less v.x w.x e)
-  | inr e ↦ let p = split_and (v.x == w.x) (nat_lt v.y w.y) e in inr (tells v.x w.x p.0, less v.y w.y p.1)
+  | inr e ↦ let p = both_true (v.x == w.x) (nat_lt v.y w.y) e in inr (same_number v.x w.x p.0, less v.y w.y p.1)
 ]
 
 pub before_is : (v w : GridPoint) (b : Bool) → IsTrue b ↔ IsBefore v w → is_before v w ≡ b

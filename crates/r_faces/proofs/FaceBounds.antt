@@ -11,6 +11,10 @@ use Rattle.grid_base.specs.Sides.{Side, Left, On, Right}
 use Rattle.grid_base.specs.Plane.{Place, IsFree, IsBeside}
 use Rattle.grid_base.specs.Odd.{Odd}
 use Rattle.grid_base.proofs.Elements.{Contains-here, same_place}
+use Rattle.grid_base.proofs.Booleans.{both_true, same_number, number_itself}
+use Rattle.grid_base.proofs.Signs.{left_off, right_off}
+use Rattle.grid_base.proofs.Orders.{IsBefore-asym}
+use Rattle.grid_base.proofs.Collinear.{same_segment}
 use Rattle.plane_classes.specs.Classes.{AreInOneClass, IsOuter}
 use Rattle.plane_classes.proofs.ClassLemmas.{one_class_back, one_class_joined, itself_in_class}
 use Rattle.plane_classes.proofs.Counts.{one_parity}
@@ -56,12 +60,6 @@ face_side R N z i k inside hi =
       one = has.2;
       odd = (parity R N z has.0 k has.2).0 inside.odd;
     }
-
-left_off : Left ≡ On → ⊥
-left_off e = cc
-
-right_off : Right ≡ On → ⊥
-right_off e = cc
 
 never_outer : (R : List GridSegment) (N : List SideClasses) (i : ℕ) (d : Side) (q : Place) → IsKnown R N → LiesBeside R i d q → Odd R q
     → number_at N i d ≡ 0 → ⊥
@@ -130,8 +128,6 @@ face_number_is R N z face key k inside i hi = by (face_side R N z i k inside hi)
         )
 
 -- ---- the numbers beyond the face
-test_yes : (m n : ℕ) → m ≡ n → (m == n) ≡ true
-test_yes m n e = grind arith
 
 -- the number beyond the face at segment i is on the right, with the face on the left, or the other way
 pub beyond_is : (R : List GridSegment) (N : List SideClasses) (U : List ℕ) (face i : ℕ) → IsFaceNumber R N face
@@ -145,7 +141,7 @@ beyond_is R N U face i two u hi = by (two i hi)
         ⊎ ((number_at N i Right ≡ face) × (slice_index U i ≡ number_at N i Left) × (number_at N i Left ≢ face))
     by (inl h) = inl (
       h.0,
-      u.each i hi ∙ ap (λ (b : Bool). if b then number_at N i Right else number_at N i Left) (test_yes (number_at N i Left) face h.0),
+      u.each i hi ∙ ap (λ (b : Bool). if b then number_at N i Right else number_at N i Left) (number_itself (number_at N i Left) face h.0),
       h.1,
     )
     by (inr h) = inr (
@@ -178,7 +174,7 @@ pub zero_beyond : (R : List GridSegment) (N : List SideClasses) (U : List ℕ) (
 zero_beyond R N U face key u =
     u.each key.at key.within
     ∙ ap (λ (b : Bool). if b then number_at N key.at Right else number_at N key.at Left)
-    (test_yes (number_at N key.at Left) face (sym key.is))
+    (number_itself (number_at N key.at Left) face (sym key.is))
     ∙ key.outer
 
 -- and so the least of the keys
@@ -191,13 +187,6 @@ first_is_zero keys up (suc i, within, e) =
 -- P is the class with this number
 abbrev pub Says : List GridSegment → List SideClasses → ℕ → (Place → Type 0) → Type 0
 Says R N m P = (i : ℕ) (d : Side) (q : Place) → LiesBeside R i d q → (number_at N i d ≡ m) ↔ P q
-
-tells : (m n : ℕ) → (m == n) ≡ true → m ≡ n
-tells m n h = grind arith
-
-both_true : (b c : Bool) → (b && c) ≡ true → b ≡ true
-both_true true c h = refl
-both_true false c h = cc
 
 alone_yes : (l r : Bool) → l ≡ true → r ≡ false → (l && not r) ≡ true
 alone_yes true true e f = cc
@@ -236,7 +225,7 @@ border_cycle R N z face m P c key k inside other says h = record {
             ways : ((is_left_alone m (numbers_at N a.place) ≡ true) × (back l ≡ link s.a s.b))
                 ⊎ ((is_right_alone m (numbers_at N a.place) ≡ true) × (back l ≡ link s.b s.a)) → RunsBetween R z P l
             ways (inl x) =
-                let on_left = tells (number_at N a.place Left) m (both_true _ _ x.0) in (
+                let on_left = same_number (number_at N a.place Left) m (both_true _ _ x.0).0 in (
                   s,
                   numbered_in R a.place a.within,
                   inr (
@@ -252,7 +241,7 @@ border_cycle R N z face m P c key k inside other says h = record {
                 right_face e (inl f) = absurd (other (sym e ∙ f.0))
                 right_face e (inr f) = f.0
             ways (inr x) =
-                let on_right = tells (number_at N a.place Right) m (both_true _ _ x.0) in (
+                let on_right = same_number (number_at N a.place Right) m (both_true _ _ x.0).0 in (
                   s,
                   numbered_in R a.place a.within,
                   inl (
@@ -281,7 +270,7 @@ border_cycle R N z face m P c key k inside other says h = record {
         subst (Contains (class_links m R N)) (sym (ap back e))
         (subst (λ (t : GridSegment). Contains (class_links m R N) (link t.b t.a)) i.2
         (right_link m R N i.0 k.numbers.one_each i.1
-        (alone_yes (number_at N i.0 Right == m) (number_at N i.0 Left == m) (test_yes _ m right)
+        (alone_yes (number_at N i.0 Right == m) (number_at N i.0 Left == m) (number_itself _ m right)
         (test_no _ m (λ f. other (sym f ∙ left))))))
     has l (s, there, inr (e, of_face, of_P)) =
         let i = number_of R s there in
@@ -291,7 +280,7 @@ border_cycle R N z face m P c key k inside other says h = record {
         subst (Contains (class_links m R N)) (sym (ap back e))
         (subst (λ (t : GridSegment). Contains (class_links m R N) (link t.a t.b)) i.2
         (left_link m R N i.0 k.numbers.one_each i.1
-        (alone_yes (number_at N i.0 Left == m) (number_at N i.0 Right == m) (test_yes _ m left)
+        (alone_yes (number_at N i.0 Left == m) (number_at N i.0 Right == m) (number_itself _ m left)
         (test_no _ m (λ f. other (sym f ∙ right))))))
 
 -- ---- the classes
@@ -509,14 +498,6 @@ one_more_round {X} P l more x k e n here so_far = (
         at l j d (λ m. Q (suc m)) (λ m e h. all (suc m) e (omega (arith, h))) last (omega (arith, within))
 
 -- ---- different classes have different cycles
-not_both_ways : (p q : GridPoint) → IsBefore p q → IsBefore q p → ⊥
-not_both_ways p q (inl h) (inl k) = omega (arith, h, k)
-not_both_ways p q (inl h) (inr k) = omega (arith, h, k.0)
-not_both_ways p q (inr h) (inl k) = omega (arith, h.0, k)
-not_both_ways p q (inr h) (inr k) = omega (arith, h.1, k.1)
-
-one_segment : (s t : GridSegment) → s.a ≡ t.a → s.b ≡ t.b → s ≡ t
-one_segment s t e f = ap (λ (p : GridPoint). record { a = p; b = s.b }) e ∙ ap (λ (p : GridPoint). record { a = t.a; b = p }) f
 
 link_class : (R : List GridSegment) (N : List SideClasses) (m n : ℕ) (l : Link) → IsKnown R N → Contains (class_links m R N) l
     → Contains (class_links n R N) l → m ≡ n
@@ -546,22 +527,22 @@ link_class R N m n l k there again = by (link_along m R N l there) (link_along n
             ⊎ ((is_right_alone n (numbers_at N b.place) ≡ true) × (l ≡ link t.b t.a)) → m ≡ n
         ways (inl x) (inl y) =
             let e = sym x.1 ∙ y.1 in
-            let same = place (one_segment s t (ap (λ (j : Link). j.from) e) (ap (λ (j : Link). j.to) e)) in
-            sym (tells (number_at N a.place Left) m (both_true _ _ x.0)) ∙ ap (λ (i : ℕ). number_at N i Left) same
-            ∙ tells (number_at N b.place Left) n (both_true _ _ y.0)
+            let same = place (same_segment s t (ap (λ (j : Link). j.from) e) (ap (λ (j : Link). j.to) e)) in
+            sym (same_number (number_at N a.place Left) m (both_true _ _ x.0).0) ∙ ap (λ (i : ℕ). number_at N i Left) same
+            ∙ same_number (number_at N b.place Left) n (both_true _ _ y.0).0
         ways (inl x) (inr y) =
             let e = sym x.1 ∙ y.1 in
-            absurd (not_both_ways s.a s.b order_s (subst (λ (p : GridPoint). IsBefore p s.a) (sym (ap (λ (j : Link). j.to) e))
+            absurd (IsBefore-asym s.a s.b order_s (subst (λ (p : GridPoint). IsBefore p s.a) (sym (ap (λ (j : Link). j.to) e))
             (subst (λ (p : GridPoint). IsBefore t.a p) (sym (ap (λ (j : Link). j.from) e)) order_t)))
         ways (inr x) (inl y) =
             let e = sym x.1 ∙ y.1 in
-            absurd (not_both_ways s.a s.b order_s (subst (λ (p : GridPoint). IsBefore p s.a) (sym (ap (λ (j : Link). j.from) e))
+            absurd (IsBefore-asym s.a s.b order_s (subst (λ (p : GridPoint). IsBefore p s.a) (sym (ap (λ (j : Link). j.from) e))
             (subst (λ (p : GridPoint). IsBefore t.a p) (sym (ap (λ (j : Link). j.to) e)) order_t)))
         ways (inr x) (inr y) =
             let e = sym x.1 ∙ y.1 in
-            let same = place (one_segment s t (ap (λ (j : Link). j.to) e) (ap (λ (j : Link). j.from) e)) in
-            sym (tells (number_at N a.place Right) m (both_true _ _ x.0)) ∙ ap (λ (i : ℕ). number_at N i Right) same
-            ∙ tells (number_at N b.place Right) n (both_true _ _ y.0)
+            let same = place (same_segment s t (ap (λ (j : Link). j.to) e) (ap (λ (j : Link). j.from) e)) in
+            sym (same_number (number_at N a.place Right) m (both_true _ _ x.0).0) ∙ ap (λ (i : ℕ). number_at N i Right) same
+            ∙ same_number (number_at N b.place Right) n (both_true _ _ y.0).0
 
 pub some_link : (c : List GridPoint) → IsCycle c → (l : Link) × Contains (links (round c)) l
 some_link [] h = absurd (omega (arith, h.three))

@@ -9,6 +9,8 @@ use Rattle.std.proofs.lemmas.List.Sorted.{Contains-permutation, IsPermutation-sy
 use Rattle.grid_base.specs.Point.{GridPoint, IsBefore}
 use Rattle.grid_base.specs.Segment.{GridSegment}
 use Rattle.grid_base.specs.Plane.{Place}
+use Rattle.grid_base.proofs.Orders.{IsBefore-asym}
+use Rattle.grid_base.proofs.Collinear.{same_segment}
 use Rattle.rose_values.specs.Areas.{IsInteriorPoint}
 use Rattle.plane_classes.specs.Classes.{IsOuter}
 use Rattle.segment_lists.specs.OnGrid.{IsOnGrid}
@@ -37,14 +39,6 @@ zip_more R xs ys more k x y within at e h here =
     (zip_last R (take k xs) ys x y h here))
 
 -- ---- a link leads along one segment
-not_both_ways : (p q : GridPoint) → IsBefore p q → IsBefore q p → ⊥
-not_both_ways p q (inl h) (inl k) = omega (arith, h, k)
-not_both_ways p q (inl h) (inr k) = omega (arith, h, k.0)
-not_both_ways p q (inr h) (inl k) = omega (arith, h.0, k)
-not_both_ways p q (inr h) (inr k) = omega (arith, h.1, k.1)
-
-one_segment : (s t : GridSegment) → s.a ≡ t.a → s.b ≡ t.b → s ≡ t
-one_segment s t e f = ap (λ (p : GridPoint). record { a = p; b = s.b }) e ∙ ap (λ (p : GridPoint). record { a = t.a; b = p }) f
 
 -- the link is one of s, one way or the other
 abbrev Leads : GridSegment → Link → Type 0
@@ -52,17 +46,17 @@ Leads s l = (l ≡ link s.a s.b) ⊎ (l ≡ link s.b s.a)
 
 one_led : (s t : GridSegment) (l : Link) → IsBefore s.a s.b → IsBefore t.a t.b → Leads s l → Leads t l → s ≡ t
 one_led s t l o p (inl e) (inl f) =
-    let g = sym e ∙ f in one_segment s t (ap (λ (k : Link). k.from) g) (ap (λ (k : Link). k.to) g)
+    let g = sym e ∙ f in same_segment s t (ap (λ (k : Link). k.from) g) (ap (λ (k : Link). k.to) g)
 one_led s t l o p (inl e) (inr f) =
     let g = sym e ∙ f in
-    absurd (not_both_ways s.a s.b o (subst (λ (v : GridPoint). IsBefore v s.a) (sym (ap (λ (k : Link). k.to) g))
+    absurd (IsBefore-asym s.a s.b o (subst (λ (v : GridPoint). IsBefore v s.a) (sym (ap (λ (k : Link). k.to) g))
     (subst (λ (v : GridPoint). IsBefore t.a v) (sym (ap (λ (k : Link). k.from) g)) p)))
 one_led s t l o p (inr e) (inl f) =
     let g = sym e ∙ f in
-    absurd (not_both_ways s.a s.b o (subst (λ (v : GridPoint). IsBefore v s.a) (sym (ap (λ (k : Link). k.from) g))
+    absurd (IsBefore-asym s.a s.b o (subst (λ (v : GridPoint). IsBefore v s.a) (sym (ap (λ (k : Link). k.from) g))
     (subst (λ (v : GridPoint). IsBefore t.a v) (sym (ap (λ (k : Link). k.to) g)) p)))
 one_led s t l o p (inr e) (inr f) =
-    let g = sym e ∙ f in one_segment s t (ap (λ (k : Link). k.to) g) (ap (λ (k : Link). k.from) g)
+    let g = sym e ∙ f in same_segment s t (ap (λ (k : Link). k.to) g) (ap (λ (k : Link). k.from) g)
 
 -- a segment of the rim along which a link of the border cycle leads
 led : (rim : List GridSegment) (z : Place) (c : List GridPoint) (l : Link) → IsBorderCycle rim z (IsOuter rim) c

@@ -10,6 +10,7 @@ use Rattle.grid_base.specs.Odd.{Odd, AreSides}
 use Rattle.grid_base.specs.Border.{AreNoded, IsEvenBorder}
 use Rattle.grid_base.specs.declared.kinds.Sides.{Sides}
 use Rattle.grid_base.proofs.Elements.{same_place}
+use Rattle.grid_base.proofs.Signs.{left_off, right_off}
 use Rattle.rose_values.specs.Areas.{IsInteriorPoint}
 use Rattle.plane_classes.specs.Classes.{AreInOneClass}
 use Rattle.plane_classes.proofs.ClassLemmas.{one_class_back, one_class_joined, itself_in_class}
@@ -56,12 +57,6 @@ known B N noded ascending even grid numbers = record {
 
 pub in_order : (B : List GridSegment) → AreOfRealm B → AreInOrder B
 in_order B realm s there = (realm.on_grid s there).order
-
-left_off : Left ≡ On → ⊥
-left_off e = cc
-
-right_off : Right ≡ On → ⊥
-right_off e = cc
 
 false_is_not : IsTrue false → ⊥
 false_is_not e = cc

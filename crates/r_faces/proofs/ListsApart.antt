@@ -4,26 +4,13 @@ use Rattle.std.proofs.Common.{AllPairs, sum_by, refl, sym, ap, ap₂, ◌∙◌,
 use Rattle.std.specs.List.Sorted.{IsPermutation}
 use Rattle.std.proofs.lemmas.List.Sorted.{sum_by-IsPermutation}
 use Rattle.std.proofs.lemmas.List.Sums.{sum_by-cons}
-use Rattle.std.proofs.lemmas.Bool.{cases_lt, cases_eq}
-use Rattle.grid_base.specs.Point.{GridPoint, point_at, IsBefore, is_point}
+use Rattle.grid_base.specs.Point.{GridPoint, is_point}
 use Rattle.grid_base.proofs.Orders.{is_point-same, is_point-itself}
+use Rattle.grid_base.proofs.Booleans.{both_true}
+use Rattle.grid_base.proofs.Ends.{three_points}
 use Rattle.r_faces.specs.Turned.{IsListBefore}
 
 -- ---- two lists of points are one, or one comes before the other
-three_points : (p q : GridPoint) → IsBefore p q ⊎ ((p ≡ q) ⊎ IsBefore q p)
-three_points p q = elim (cases_lt p.x q.x) [
-  | inl l ↦ inl (inl l)
-  | inr not_l ↦ elim (cases_eq p.x q.x) [
-    | inl column ↦ elim (cases_lt p.y q.y) [
-      | inl low ↦ inl (inr (column, low))
-      | inr not_low ↦ elim (cases_eq p.y q.y) [
-        | inl row ↦ inr (inl (ap₂ point_at column row))
-        | inr apart ↦ inr (inr (inr (sym column, omega (arith, not_low, apart))))
-      ]
-    ]
-    | inr apart ↦ inr (inr (inl (omega (arith, not_l, apart))))
-  ]
-]
 
 three_lists : (c d : List GridPoint) → IsListBefore c d ⊎ ((c ≡ d) ⊎ IsListBefore d c)
 three_lists [] [] = inr (inl refl)
@@ -53,10 +40,6 @@ is_list (p ∷ c) (q ∷ d) = is_point p q && is_list c d
 list_itself : (c : List GridPoint) → is_list c c ≡ true
 list_itself [] = refl
 list_itself (p ∷ c) = ap₂ (λ a b. a && b) (is_point-itself p) (list_itself c)
-
-both_true : (b c : Bool) → (b && c) ≡ true → (b ≡ true) × (c ≡ true)
-both_true true c h = (refl, h)
-both_true false c h = cc
 
 list_same : (c d : List GridPoint) → is_list c d ≡ true → c ≡ d
 list_same [] [] h = refl

@@ -6,6 +6,7 @@ use Rattle.std.proofs.lemmas.List.Elements.{Contains-append_cases}
 use Rattle.grid_base.specs.Point.{GridPoint, is_point}
 use Rattle.grid_base.proofs.Orders.{is_point-same, is_point-itself}
 use Rattle.grid_base.proofs.Elements.{Contains-here, Contains-later, Contains-cases, Contains-nil}
+use Rattle.grid_base.proofs.Booleans.{both_true}
 use Rattle.r_cycles.specs.Cycles.{Link, link, links, round, IsCycle}
 use Rattle.r_cycles.proofs.Counts.{count_by-some, count_by-found}
 use Rattle.r_cycles.proofs.Trails.{AreApart, apart-head, apart-tail, apart-append, apart-left, apart-right, apart-push}
@@ -77,10 +78,6 @@ is_link l k = is_point l.from k.from && is_point l.to k.to
 
 link_itself : (l : Link) → is_link l l ≡ true
 link_itself l = ap₂ (λ b c. b && c) (is_point-itself l.from) (is_point-itself l.to)
-
-both_true : (b c : Bool) → (b && c) ≡ true → (b ≡ true) × (c ≡ true)
-both_true true c h = (refl, h)
-both_true false c h = cc
 
 link_same : (l k : Link) → is_link l k ≡ true → l ≡ k
 link_same l k h =
