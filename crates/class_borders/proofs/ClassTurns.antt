@@ -1,10 +1,10 @@
 -- This file shows that as many segments come in at each point as go out, each with a class on its left alone.
-use Rattle.std.proofs.Common.{◌≡◌, ◌⊎◌, ℕ, zero, suc, ◌<◌, ◌==◌, Bool, true, false, not, ◌&&◌, List, [], map, length}
+use Rattle.std.proofs.Common.{◌≡◌, ◌⊎◌, ℕ, zero, suc, ◌<◌, ◌==◌, Bool, true, not, ◌&&◌, List, [], map, length}
 use Rattle.std.proofs.Common.{refl, sym, ap, subst, ◌∙◌, arith, inl, inr}
 use Rattle.grid_base.specs.Grid.{grid_side}
 use Rattle.grid_base.specs.Point.{GridPoint, is_point}
 use Rattle.grid_base.specs.Segment.{GridSegment, IsEnd}
-use Rattle.grid_base.specs.Sides.{Left, On, Right}
+use Rattle.grid_base.specs.Sides.{Left, Right}
 use Rattle.grid_base.proofs.Orders.{is_point-same, is_point-itself}
 use Rattle.grid_base.proofs.Ends.{same_or_not}
 use Rattle.grid_base.proofs.Signs.{left_off, right_off}

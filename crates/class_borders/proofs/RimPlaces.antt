@@ -1,5 +1,5 @@
 -- This file shows that the places of a class are the odd ones of its rim, where it isn't the outer class.
-use Rattle.std.proofs.Common.{◌≡◌, ◌↔◌, ℕ, zero, suc, ◌*◌, ◌<◌, ◌==◌, Bool, true, false, not, ◌&&◌, ◌||◌, if◌then◌else◌, List, []}
+use Rattle.std.proofs.Common.{◌≡◌, ◌↔◌, ℕ, ◌*◌, ◌<◌, ◌==◌, Bool, true, false, not, ◌&&◌, ◌||◌, if◌then◌else◌, List, []}
 use Rattle.std.proofs.Common.{◌∷◌, map, length, Contains, refl, sym, ap, ◌∙◌, arith}
 use Rattle.grid_base.specs.Grid.{grid_side}
 use Rattle.grid_base.specs.Point.{IsBefore}
@@ -28,7 +28,7 @@ use Rattle.plane_cells.proofs.ShearedRealm.{IsRealmBelow, position}
 use Rattle.plane_cells.proofs.ShearedSides.{sweep_of, below_of, free_beside, side_of_sweep}
 use Rattle.plane_cells.proofs.Numbered.{IsSweep, IsSideLabel, all_among, side_place, linked_in_class}
 use Rattle.plane_cells.proofs.ColumnChanges.{respected, divides}
-use Rattle.plane_cells.proofs.StatusCounts.{par_below, both, below_alike}
+use Rattle.plane_cells.proofs.StatusCounts.{par_below, below_alike}
 use Rattle.plane_cells.proofs.ColumnParity.{HasParity, parity_of_place}
 use Rattle.plane_cells.proofs.RimCounts.{below_first}
 use Rattle.plane_cells.proofs.Beside.{side_label}

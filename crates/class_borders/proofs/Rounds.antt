@@ -1,16 +1,15 @@
 -- This file shows that round a vertex as many segments come in as go out, where each has what passes a test on its left alone.
-use Rattle.std.proofs.Common.{◌≡◌, ◌⊎◌, ℕ, suc, ◌+◌, ◌<◌, ◌≤◌, Bool, true, false, not, ◌&&◌, List, [], ◌∷◌, ◌++◌, refl, sym, ap, subst, ◌∙◌}
+use Rattle.std.proofs.Common.{◌≡◌, ℕ, suc, ◌+◌, ◌<◌, Bool, true, false, not, ◌&&◌, List, [], ◌∷◌, ◌++◌, refl, sym, ap, subst, ◌∙◌}
 use Rattle.std.proofs.Common.{arith, inl, inr}
 use Rattle.grid_base.specs.Point.{GridPoint}
 use Rattle.grid_base.specs.Segment.{GridSegment, IsEnd}
 use Rattle.grid_base.proofs.Signs.{three_ways}
 use Rattle.linked_parts.specs.Parts.{Links}
 use Rattle.plane_cells.specs.Order.{IsFurtherDown}
-use Rattle.plane_cells.specs.Steps.{Step, before, after, Each, Pairs, link, label_over, HaveRights}
-use Rattle.plane_cells.specs.Walks.{Bound, None, Wall, IfWall, IsAcross, Lies, Across, Ahead, Past, Walk}
+use Rattle.plane_cells.specs.Steps.{Step, before, after, Pairs, link, label_over, HaveRights}
+use Rattle.plane_cells.specs.Walks.{Bound, None, Wall, IfWall, Walk}
 use Rattle.plane_cells.proofs.Walks.{Position}
 use Rattle.plane_cells.proofs.Labels.{over_joined}
-use Rattle.plane_cells.proofs.Lists.{each_at}
 use Rattle.plane_cells.proofs.Statuses.{pairs_left, pairs_right}
 use Rattle.plane_cells.proofs.AtVertices.{AreNumbers}
 use Rattle.plane_cells.proofs.Beside.{AreRight, AreAmong, right_first, right_last, right_behind}
