@@ -1,12 +1,14 @@
 -- This file shows that as many segments come in at each point as go out, each with a class on its left alone.
-use Rattle.std.proofs.Common.{◌≡◌, ◌⊎◌, ℕ, zero, suc, ◌<◌, ◌==◌, Bool, true, false, not, ◌&&◌, List, [], map, length}
+use Rattle.std.proofs.Common.{◌≡◌, ◌⊎◌, ℕ, zero, suc, ◌<◌, ◌==◌, Bool, true, not, ◌&&◌, List, [], map, length}
 use Rattle.std.proofs.Common.{refl, sym, ap, subst, ◌∙◌, arith, inl, inr}
 use Rattle.grid_base.specs.Grid.{grid_side}
 use Rattle.grid_base.specs.Point.{GridPoint, is_point}
 use Rattle.grid_base.specs.Segment.{GridSegment, IsEnd}
-use Rattle.grid_base.specs.Sides.{Left, On, Right}
+use Rattle.grid_base.specs.Sides.{Left, Right}
 use Rattle.grid_base.proofs.Orders.{is_point-same, is_point-itself}
 use Rattle.grid_base.proofs.Ends.{same_or_not}
+use Rattle.grid_base.proofs.Signs.{left_off, right_off}
+use Rattle.grid_base.proofs.Booleans.{is_false}
 use Rattle.linked_parts.specs.Parts.{IsLink, AreLinked}
 use Rattle.linked_parts.proofs.LinkedNumbers.{linked_here, linked_by, linked_back}
 use Rattle.plane_classes.specs.Shear.{sheared, sheared_point}
@@ -33,12 +35,6 @@ use Rattle.class_borders.proofs.LinkCounts.{links_counted}
 abbrev pub number_of : List SideClasses → ℕ → ℕ
 number_of numbers zero = 0
 number_of numbers (suc i) = number_at numbers i Left
-
-left_off : Left ≡ On → ⊥
-left_off e = cc
-
-right_off : Right ≡ On → ⊥
-right_off e = cc
 
 over_outer : (B : List GridSegment) (N : List SideClasses) (h : HasSweep B) → AreClassNumbers B N → (j : ℕ) → j < length B
     → AreLinked (links h.steps) (suc j) 0 → number_at N j Left ≡ 0
@@ -106,10 +102,6 @@ respects B N n h c y z l = ap (λ (m : ℕ). m == n) (one_number B N h c y z (la
     labels (inr m) = let p = h.link_labels (z, y) m in (p.1, p.0)
 
 -- ---- the tests of ends
-is_false : (b : Bool) → (b ≡ true → ⊥) → b ≡ false
-is_false true h = absurd (h refl)
-is_false false h = refl
-
 is_true : (v p : GridPoint) → p ≡ v → is_point v p ≡ true
 is_true v p e = subst (λ (x : GridPoint). is_point v x ≡ true) (sym e) (is_point-itself v)
 

@@ -1,5 +1,5 @@
 -- This file shows that the places of a class are the odd ones of its rim, where it isn't the outer class.
-use Rattle.std.proofs.Common.{◌≡◌, ◌↔◌, ℕ, zero, suc, ◌*◌, ◌<◌, ◌==◌, Bool, true, false, not, ◌&&◌, ◌||◌, if◌then◌else◌, List, []}
+use Rattle.std.proofs.Common.{◌≡◌, ◌↔◌, ℕ, ◌*◌, ◌<◌, ◌==◌, Bool, true, false, not, ◌&&◌, ◌||◌, if◌then◌else◌, List, []}
 use Rattle.std.proofs.Common.{◌∷◌, map, length, Contains, refl, sym, ap, ◌∙◌, arith}
 use Rattle.grid_base.specs.Grid.{grid_side}
 use Rattle.grid_base.specs.Point.{IsBefore}
@@ -7,6 +7,7 @@ use Rattle.grid_base.specs.Segment.{GridSegment}
 use Rattle.grid_base.specs.Sides.{Side, Left, On, Right}
 use Rattle.grid_base.specs.Plane.{Place, IsFree}
 use Rattle.grid_base.specs.Odd.{Odd}
+use Rattle.grid_base.proofs.Booleans.{same_number, number_itself}
 use Rattle.linked_parts.specs.Parts.{AreLinked}
 use Rattle.linked_parts.proofs.LinkedNumbers.{linked_here, linked_both, linked_back}
 use Rattle.plane_classes.specs.Shear.{sheared, sheared_place}
@@ -16,7 +17,7 @@ use Rattle.plane_classes.proofs.OverTests.{is_over}
 use Rattle.plane_classes.proofs.FewerSegments.{free_of_part}
 use Rattle.plane_classes.proofs.Shears.{free_sheared}
 use Rattle.plane_classes.proofs.ShearedParity.{par_map, parity_sheared}
-use Rattle.plane_cells.specs.Steps.{links, side_label}
+use Rattle.plane_cells.specs.Steps.{links}
 use Rattle.plane_cells.specs.Walks.{None}
 use Rattle.plane_cells.specs.Numbered.{numbered}
 use Rattle.plane_cells.specs.Sheared.{sheared_number, AreOfRealm}
@@ -27,8 +28,10 @@ use Rattle.plane_cells.proofs.ShearedRealm.{IsRealmBelow, position}
 use Rattle.plane_cells.proofs.ShearedSides.{sweep_of, below_of, free_beside, side_of_sweep}
 use Rattle.plane_cells.proofs.Numbered.{IsSweep, IsSideLabel, all_among, side_place, linked_in_class}
 use Rattle.plane_cells.proofs.ColumnChanges.{respected, divides}
-use Rattle.plane_cells.proofs.StatusCounts.{par_below, both}
+use Rattle.plane_cells.proofs.StatusCounts.{par_below, below_alike}
 use Rattle.plane_cells.proofs.ColumnParity.{HasParity, parity_of_place}
+use Rattle.plane_cells.proofs.RimCounts.{below_first}
+use Rattle.plane_cells.proofs.Beside.{side_label}
 use Rattle.class_borders.specs.ClassLinks.{is_left_alone, is_right_alone, class_rim}
 use Rattle.class_borders.proofs.EachSwept.{HasSweep, has_sweep}
 use Rattle.class_borders.proofs.LinkCounts.{numbers_at}
@@ -36,23 +39,6 @@ use Rattle.class_borders.proofs.ClassTurns.{is_class, under_number, respects}
 use Rattle.class_borders.proofs.EvenRims.{is_alone, rim_part, rim_is_even}
 
 -- ---- the segments of a rim, counted
-below_first : (g : ℕ → Bool) (n : ℕ) → par_below g (suc n) ≡ xor (g 0) (par_below (λ i. g (suc i)) n)
-below_first g zero = refl
-below_first g (suc n) = ap (λ (b : Bool). xor (g (suc n)) b) (below_first g n)
-    ∙ swap (g (suc n)) (g 0) (par_below (λ i. g (suc i)) n)
-  where
-    swap : (a b c : Bool) → xor a (xor b c) ≡ xor b (xor a c)
-    swap true true c = refl
-    swap true false true = refl
-    swap true false false = refl
-    swap false true true = refl
-    swap false true false = refl
-    swap false false c = refl
-
-below_alike : (g h : ℕ → Bool) (n : ℕ) → ((i : ℕ) → i < n → g i ≡ h i) → par_below g n ≡ par_below h n
-below_alike g h zero e = refl
-below_alike g h (suc n) e = both _ _ _ _ (e n (omega arith)) (below_alike g h n (λ i l. e i (omega (arith, l))))
-
 par_picked : (l r : Bool) (h : GridSegment → Bool) (s : GridSegment) (R : List GridSegment)
     → par h (if l then s ∷ R else if r then s ∷ R else R) ≡ xor ((l || r) && h s) (par h R)
 par_picked true r h s R = refl
@@ -148,17 +134,11 @@ rim_parity B N n i d q realm c not_outer h lies = counts ∙ same
         (λ j hj. ap (λ (b : Bool). b && is_over Q (sheared_number B j)) (divided j hj))
         ∙ hp.parity
 
-tells : (m n : ℕ) → (m == n) ≡ true → m ≡ n
-tells m n h = grind arith
-
-told : (m n : ℕ) → m ≡ n → (m == n) ≡ true
-told m n h = grind arith
-
 -- what lies beside a segment is odd for the rim of a class exactly where it is of that class
 pub rim_odd : (B : List GridSegment) (N : List SideClasses) (n i : ℕ) (d : Side) (q : Place) → AreOfRealm B → AreClassNumbers B N
     → (n ≡ 0 → ⊥) → LiesBeside B i d q → (number_at N i d ≡ n) ↔ Odd (class_rim n B N) q
 rim_odd B N n i d q realm c not_outer lies =
     let p = rim_parity B N n i d q realm c not_outer (has_sweep B realm) lies in (
-      λ e. is_odd (class_rim n B N) q (p ∙ told (number_at N i d) n e),
-      λ odd. tells (number_at N i d) n (sym p ∙ odd_is (class_rim n B N) q odd),
+      λ e. is_odd (class_rim n B N) q (p ∙ number_itself (number_at N i d) n e),
+      λ odd. same_number (number_at N i d) n (sym p ∙ odd_is (class_rim n B N) q odd),
     )

@@ -6,7 +6,8 @@ use Rattle.grid_base.specs.Sides.{Right}
 use Rattle.plane_classes.specs.Shear.{sheared}
 use Rattle.std.proofs.Common.{map}
 use Rattle.plane_cells.specs.Steps.{Step, In, label_over, HaveRights, HasRights}
-use Rattle.plane_cells.specs.Walks.{Position, None, Lies, Across, Ahead, Past, Walk}
+use Rattle.plane_cells.specs.Walks.{None, Lies, Across, Ahead, Past, Walk}
+use Rattle.plane_cells.proofs.Walks.{Position}
 use Rattle.plane_cells.specs.Sheared.{sheared_number, AreOfRealm}
 use Rattle.plane_cells.specs.ClassNumbers.{number_at, AreClassNumbers}
 use Rattle.plane_cells.specs.declared.classes.SideClasses.{SideClasses}

@@ -8,6 +8,7 @@ use Rattle.grid_base.specs.Point.{GridPoint}
 use Rattle.grid_base.specs.Segment.{GridSegment}
 use Rattle.grid_base.proofs.Turns.{times_le}
 use Rattle.grid_base.specs.Plane.{side_number_at}
+use Rattle.grid_base.proofs.Signs.{natural_order}
 use Rattle.plane_cells.specs.Order.{at_point, IsFurtherDown}
 use Rattle.plane_cells.specs.Steps.{Step, Each, Pairs, label_over}
 use Rattle.plane_classes.specs.Shear.{sheared_point, sheared}
@@ -15,7 +16,7 @@ use Rattle.plane_cells.specs.Numbered.{numbered}
 use Rattle.plane_cells.specs.Sheared.{sheared_number, AreOfRealm}
 use Rattle.plane_cells.specs.Scan.{column_of, IsUnderBegin}
 use Rattle.plane_cells.specs.Walks.{Bound, None, Wall, IfWall, HasWall, IsHere, WalkTo}
-use Rattle.plane_cells.specs.Labels.{IsOther, IsBelowBegin}
+use Rattle.plane_cells.specs.Labels.{IsOther}
 use Rattle.plane_cells.specs.Swept.{AreVertices, wall_before, bound_at, IsAsked}
 use Rattle.plane_cells.proofs.Vertical.{column_to, column_after, foot}
 use Rattle.plane_cells.proofs.Lists.{each_map}
@@ -23,7 +24,7 @@ use Rattle.plane_cells.proofs.Turning.{ends_listed, rises, read_any, pairs_map}
 use Rattle.plane_cells.proofs.ShearedRealm.{position, realm_below, numbered_in, one_point}
 use Rattle.plane_cells.proofs.Angles.{left_sheared, left_unsheared}
 use Rattle.plane_cells.proofs.SomeBeside.{half_column, half_inside}
-use Rattle.plane_cells.proofs.Asked.{GoesOn, Seen, inner_place, seen_by, asked_label, asked_sorted, label_now}
+use Rattle.plane_cells.proofs.Asked.{GoesOn, Seen, inner_place, seen_by, asked_label, asked_sorted, label_now, IsBelowBegin}
 
 some : 0 < grid_side
 some = omega arith
@@ -52,11 +53,8 @@ reaches B V (suc m) i vs l h w = subst (λ (c : ℕ). c ≤ column_of (numbered 
     read : slice_index V found.0 ≡ column_of (numbered B i).b
     read = read_any V found.0 0 (column_of (numbered B i).b) found.1 ∙ found.2
 
-    le_or : (m n : ℕ) → (m ≤ n) ⊎ (n < m)
-    le_or m n = grind arith
-
     late : suc m ≤ found.0
-    late = elim (le_or (suc m) found.0) [
+    late = elim (natural_order (suc m) found.0) [
       | inl a ↦ a
       | inr a ↦ absurd (omega (arith, rises V found.0 m vs.ascending (omega (arith, a)) (omega (arith, l)), read, w))
     ]

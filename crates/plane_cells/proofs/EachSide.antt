@@ -6,7 +6,7 @@ use Rattle.grid_base.specs.Sides.{Side}
 use Rattle.grid_base.specs.Plane.{Place, Holds, IsBeside}
 use Rattle.plane_cells.proofs.Sided.{IsSlanted}
 use Rattle.plane_classes.proofs.Unsheared.{unsheared_place}
-use Rattle.plane_cells.specs.Walks.{Position}
+use Rattle.plane_cells.proofs.Walks.{Position}
 use Rattle.plane_classes.specs.Shear.{sheared}
 use Rattle.plane_cells.specs.Numbered.{numbered}
 use Rattle.plane_cells.specs.Sheared.{AreOfRealm}

@@ -1,11 +1,12 @@
 -- This file shows that each class but the outer one has a side of some segment.
-use Rattle.std.proofs.Common.{◌≡◌, ◌⊎◌, ℕ, zero, suc, ◌*◌, ◌<◌, ◌≤◌, Bool, true, List, [], map, length, refl, inl, inr, arith}
+use Rattle.std.proofs.Common.{◌⊎◌, ℕ, zero, suc, ◌*◌, ◌<◌, ◌≤◌, true, List, [], map, length, refl, inl, inr, arith}
 use Rattle.grid_base.specs.Grid.{grid_side}
 use Rattle.grid_base.specs.Segment.{GridSegment}
-use Rattle.grid_base.specs.Sides.{Left, On}
+use Rattle.grid_base.specs.Sides.{Left}
 use Rattle.grid_base.specs.Plane.{Place, IsFree}
+use Rattle.grid_base.proofs.Signs.{left_off}
 use Rattle.linked_parts.proofs.LinkedNumbers.{linked_here}
-use Rattle.plane_classes.specs.Classes.{AreInOneClass, IsOuter}
+use Rattle.plane_classes.specs.Classes.{IsOuter}
 use Rattle.plane_classes.specs.Shear.{sheared, sheared_place}
 use Rattle.plane_classes.proofs.ClassLemmas.{one_class_joined, one_class_back}
 use Rattle.plane_classes.proofs.Shears.{free_sheared}
@@ -18,7 +19,7 @@ use Rattle.plane_cells.specs.Steps.{Step, links}
 use Rattle.plane_cells.specs.Walks.{None}
 use Rattle.plane_cells.proofs.ColumnParity.{HasParity, parity_of_place}
 use Rattle.plane_cells.proofs.EachSide.{each_side}
-use Rattle.plane_cells.proofs.Numbered.{IsSweep, all_among, side_place, class_of_linked, outer_by_label}
+use Rattle.plane_cells.proofs.Numbered.{all_among, side_place, class_of_linked, outer_by_label}
 use Rattle.plane_cells.proofs.ShearedRealm.{position}
 use Rattle.plane_cells.proofs.ShearedSides.{IsRealmSweep, sweep_of, below_of, side_of_sweep, free_beside, outer_unsheared}
 
@@ -41,10 +42,7 @@ over_segment B steps right i q realm s free within has =
     let one = class_unsheared n B q p r.order (below_of n B r) r.some free (free_beside B (numbered B i) Left p some.1)
     (one_class_joined C (sheared_place n q) near.place (sheared_place n p) linked
     (one_class_back C (sheared_place n p) near.place near.class)) in
-    (i, Left, p, record { within = within; sided = two; beside = some.1 }, one)
-  where
-    two : Left ≡ On → ⊥
-    two e = cc
+    (i, Left, p, record { within = within; sided = left_off; beside = some.1 }, one)
 
 pub every_class : (B : List GridSegment) (steps : List Step) (right : ℕ → ℕ) (q : Place) → AreOfRealm B
     → IsRealmSweep grid_side B steps right → IsFree B q → IsOuter B q ⊎ IsBySome B q

@@ -4,7 +4,7 @@ use Rattle.std.proofs.Common.{refl, sym, ap, subst, ◌∙◌, arith, inl, inr}
 use Rattle.grid_base.specs.Grid.{grid_side}
 use Rattle.grid_base.specs.Point.{GridPoint}
 use Rattle.grid_base.specs.Segment.{GridSegment}
-use Rattle.grid_base.proofs.Signs.{sign}
+use Rattle.grid_base.proofs.Signs.{sign, natural_order}
 use Rattle.grid_base.specs.Plane.{side_number_at}
 use Rattle.plane_cells.specs.Order.{at_point}
 use Rattle.plane_cells.specs.Steps.{In, Each, Pairs}
@@ -17,6 +17,7 @@ use Rattle.std.proofs.lemmas.List.{take-append-drop}
 use Rattle.std.proofs.lemmas.List.Edits.{length-insert}
 use Rattle.grid_base.specs.Point.{is_point}
 use Rattle.grid_base.proofs.Orders.{is_point-same, is_point-itself}
+use Rattle.grid_base.proofs.Collinear.{same_segment}
 use Rattle.plane_cells.proofs.Lists.{each_map, each_both, each_joined, in_left, in_right, in_cases}
 use Rattle.plane_cells.proofs.Statuses.{pairs_joined, Crosswise}
 use Rattle.plane_cells.proofs.Parts.{segment_read}
@@ -34,16 +35,13 @@ same_begin : (B : List GridSegment) (i : ℕ) (v : GridPoint) → (numbered B i)
     → (sheared grid_side (numbered B i)).a ≡ sheared_point grid_side v
 same_begin B i v e = ap (λ (p : GridPoint). sheared_point grid_side p) e
 
-one_segment : (s t : GridSegment) → s.a ≡ t.a → s.b ≡ t.b → s ≡ t
-one_segment s t e f = ap (λ (p : GridPoint). record { a = p; b = s.b }) e ∙ ap (λ (p : GridPoint). record { a = t.a; b = p }) f
-
 pub once_sheared : (B : List GridSegment) (i j : ℕ) → AreOfRealm B → i < length B → j < length B
     → sheared_point grid_side (numbered B i).a ≡ sheared_point grid_side (numbered B j).a
     → sheared_point grid_side (numbered B i).b ≡ sheared_point grid_side (numbered B j).b → i ≡ j
 once_sheared B i j r hi hj e f =
     let a = r.on_grid (numbered B i) (numbered_in B i hi) in
     let b = r.on_grid (numbered B j) (numbered_in B j hj) in
-    r.once i j hi hj (one_segment (numbered B i) (numbered B j)
+    r.once i j hi hj (same_segment (numbered B i) (numbered B j)
     (one_point grid_side (numbered B i).a (numbered B j).a a.row b.row (ap (λ (p : GridPoint). p.x) e))
     (one_point grid_side (numbered B i).b (numbered B j).b a.end_row b.end_row (ap (λ (p : GridPoint). p.x) f)))
 
@@ -205,10 +203,7 @@ fan_done B v next i F r asc n low h stop = record {
 }
   where
     parts : (j : ℕ) → (j < next) ⊎ (((next ≤ j) × (j < i)) ⊎ (i ≤ j))
-    parts j = elim (le_or next j) [ inl a ↦ elim (le_or i j) [ inl b ↦ inr (inr b) | inr b ↦ inr (inl (a, b)) ] | inr a ↦ inl a ]
-      where
-        le_or : (m n : ℕ) → (m ≤ n) ⊎ (n < m)
-        le_or m n = grind arith
+    parts j = elim (natural_order next j) [ inl a ↦ elim (natural_order i j) [ inl b ↦ inr (inr b) | inr b ↦ inr (inl (a, b)) ] | inr a ↦ inl a ]
 
     early : (j : ℕ) → column_of (numbered B j).a < column_of v → (numbered B j).a ≡ v → ⊥
     early j a e = less_self _ _ (ap column_of e) a

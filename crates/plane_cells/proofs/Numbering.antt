@@ -8,7 +8,7 @@ use Rattle.grid_base.specs.Plane.{Place}
 use Rattle.plane_classes.specs.Classes.{AreInOneClass, IsOuter}
 use Rattle.linked_parts.specs.Parts.{Links, AreLinked, AreLabels}
 use Rattle.linked_parts.proofs.LinkedNumbers.{linked_here}
-use Rattle.plane_cells.specs.Steps.{links, side_label}
+use Rattle.plane_cells.specs.Steps.{links}
 use Rattle.plane_cells.specs.Sheared.{AreOfRealm}
 use Rattle.plane_cells.specs.Swept.{IsDone}
 use Rattle.plane_cells.specs.OtherNumbers.{HasNumber, HasNumbers}
@@ -19,6 +19,7 @@ use Rattle.plane_cells.proofs.ShearedRealm.{realm_below}
 use Rattle.plane_cells.proofs.EachSide.{each_side}
 use Rattle.plane_cells.proofs.EveryClass.{every_class}
 use Rattle.plane_cells.proofs.ShearedSides.{IsRealmSweep, one_class_by_labels, labels_by_class, outer_by_labels, labels_by_outer}
+use Rattle.plane_cells.proofs.Beside.{side_label}
 
 number_is : (labels right : List ℕ) (i : ℕ) (n : SideClasses) (d : Side) → HasNumber labels right i n
     → number_on n d ≡ slice_index labels (side_label (λ j. slice_index right j) i d)

@@ -1,11 +1,13 @@
 -- This file shows what the parts of a step may ask, and that together they lead the sweep behind the vertex.
-use Rattle.std.proofs.Common.{◌≡◌, ◌⊎◌, ℕ, zero, suc, ◌+◌, ◌<◌, ◌≤◌, List, [], ◌∷◌, ◌++◌, length, take, drop, slice_index, ℤ, pos}
-use Rattle.std.proofs.Common.{◌<ℤ◌, refl, sym, ap, subst, ◌∙◌, arith, inl, inr}
+use Rattle.std.proofs.Common.{◌≡◌, ◌⊎◌, ℕ, zero, suc, ◌+◌, ◌<◌, ◌≤◌, List, [], ◌∷◌, ◌++◌, length, take, drop, slice_index}
+use Rattle.std.proofs.Common.{refl, sym, ap, subst, ◌∙◌, arith, inl, inr}
 use Rattle.std.proofs.lemmas.Int.{ints}
 use Rattle.std.proofs.lemmas.List.{take-append-drop}
 use Rattle.grid_base.specs.Grid.{grid_side, product_bound}
-use Rattle.grid_base.specs.Point.{GridPoint, IsBefore}
+use Rattle.grid_base.specs.Point.{GridPoint}
 use Rattle.grid_base.specs.Segment.{GridSegment}
+use Rattle.grid_base.proofs.Signs.{above_not_zero, three_ways}
+use Rattle.grid_base.proofs.Ends.{columns_in_order}
 use Rattle.plane_classes.proofs.Heights.{at_b}
 use Rattle.plane_cells.specs.Order.{at_point}
 use Rattle.plane_cells.specs.Steps.{In, Each, Pairs, label_over, HasRights}
@@ -24,10 +26,6 @@ use Rattle.plane_cells.proofs.Turning.{listed_end, listed_at, next_vertex, sorte
 use Rattle.plane_cells.proofs.StepOn.{IsFound, step_on, pairs_map, label_up_to}
 
 -- ---- the vertex is on the grid
-before_x : (p q : GridPoint) → IsBefore p q → p.x ≤ q.x
-before_x p q (inl h) = omega (arith, h)
-before_x p q (inr h) = omega (arith, h.0)
-
 fits : (p : GridPoint) → p.x < grid_side → p.y < grid_side → column_of p < product_bound
 fits p h k = omega (arith, h, k)
 
@@ -39,7 +37,7 @@ vertex_fits B V m r vs l =
     let g = r.on_grid s c in
     elim e.2 [
       | inl f ↦ subst (λ (n : ℕ). n < product_bound) (sym f)
-          (fits s.a (low s.a.x s.b.x (before_x s.a s.b ((r.on_grid s c).order)) g.end_column) g.row)
+          (fits s.a (low s.a.x s.b.x (columns_in_order s.a s.b ((r.on_grid s c).order)) g.end_column) g.row)
       | inr f ↦ subst (λ (n : ℕ). n < product_bound) (sym f) (fits s.b g.end_column g.end_row)
     ]
   where
@@ -96,10 +94,7 @@ not_own : (B : List GridSegment) (i j : ℕ) → IsLeftward B i j → i ≡ j �
 not_own B i j h e =
     let k = subst (λ (n : ℕ). IsLeftward B i n) (sym e) h in
     let g = left_height B (numbered B i).b i k in
-    positive _ g (at_b (sheared_number B i) (at_point (sheared_number B i).b) (omega (arith, ints)) (omega (arith, ints)))
-  where
-    positive : (z : ℤ) → pos 0 <ℤ z → z ≡ pos 0 → ⊥
-    positive z h e = omega (arith, ints, h, e)
+    above_not_zero _ g (at_b (sheared_number B i) (at_point (sheared_number B i).b) (omega (arith, ints)) (omega (arith, ints)))
 
 pub fan_once : (B : List GridSegment) (v : GridPoint) (next : ℕ) (F : List ℕ) → IsFan B v next F → Pairs (λ i j. i ≡ j → ⊥) F
 fan_once B v next F f = pairs_map (IsLeftward B) (λ i j. i ≡ j → ⊥) F (λ i j h. not_own B i j h) f.fan.leftward
@@ -137,7 +132,7 @@ first_dropped (suc e) (i ∷ l) h = let r = first_dropped e l h in (omega (arith
 
 in_or : (i : ℕ) (A : List ℕ) → In i A ⊎ (In i A → ⊥)
 in_or i [] = inr (λ m. m)
-in_or i (j ∷ A) = elim (three i j) [
+in_or i (j ∷ A) = elim (three_ways i j) [
   | inl h ↦ elim (in_or i A) [ inl m ↦ inl (inr m) | inr n ↦ inr (λ m. elim m [ inl e ↦ less_self i j h e | inr k ↦ n k ]) ]
   | inr o ↦ elim o [
     | inl e ↦ inl (inl e)
@@ -145,9 +140,6 @@ in_or i (j ∷ A) = elim (three i j) [
   ]
 ]
   where
-    three : (m n : ℕ) → (m < n) ⊎ ((m ≡ n) ⊎ (n < m))
-    three m n = grind arith
-
     less_self : (m n : ℕ) → m < n → m ≡ n → ⊥
     less_self m n h e = omega (arith, h, e)
 

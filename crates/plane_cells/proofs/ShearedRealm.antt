@@ -11,14 +11,15 @@ use Rattle.grid_base.specs.Segment.{GridSegment}
 use Rattle.grid_base.specs.Segment.{IsEnd}
 use Rattle.grid_base.proofs.Turns.{times, times_le}
 use Rattle.grid_base.specs.Plane.{Place, Holds, IsAtPoint, blend}
+use Rattle.grid_base.proofs.Signs.{on_by_zero}
 use Rattle.plane_classes.proofs.Blends.{weighed, height_blend, spans_blend}
-use Rattle.plane_classes.proofs.Ways.{held_by_line, zero_by, on_by_zero}
+use Rattle.plane_classes.proofs.Ways.{held_by_line, zero_by}
 use Rattle.plane_classes.proofs.PastOthers.{one_of}
 use Rattle.plane_classes.proofs.AtSegment.{itself}
 use Rattle.plane_classes.specs.Shear.{sheared_place}
 use Rattle.plane_classes.proofs.Shears.{times_difference, columns_in_order, held_before_shear, same_record, contains_map}
 use Rattle.plane_classes.proofs.Unsheared.{unsheared_place, sheared_in}
-use Rattle.plane_cells.specs.Walks.{Position}
+use Rattle.plane_cells.proofs.Walks.{Position}
 use Rattle.plane_classes.specs.Shear.{sheared_point, sheared}
 use Rattle.plane_cells.specs.Numbered.{numbered}
 use Rattle.plane_cells.specs.Sheared.{AreOfRealm}

@@ -14,7 +14,8 @@ use Rattle.plane_classes.specs.Shear.{sheared_point}
 use Rattle.plane_cells.specs.Numbered.{numbered}
 use Rattle.plane_cells.specs.Sheared.{sheared_number, AreOfRealm}
 use Rattle.plane_cells.specs.Scan.{column_of, IsLeftOf, IsLeftward, IsFan}
-use Rattle.plane_cells.specs.Walks.{Bound, None, Wall, IfWall, HasWall, IsAcross, IsStatus, IsNextVertex, IsTurn, WalkTo}
+use Rattle.plane_cells.specs.Walks.{Bound, None, Wall, IfWall, HasWall, IsAcross, IsStatus, WalkTo}
+use Rattle.plane_cells.proofs.Walks.{IsNextVertex, IsTurn}
 use Rattle.plane_cells.specs.Walks.{BeginBefore}
 use Rattle.grid_base.proofs.Turns.{times_le}
 use Rattle.plane_cells.specs.Swept.{IsSwept, AreAsked}

@@ -9,15 +9,17 @@ use Rattle.grid_base.specs.Point.{GridPoint}
 use Rattle.grid_base.specs.Segment.{GridSegment}
 use Rattle.grid_base.specs.Segment.{IsEnd}
 use Rattle.grid_base.specs.Plane.{side_number_at, side_at, Spans}
+use Rattle.grid_base.proofs.Signs.{left_by_sign, natural_order}
 use Rattle.plane_cells.specs.Order.{at_point, IsFurtherDown}
 use Rattle.plane_cells.specs.Steps.{Each, Pairs}
 use Rattle.plane_classes.specs.Shear.{sheared_point}
 use Rattle.plane_cells.specs.Numbered.{numbered}
 use Rattle.plane_cells.specs.Sheared.{sheared_number, AreOfRealm}
 use Rattle.plane_cells.specs.Scan.{column_of, end_columns, IsLeftOf, IsSortedAt}
-use Rattle.plane_cells.specs.Walks.{Bound, None, Wall, IfWall, HasWall, IsAcross, IsStatus, IsNextVertex}
+use Rattle.plane_cells.specs.Walks.{Bound, None, Wall, IfWall, HasWall, IsAcross, IsStatus}
+use Rattle.plane_cells.proofs.Walks.{IsNextVertex}
 use Rattle.plane_cells.specs.Swept.{AreVertices, wall_before}
-use Rattle.plane_cells.proofs.Vertical.{left_by, left_sign}
+use Rattle.plane_cells.proofs.Vertical.{left_sign}
 use Rattle.plane_cells.proofs.AlongSegments.{left_of_lower}
 use Rattle.plane_cells.proofs.Lists.{each_map, each_both}
 use Rattle.plane_cells.proofs.ShearedRealm.{numbered_in, one_point}
@@ -89,13 +91,10 @@ rises V k m h l n = let e : k + (m - k) ≡ m = omega (arith, l) in subst (λ (j
 -- a listed column is that of a vertex up to number m, or from there on
 place_of : (V : List ℕ) (c m : ℕ) → IsStrictlyIncreasing V → m < length V → Contains V c
     → HasWall (λ w. c ≤ w) (wall_before V m) ⊎ (slice_index V m ≤ c)
-place_of V c m h l k = go m l (le_or m k.0)
+place_of V c m h l k = go m l (natural_order m k.0)
   where
     read : slice_index V k.0 ≡ c
     read = read_any V k.0 0 c k.1 ∙ k.2
-
-    le_or : (m n : ℕ) → (m ≤ n) ⊎ (n < m)
-    le_or m n = grind arith
 
     go : (m : ℕ) → m < length V → (m ≤ k.0) ⊎ (k.0 < m) → HasWall (λ w. c ≤ w) (wall_before V m) ⊎ (slice_index V m ≤ c)
     go m n (inl a) = inr (omega (arith, rises V m k.0 h a k.1, read))
@@ -166,6 +165,6 @@ sorted_at B lo status v l st =
     (λ i. Spans (sheared_number B i) (at_point u)) status
     (λ i j a b f h. height_left B v i
     (left_sign _ (left_of_lower (side_at (sheared_number B j) (at_point u)) (side_at (sheared_number B i) (at_point u))
-    (f.1 (at_point u) (omega arith) a b) (left_by _ (left_height B v j h)))))
+    (f.1 (at_point u) (omega arith) a b) (left_by_sign _ (left_height B v j h)))))
     (each_map (IsAcross (length B) (sheared_number B) lo (Wall u.x)) (λ i. Spans (sheared_number B i) (at_point u)) status
     (λ i a. vertex_spans (length B) (sheared_number B) lo u i l a) st.across) st.sorted

@@ -12,9 +12,7 @@ use std::alloc::Global;
 use std::test::Fail;
 
 // Whether the sides of the border, in order, have one number exactly where they are expected to, and 0 too.
-fn numbered_as(alloc: Global, border: &[Segment], expected: &[[u64; 2]]) -> Result<bool, Fail>
-    requires ascending { AllPairs IsSegmentBefore border.now }
-{
+fn numbered_as(alloc: Global, border: &[Segment], expected: &[[u64; 2]]) -> Result<bool, Fail> {
     if !are_noded(border) || border.len() != expected.len() {
         return Ok(false);
     }
@@ -104,10 +102,7 @@ fn outer_as(
     border: &[Segment],
     list: &[Segment],
     expected: &[[bool; 2]],
-) -> Result<bool, Fail>
-    requires ascending { AllPairs IsSegmentBefore border.now }
-    requires list_ascending { AllPairs IsSegmentBefore list.now }
-{
+) -> Result<bool, Fail> {
     let mut together = Vec::new(alloc);
     together.extend_from_slice(border)?;
     together.extend_from_slice(list)?;
@@ -155,6 +150,26 @@ fn segments_within_on_and_outside_a_square(rt: HostRuntime) -> Result<(), Fail> 
         [true, true],
     ];
     assert!(rt; are_outer(rt.alloc(), &square, &list, &expected)?);
+    Ok(())
+}
+
+#[test]
+fn lists_in_any_order_are_answered_in_theirs(rt: HostRuntime) -> Result<(), Fail> {
+    let alloc = rt.alloc();
+    let table = [
+        [9, 0, 9, 9],
+        [0, 0, 0, 9],
+        [0, 9, 9, 9],
+        [9, 0, 9, 9],
+        [0, 0, 9, 0],
+    ];
+    let expected = [[1, 0], [0, 1], [0, 1], [1, 0], [1, 0]];
+    let border = segments_with(alloc, &table)?.ok_or("no segment")?;
+    assert!(rt; numbered_as(alloc, &border, &expected)?);
+    let asked = [[9, 9, 12, 4], [2, 5, 2, 7], [9, 9, 12, 4], [0, 0, 0, 9]];
+    let outer = [[true, true], [false, false], [true, true], [true, false]];
+    let list = segments_with(alloc, &asked)?.ok_or("no segment")?;
+    assert!(rt; outer_as(alloc, &border, &list, &outer)?);
     Ok(())
 }
 
