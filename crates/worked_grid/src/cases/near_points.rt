@@ -1,7 +1,7 @@
 //! Worked cases. The expected values are those of another program, which tries the points of a
 //! column one by one.
-use crate::{column_pair, in_envelope, near};
 use grid_base::{Point, Segment};
+use segment_envelope::{column_pair, in_envelope, near};
 use std::process::Abort;
 
 // The point with these coordinates.
