@@ -8,7 +8,7 @@ use Rattle.grid_base.specs.declared.kinds.Step.{Step}
 use Rattle.component_registry.specs.Registry.{Holdings}
 use Rattle.realm_drawing.specs.Draws.{DrawsAnew}
 use Rattle.realm_drawing.specs.Fresh.{ListsFresh}
-use Rattle.realm_drawing.specs.Kept.{drawn, AreKept, IsKept}
+use Rattle.realm_drawing.specs.Kept.{drawn, AreKept, IsInOrder}
 use Rattle.realm_drawing.specs.Keyed.{KeyedPiece, keyed}
 use Rattle.realm_drawing.specs.Mending.{IsRedrawingsOf, redrawn_drawing}
 use Rattle.realm_drawing.specs.Redraws.{AreRedrawings, IsRedrawn, redrawn_original_by}
@@ -59,7 +59,7 @@ point_stays r d p sound (inr vertex) =
 -- ---- what is new
 -- with explicit points that ascend the drawing is kept
 pub kept_with_points : (points : List GridPoint) (originals : List Original) (r : Holdings) → AllPairs IsBefore points
-    → AreKept originals r → IsKept points originals r
+    → AreKept originals r → IsInOrder points originals r
 kept_with_points points originals r ascend kept = record {
   points_ascend = ascend;
   ids_rise = kept.ids_rise;
@@ -70,8 +70,8 @@ kept_with_points points originals r ascend kept = record {
 
 -- a vertex is an end of a piece, which was there or is listed
 draws_anew : (step : Step) (r : Redrawings) (points : List GridPoint) (originals : List Original) (old new : Holdings)
-    (list : List KeyedPiece) → IsRedrawingsOf step r → IsKept points originals old
-    → IsKept points (map (redrawn_original_by r) originals) new → ListsFresh old new list
+    (list : List KeyedPiece) → IsRedrawingsOf step r → IsInOrder points originals old
+    → IsInOrder points (map (redrawn_original_by r) originals) new → ListsFresh old new list
     → DrawsAnew step (drawn points originals old) (drawn points (map (redrawn_original_by r) originals) new) list
 draws_anew step r points originals old new list of_step before after fresh =
     let changed = map (redrawn_original_by r) originals in
@@ -106,12 +106,12 @@ draws_anew step r points originals old new list of_step before after fresh =
 
 -- so it is with a call that changes them, unless it fails
 pub draws_anew_if : {E : Type 0} (step : Step) (r : Redrawings) (points : List GridPoint) (originals changed : List Original)
-    (old new : Holdings) (done : Result (Vec KeyedPiece Global) E) → IsRedrawingsOf step r → IsKept points originals old
-    → IsKept points changed new → OnOk done (changed ≡ map (redrawn_original_by r) originals)
+    (old new : Holdings) (done : Result (Vec KeyedPiece Global) E) → IsRedrawingsOf step r → IsInOrder points originals old
+    → IsInOrder points changed new → OnOk done (changed ≡ map (redrawn_original_by r) originals)
     → IfOk done (λ list. ListsFresh old new list.items)
     → IfOk done (λ list. DrawsAnew step (drawn points originals old) (drawn points changed new) list.items)
 draws_anew_if step r points originals changed old new (Err e) of_step before after is fresh = tt
 draws_anew_if step r points originals changed old new (Ok v) of_step before after is fresh =
     subst (λ os. DrawsAnew step (drawn points originals old) (drawn points os new) v.items) (sym is)
     (draws_anew step r points originals old new v.items of_step before
-    (subst (λ os. IsKept points os new) is after) fresh)
+    (subst (λ os. IsInOrder points os new) is after) fresh)

@@ -18,7 +18,7 @@ use Rattle.component_registry.specs.Registry.{Holdings, IsSound}
 use Rattle.realm_drawing.specs.declared.shares.Share.{Share}
 use Rattle.realm_drawing.specs.Ids.{IsAscending, LacksId, IsChainOf}
 use Rattle.realm_drawing.specs.Chains.{HasValidChain}
-use Rattle.realm_drawing.specs.Kept.{IsKept}
+use Rattle.realm_drawing.specs.Kept.{IsInOrder}
 use Rattle.realm_drawing.specs.Shares.{share_of, Held, HasMore, ListsAlso, IsOfChain}
 use Rattle.realm_drawing.specs.Leaving.{LosesShares}
 use Rattle.realm_drawing.proofs.Elements.{Any-head, Any-later, Any-nil, Any-single, Any-cons_cases, Any-append_cases}
@@ -34,7 +34,7 @@ abbrev HasShare : GridSegment → ℕ → Original → Type 0
 HasShare t x o = (o.id ≡ x) × HasLink o.chain t
 
 -- no original has its id yet, so no share of it is held
-pub shares_are_new : (points : List GridPoint) (originals : List Original) (r : Holdings) → IsKept points originals r
+pub shares_are_new : (points : List GridPoint) (originals : List Original) (r : Holdings) → IsInOrder points originals r
     → (id : ℕ) (chain : List GridPoint) (shares : List Share) → All (λ o. o.id < id) originals
     → ListsAlso [] shares (IsOfChain id chain) → All (λ y. ¬ Held r y) shares
 shares_are_new points originals r kept id chain shares below lists = λ k d within held.
@@ -51,10 +51,10 @@ shares_are_new points originals r kept id chain shares below lists = λ k d with
 
 -- with its shares the registry has the owners again
 pub kept_with_chain : (points : List GridPoint) (originals : List Original) (old new : Holdings)
-    → IsKept points originals old → (id : ℕ) (s : GridSegment) (chain : List GridPoint) (shares : List Share)
+    → IsInOrder points originals old → (id : ℕ) (s : GridSegment) (chain : List GridPoint) (shares : List Share)
     → All (λ o. o.id < id) originals → ValidChain s chain → ListsAlso [] shares (IsOfChain id chain)
     → HasMore old new shares → IsSound new
-    → IsKept points (originals ++ with_id id s chain ∷ []) new
+    → IsInOrder points (originals ++ with_id id s chain ∷ []) new
 kept_with_chain points originals old new kept id s chain shares below valid lists more sound =
     let o = with_id id s chain in
     record {
@@ -143,10 +143,10 @@ put_and_taken originals mid new o below put taken =
     ∙ ap (λ b. originals ++ cond b (o ∷ []) []) gone ∙ append-nil originals
 
 -- an original that is left had no share that was lost, since the one that goes was alone with its id
-pub kept_without : (points : List GridPoint) (originals : List Original) (old new : Holdings) → IsKept points originals old
+pub kept_without : (points : List GridPoint) (originals : List Original) (old new : Holdings) → IsInOrder points originals old
     → (id : ℕ) (chain : List GridPoint) → IsChainOf (record { points = points; originals = originals }) id chain
     → LosesShares old new (IsOfChain id chain) → IsSound new
-    → IsKept points (filter (λ o. not (o.id == id)) originals) new
+    → IsInOrder points (filter (λ o. not (o.id == id)) originals) new
 kept_without points originals old new kept id chain found loses sound =
     let stays = λ (o : Original). not (o.id == id) in
     record {

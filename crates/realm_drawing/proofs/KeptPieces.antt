@@ -17,7 +17,7 @@ use Rattle.component_registry.proofs.Registries.{piece_from_owner}
 use Rattle.component_registry.proofs.Uses.{sound_empty}
 use Rattle.realm_drawing.specs.Keyed as keyed_drawings
 use Rattle.realm_drawing.specs.Keyed.{KeyedPiece, KeyedDrawing, AreKeyed, keyed, empty_drawing, HasKey}
-use Rattle.realm_drawing.specs.Kept.{drawn, IsKept}
+use Rattle.realm_drawing.specs.Kept.{drawn, IsInOrder}
 use Rattle.realm_drawing.specs.Shares.{KeepsKeys}
 use Rattle.realm_drawing.proofs.Elements.{Any-weaker, Any-nil}
 use Rattle.realm_drawing.proofs.Keys.{has_key}
@@ -26,7 +26,7 @@ use Rattle.realm_drawing.proofs.Keys.{has_key}
 no_owner : (s : GridSegment) (x : ℕ) → Owns map.empty s x → ⊥
 no_owner s x owns = Contains-nil x (rw (map.get-empty {X = Holding} segment_cmp s) at owns)
 
-pub kept_empty : IsKept [] [] map.empty
+pub kept_empty : IsInOrder [] [] map.empty
 kept_empty = record {
   points_ascend = λ i j d less within. absurd (omega arith);
   ids_rise = λ i j d less within. absurd (omega arith);
@@ -54,7 +54,7 @@ drawn_empty =
 
 -- ---- pieces
 -- some original has each piece of the registry, since someone owns it
-pub piece_of_registry : (points : List GridPoint) (originals : List Original) (r : Holdings) → IsKept points originals r
+pub piece_of_registry : (points : List GridPoint) (originals : List Original) (r : Holdings) → IsInOrder points originals r
     → (s : GridSegment) → registries.IsPiece r s ↔ IsPiece (record { points = points; originals = originals }) s
 piece_of_registry points originals r kept s = (
   λ piece.
@@ -70,7 +70,7 @@ piece_of_registry points originals r kept s = (
 
 -- so a list of the ones is a list of the others
 pub pieces_of_registry : {E : Type 0} (points : List GridPoint) (originals : List Original) (r : Holdings)
-    → IsKept points originals r → (listed : Result (Vec Segment Global) E)
+    → IsInOrder points originals r → (listed : Result (Vec Segment Global) E)
     → IfOk listed (λ v. (s : GridSegment) → Contains v.items s ↔ registries.IsPiece r s)
     → IfOk listed (λ v. (s : GridSegment) → Contains v.items s
     ↔ IsPiece (record { points = points; originals = originals }) s)
@@ -90,7 +90,7 @@ piece_with_key r s = of_what_is_held (map.get r s)
     of_what_is_held (Some h) = (λ some. refl, λ some. refl)
 
 -- so the pieces that have keys are those of the drawing
-pub key_where_piece : (points : List GridPoint) (originals : List Original) (r : Holdings) → IsKept points originals r
+pub key_where_piece : (points : List GridPoint) (originals : List Original) (r : Holdings) → IsInOrder points originals r
     → (s : GridSegment) → IsSome (key_of r s) ↔ IsPiece (record { points = points; originals = originals }) s
 key_where_piece points originals r kept s =
     let has = piece_with_key r s in
@@ -115,7 +115,7 @@ KeepsKeys-itself points originals r =
     keys_are_kept points points originals originals r r (λ s k j before behind. same_Some j k (sym behind ∙ before))
 
 -- each piece has one key, and each key one piece
-pub kept_keyed : (points : List GridPoint) (originals : List Original) (r : Holdings) → IsKept points originals r
+pub kept_keyed : (points : List GridPoint) (originals : List Original) (r : Holdings) → IsInOrder points originals r
     → AreKeyed (drawn points originals r)
 kept_keyed points originals r kept = record {
   some_key = λ s piece. with_key s (key_of r s) refl ((key_where_piece points originals r kept s).1 piece);

@@ -9,11 +9,11 @@ use Rattle.grid_base.specs.declared.original.Original.{Original}
 use Rattle.grid_base.proofs.Orders.{points_stay}
 use Rattle.component_registry.specs.Registry.{Holdings, uses_of}
 use Rattle.component_registry.proofs.Uses.{used_by_piece}
-use Rattle.realm_drawing.specs.Kept.{IsKept}
+use Rattle.realm_drawing.specs.Kept.{IsInOrder}
 use Rattle.realm_drawing.proofs.Vertices.{vertices_are_ends}
 
 -- the points that are used in the registry of a drawing are the vertices of its chains
-points_in_list : (points : List GridPoint) (originals : List Original) (r : Holdings) → IsKept points originals r
+points_in_list : (points : List GridPoint) (originals : List Original) (r : Holdings) → IsInOrder points originals r
     → (used : List GridPoint) → ((p : GridPoint) → Contains used p ↔ (0 < uses_of r p)) → (p : GridPoint)
     → Contains (points ++ used) p ↔ IsPoint (record { points = points; originals = originals }) p
 points_in_list points originals r kept used exact p =
@@ -29,7 +29,7 @@ points_in_list points originals r kept used exact p =
       ],
     )
 
-pub points_are_listed : (points : List GridPoint) (originals : List Original) (r : Holdings) → IsKept points originals r
+pub points_are_listed : (points : List GridPoint) (originals : List Original) (r : Holdings) → IsInOrder points originals r
     → (used all sorted : List GridPoint) → ((p : GridPoint) → Contains used p ↔ (0 < uses_of r p)) → all ≡ points ++ used
     → IsPermutation all sorted → (p : GridPoint)
     → Contains (dedup is_point sorted) p ↔ IsPoint (record { points = points; originals = originals }) p

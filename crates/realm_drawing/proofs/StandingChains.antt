@@ -7,13 +7,13 @@ use Rattle.grid_base.proofs.Ends.{not_before_itself, columns_in_order}
 use Rattle.hook_chain.specs.ValidChain.{IsMonotone, ValidChain}
 use Rattle.hook_chain.proofs.CloseParts.{own_close}
 use Rattle.realm_drawing.specs.Straight.{along}
-use Rattle.realm_drawing.specs.Chains.{HasValidChain, StandsFor}
+use Rattle.realm_drawing.specs.Chains.{HasValidChain, IsChainFor}
 use Rattle.realm_drawing.proofs.Progress.{chain_is_short}
 use Rattle.realm_drawing.proofs.ChainEnvelope.{chain_in_envelope, ends_are_near}
 use Rattle.realm_drawing.proofs.Unswept.{nothing_swept}
 
 -- a valid chain keeps all that is promised of the chain of an original
-pub stands_for : (o : GridSegment) (chain : List GridPoint) → ValidChain o chain → StandsFor o chain
+pub stands_for : (o : GridSegment) (chain : List GridPoint) → ValidChain o chain → IsChainFor o chain
 stands_for o chain valid = record {
   valid = valid;
   in_envelope = chain_in_envelope o chain valid;
@@ -22,7 +22,7 @@ stands_for o chain valid = record {
   few_links = chain_is_short o chain valid;
 }
 
-pub all_stand : (originals : List Original) → All HasValidChain originals → All (λ o. StandsFor (along o) o.chain) originals
+pub all_stand : (originals : List Original) → All HasValidChain originals → All (λ o. IsChainFor (along o) o.chain) originals
 all_stand originals valid = λ k o within. stands_for _ _ (valid k o within)
 
 -- from its lesser end to its greater a segment is monotone and close to itself

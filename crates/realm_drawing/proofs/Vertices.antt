@@ -11,7 +11,7 @@ use Rattle.grid_base.proofs.Elements.{Contains-later}
 use Rattle.component_registry.specs.Registry as registries
 use Rattle.component_registry.specs.Registry.{Holdings}
 use Rattle.realm_drawing.specs.Chains.{HasValidChain}
-use Rattle.realm_drawing.specs.Kept.{IsKept}
+use Rattle.realm_drawing.specs.Kept.{IsInOrder}
 use Rattle.realm_drawing.proofs.Elements.{Contains-head}
 use Rattle.realm_drawing.proofs.KeptPieces.{piece_of_registry}
 use Rattle.realm_drawing.proofs.PathEnds.{vertex_is_link_end}
@@ -39,7 +39,7 @@ end_is_vertex chain s p link (inr last) = subst (Contains chain) (sym last) (end
 
 -- ---- vertices of the drawing
 -- a point is an end of a piece of the registry exactly where it is a vertex of some chain
-pub vertices_are_ends : (points : List GridPoint) (originals : List Original) (r : Holdings) → IsKept points originals r
+pub vertices_are_ends : (points : List GridPoint) (originals : List Original) (r : Holdings) → IsInOrder points originals r
     → (p : GridPoint) → ((s : GridSegment) × (registries.IsPiece r s × IsEnd p s)) ↔ Any (λ o. Contains o.chain p) originals
 vertices_are_ends points originals r kept p = (
   λ (s, (piece, end)).
@@ -53,7 +53,7 @@ vertices_are_ends points originals r kept p = (
 )
 
 -- what isn't explicit is a point where it is used
-pub point_by_uses : (points : List GridPoint) (originals : List Original) (r : Holdings) → IsKept points originals r
+pub point_by_uses : (points : List GridPoint) (originals : List Original) (r : Holdings) → IsInOrder points originals r
     → (p : GridPoint) (explicit : Bool) → (IsTrue explicit ↔ Contains points p) → explicit ≡ false → (uses : ℕ)
     → (0 < uses) ↔ ((s : GridSegment) × (registries.IsPiece r s × IsEnd p s))
     → IsTrue (ltb 0 uses) ↔ IsPoint (record { points = points; originals = originals }) p

@@ -46,7 +46,7 @@ IsUnswept o chain = (p : GridPoint) (lie : Lie) → IsAlongside o p → SideOfSe
     → SideOf o chain p At ⊎ SideOf o chain p lie
 
 -- what is promised of the chain that stands for o
-pub record StandsFor (o : GridSegment) (chain : List GridPoint) : Type 0 where
+pub record IsChainFor (o : GridSegment) (chain : List GridPoint) : Type 0 where
   pub valid : ValidChain o chain
   pub in_envelope : StaysInEnvelope o chain
   pub near_ends : HasNearEnds o chain
@@ -55,4 +55,4 @@ pub record StandsFor (o : GridSegment) (chain : List GridPoint) : Type 0 where
 
 -- it holds of each chain of d
 abbrev pub AllStand : Drawing → Type 0
-AllStand d = All (λ o. StandsFor (along o) o.chain) d.originals
+AllStand d = All (λ o. IsChainFor (along o) o.chain) d.originals

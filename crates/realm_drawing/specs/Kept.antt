@@ -35,7 +35,7 @@ pub record AreKept (originals : List Original) (r : Holdings) : Type 0 where
 
 -- explicit points ascend and ids rise, each chain may stand for its original, and the registry has the owners of
 -- each piece
-pub record IsKept (points : List GridPoint) (originals : List Original) (r : Holdings) : Type 0 where
+pub record IsInOrder (points : List GridPoint) (originals : List Original) (r : Holdings) : Type 0 where
   pub points_ascend : AllPairs IsBefore points
   pub ids_rise : IsAscending originals
   pub all_valid : All HasValidChain originals

@@ -49,13 +49,13 @@ pub struct Drawing {
 
 impl Model for Drawing {
     ghost use Rattle.realm_drawing.specs.Keyed.{KeyedDrawing};
-    ghost use Rattle.realm_drawing.specs.Kept.{drawn, IsKept};
+    ghost use Rattle.realm_drawing.specs.Kept.{drawn, IsInOrder};
 
     ghost Value = { KeyedDrawing };
 
     ghost view = { λ d. drawn d.explicit d.originals d.registry };
 
-    ghost invariant = { λ d. IsKept d.explicit d.originals d.registry };
+    ghost invariant = { λ d. IsInOrder d.explicit d.originals d.registry };
 }
 
 impl Drawing {

@@ -6,7 +6,7 @@ ghost use Rattle.grid_base.specs.Drawing.{Drawing, HasViolation};
 ghost use Rattle.grid_base.specs.declared.kinds.Step.{Step};
 ghost use Rattle.hook_chain.specs.ValidChain.{ValidChain};
 ghost use Rattle.hook_chain.specs.Steps.{Permitted, Settles};
-ghost use Rattle.realm_drawing.specs.Chains.{AllValid, StandsFor};
+ghost use Rattle.realm_drawing.specs.Chains.{AllValid, IsChainFor};
 ghost use Rattle.realm_drawing.specs.OneChain.{HaveOneChain};
 ghost use Rattle.realm_drawing.specs.Measure.{links_of, most_links_of, NoChainShorter};
 
@@ -24,7 +24,7 @@ pub fn step_keeps_chains()
 /// What is promised of each chain that may stand for an original: it stays in the envelope, the ends of its close links
 /// are near, it passes no grid point on the wrong side, and it has few links.
 pub fn valid_chain_stands()
-    ensures { (o : GridSegment) (chain : List GridPoint) → ValidChain o chain → StandsFor o chain }
+    ensures { (o : GridSegment) (chain : List GridPoint) → ValidChain o chain → IsChainFor o chain }
 {}
 
 /// Two originals that have one chain keep one chain: where a step redraws it, both follow, and so they do from a

@@ -5,7 +5,7 @@ use Rattle.grid_base.specs.Point.{IsBefore}
 use Rattle.grid_base.specs.Segment.{GridSegment}
 use Rattle.grid_base.specs.Drawing.{Drawing}
 use Rattle.realm_drawing.specs.Straight.{straight, along, placed, AllBelow}
-use Rattle.realm_drawing.specs.Chains.{StandsFor, AllStand}
+use Rattle.realm_drawing.specs.Chains.{IsChainFor, AllStand}
 use Rattle.realm_insert.specs.State.{HasIdsBelow}
 
 -- its ends are in order, since its chain stands for it
@@ -13,7 +13,7 @@ pub placed_in_order : (d : Drawing) (id : ℕ) (s : GridSegment) → AllStand (p
 placed_in_order d id s stand =
     let o = straight id s in
     let stands =
-    All-contains (λ q. StandsFor (along q) q.chain) (d.originals ++ o ∷ []) o stand (Contains-push d.originals o) in
+    All-contains (λ q. IsChainFor (along q) q.chain) (d.originals ++ o ∷ []) o stand (Contains-push d.originals o) in
     stands.valid.ends
 
 -- the next id is greater than all ids again

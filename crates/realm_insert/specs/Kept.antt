@@ -33,5 +33,5 @@ pub record IsSettled (d : KeyedDrawing) (index : Entries) (values : NamedValues)
   pub latest : AreLatest changes traces
 
 -- this holds unless the engine is spent
-abbrev pub IsKept : Bool → KeyedDrawing → Entries → NamedValues → ℕ → ℕ → List KeptTrace → Type 0
-IsKept spent d index values next_id changes traces = spent ≡ false → IsSettled d index values next_id changes traces
+abbrev pub IsSettledUnlessSpent : Bool → KeyedDrawing → Entries → NamedValues → ℕ → ℕ → List KeptTrace → Type 0
+IsSettledUnlessSpent spent d index values next_id changes traces = spent ≡ false → IsSettled d index values next_id changes traces

@@ -35,7 +35,7 @@ use grid_base::{NoMemory, Step};
 use line_grammar::Change;
 use realm_drawing::Drawing;
 use realm_index::Index;
-use record_codec::{Kept as KeptSteps, ListOf, Snapshot, Trace};
+use record_codec::{Kept, ListOf, Snapshot, Trace};
 use rose_values::Geometry;
 use state_copies::{copied_originals, copied_values, explicit_points};
 use std::alloc::Global;
@@ -53,12 +53,12 @@ const MOST_TRACES: usize = 16;
 
 // The trace of the change with this number.
 #[derive(Debug, Drop)]
-struct Kept {
+struct LastTrace {
     number: u64,
     trace: Trace,
 }
 
-impl Model for Kept {
+impl Model for LastTrace {
     ghost use Rattle.realm_insert.specs.State.{KeptTrace};
 
     ghost Value = { KeptTrace };
@@ -75,13 +75,13 @@ pub struct Engine {
     table: Table,
     next_id: u64,
     changes: u64,
-    traces: Vec<Kept>,
+    traces: Vec<LastTrace>,
     spent: bool,
 }
 
 impl Model for Engine {
     ghost use Rattle.realm_insert.specs.State.{SpendableState};
-    ghost use Rattle.realm_insert.specs.Kept.{IsKept};
+    ghost use Rattle.realm_insert.specs.Kept.{IsSettledUnlessSpent};
 
     ghost Value = { SpendableState };
 
@@ -96,7 +96,7 @@ impl Model for Engine {
       spent = e.spent;
     } };
 
-    ghost invariant = { λ e. IsKept e.spent e.drawing e.index e.table e.next_id e.changes e.traces.items };
+    ghost invariant = { λ e. IsSettledUnlessSpent e.spent e.drawing e.index e.table e.next_id e.changes e.traces.items };
 }
 
 impl Drop for Engine {
@@ -379,7 +379,7 @@ impl Engine {
 // Counts the change, and keeps its trace as the last of at most 16.
 fn count(
     alloc: Global,
-    traces: &mut Vec<Kept>,
+    traces: &mut Vec<LastTrace>,
     changes: &mut u64,
     trace: &Trace,
 ) -> Result<(), NoMemory>
@@ -395,7 +395,7 @@ fn count(
     if traces.len() == MOST_TRACES {
         traces.remove(0);
     }
-    traces.push(Kept { number, trace })?;
+    traces.push(LastTrace { number, trace })?;
     *changes = number;
     Ok(())
 }
@@ -429,7 +429,7 @@ fn engine_of(alloc: Global, s: &Snapshot) -> Result<Option<Engine>, NoMemory>
     Ok(Some(engine))
 }
 
-fn traces_for(alloc: Global, s: &Snapshot) -> Result<Option<Vec<Kept>>, NoMemory>
+fn traces_for(alloc: Global, s: &Snapshot) -> Result<Option<Vec<LastTrace>>, NoMemory>
     ensures { IfOk result (λ found. MatchOption found (AreLatest s.now.changes (traces_in s.now.traces) → ⊥)
         (λ traces. (traces.items ≡ traces_in s.now.traces) × AreLatest s.now.changes traces.items
         × All (λ kept. IsTrace kept.steps) traces.items)) }
@@ -438,7 +438,7 @@ fn traces_for(alloc: Global, s: &Snapshot) -> Result<Option<Vec<Kept>>, NoMemory
 }
 
 // The traces that a snapshot keeps; none where they aren't those of the last of so many changes, in order.
-fn traces_of(alloc: Global, changes: u64, list: &[KeptSteps]) -> Result<Option<Vec<Kept>>, NoMemory>
+fn traces_of(alloc: Global, changes: u64, list: &[Kept]) -> Result<Option<Vec<LastTrace>>, NoMemory>
     ensures { IfOk result (λ found. MatchOption found (AreLatest changes (traces_in list.now) → ⊥)
         (λ traces. (traces.items ≡ traces_in list.now) × AreLatest changes traces.items
         × All (λ kept. IsTrace kept.steps) traces.items)) }
@@ -459,7 +459,7 @@ fn traces_of(alloc: Global, changes: u64, list: &[KeptSteps]) -> Result<Option<V
     Ok(Some(traces))
 }
 
-fn is_numbered(kept: &KeptSteps, number: u64) -> bool
+fn is_numbered(kept: &Kept, number: u64) -> bool
     ensures { IsTrue result ↔ (kept.now.number ≡ number) }
 {
     kept.number == number
@@ -473,14 +473,14 @@ fn is_count(changes: u64, count: u64) -> bool
 }
 
 // Adds the trace at the end.
-fn push_trace(alloc: Global, traces: &mut Vec<Kept>, kept: &KeptSteps) -> Result<(), NoMemory>
+fn push_trace(alloc: Global, traces: &mut Vec<LastTrace>, kept: &Kept) -> Result<(), NoMemory>
     ensures added { OnOk result (traces.new.items ≡ traces.old.items ++ kept_trace kept.now.number kept.now.steps ∷ []) }
     ensures fits { OnOk result (IsTrace kept.now.steps) }
 {
     // That each step has a text is known where they are read.
     let _steps = kept.steps.steps();
     let trace = kept.steps.copied(alloc)?;
-    traces.push(Kept {
+    traces.push(LastTrace {
         number: kept.number,
         trace,
     })?;
@@ -488,7 +488,7 @@ fn push_trace(alloc: Global, traces: &mut Vec<Kept>, kept: &KeptSteps) -> Result
 }
 
 // The traces, as a snapshot keeps them.
-fn copied_traces(alloc: Global, list: &[Kept]) -> Result<Vec<KeptSteps>, NoMemory>
+fn copied_traces(alloc: Global, list: &[LastTrace]) -> Result<Vec<Kept>, NoMemory>
     ensures same { IfOk result (λ v. traces_in v.items ≡ list.now) }
     ensures fits { IfOk result (λ v. IsList HasKeptText v.items) }
     ensures texts { IfOk result (λ v. All (λ kept. IsTrace kept.steps) list.now) }
@@ -501,7 +501,7 @@ fn copied_traces(alloc: Global, list: &[Kept]) -> Result<Vec<KeptSteps>, NoMemor
 }
 
 // Adds the trace at the end.
-fn copy_trace(alloc: Global, kept: &Kept, copies: &mut Vec<KeptSteps>) -> Result<(), NoMemory>
+fn copy_trace(alloc: Global, kept: &LastTrace, copies: &mut Vec<Kept>) -> Result<(), NoMemory>
     ensures added { OnOk result (copies.new.items ≡ copies.old.items ++ kept_steps kept.now ∷ []) }
     ensures number { OnOk result (kept.now.number < 2 ^ 64) }
     ensures fits { IsTrace kept.now.steps }
@@ -510,11 +510,11 @@ fn copy_trace(alloc: Global, kept: &Kept, copies: &mut Vec<KeptSteps>) -> Result
     let _steps = kept.trace.steps();
     let steps = kept.trace.copied(alloc)?;
     let number = number_of(kept);
-    copies.push(KeptSteps { number, steps })?;
+    copies.push(Kept { number, steps })?;
     Ok(())
 }
 
-fn number_of(kept: &Kept) -> u64
+fn number_of(kept: &LastTrace) -> u64
     ensures { result ≡ kept.now.number }
 {
     kept.number

@@ -13,7 +13,7 @@ use Rattle.grid_base.specs.declared.original.Original.{Original}
 use Rattle.grid_base.proofs.Elements.{same_place}
 use Rattle.hook_chain.specs.Chains.{RunsFrom}
 use Rattle.hook_chain.specs.ValidChain.{ValidChain}
-use Rattle.realm_drawing.specs.Chains.{AllStand, StandsFor}
+use Rattle.realm_drawing.specs.Chains.{AllStand, IsChainFor}
 use Rattle.realm_drawing.specs.Ids.{IsAscending, IsChainOf, LacksId}
 use Rattle.realm_drawing.specs.Straight.{along}
 use Rattle.realm_drawing.proofs.Ends.{ends_by_leads}
@@ -38,7 +38,7 @@ found d id points is stand =
     let (k, o, within, at, same) = is.there in
     let has : Contains d.originals o = (k, within, at) in
     let leads : o.chain ≡ points = All-contains (λ (q : Original). q.id ≡ id → q.chain ≡ points) d.originals o is.only has same in
-    let valid = (All-contains (λ (q : Original). StandsFor (along q) q.chain) d.originals o stand has).valid in
+    let valid = (All-contains (λ (q : Original). IsChainFor (along q) q.chain) d.originals o stand has).valid in
     record { original = o; there = has; id_is = same; leads = leads; valid = subst (ValidChain (along o)) leads valid }
 
 -- the chain of an original leads from its lesser end to its greater

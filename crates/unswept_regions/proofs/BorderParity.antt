@@ -15,7 +15,7 @@ use Rattle.grid_base.proofs.Elements.{same_place}
 use Rattle.grid_base.proofs.Orders.{is_segment, is_segment-same, is_segment-itself}
 use Rattle.grid_base.proofs.Signs.{three_ways}
 use Rattle.grid_base.proofs.Turns.{leftward, rightward}
-use Rattle.realm_drawing.specs.Chains.{AllStand, StandsFor}
+use Rattle.realm_drawing.specs.Chains.{AllStand, IsChainFor}
 use Rattle.realm_drawing.specs.Ids.{IsAscending}
 use Rattle.realm_drawing.specs.Straight.{along}
 use Rattle.rose_values.specs.Border.{AreSegmentsAscending}
@@ -64,14 +64,14 @@ odd_alike p A B same odd =
     count_by_odd above B (in_b ∙ sym same ∙ sym in_a ∙ odd_by_count above A odd)
 
 -- ---- parts
-parts_count : (p : GridPoint) (parts : List Original) → All (λ o. StandsFor (along o) o.chain) parts
+parts_count : (p : GridPoint) (parts : List Original) → All (λ o. IsChainFor (along o) o.chain) parts
     → All (λ o. IsOffChain p o.chain) parts
     → odd_count (is_over_point p) (links_of parts) ≡ odd_count (is_over_point p) (map along parts)
 parts_count p [] stand off = refl
 parts_count p (o ∷ parts) stand off =
-    let stands = All-head (λ q. StandsFor (along q) q.chain) o parts stand in
+    let stands = All-head (λ q. IsChainFor (along q) q.chain) o parts stand in
     let off_first = All-head (λ q. IsOffChain p q.chain) o parts off in
-    let rest = parts_count p parts (All-tail (λ q. StandsFor (along q) q.chain) o parts stand)
+    let rest = parts_count p parts (All-tail (λ q. IsChainFor (along q) q.chain) o parts stand)
     (All-tail (λ q. IsOffChain p q.chain) o parts off) in
     odd_count-append (is_over_point p) (links o.chain) (links_of parts)
     ∙ (λ i. differ (chain_counts p (along o) o.chain stands off_first i) (rest i))
@@ -103,7 +103,7 @@ ascending_count border ascending s =
 -- no other original has the id of one
 only_one : (d : Drawing) → AllStand d → IsAscending d.originals → (o : Original) → Contains d.originals o → IsOnlyOne d o
 only_one d stand rising o (j, within_j, is) = record {
-  valid = (All-contains (λ q. StandsFor (along q) q.chain) d.originals o stand (j, within_j, is)).valid;
+  valid = (All-contains (λ q. IsChainFor (along q) q.chain) d.originals o stand (j, within_j, is)).valid;
   only = λ k e within same. by k e within same;
 }
   where
@@ -144,7 +144,7 @@ module _ (d : Drawing) (stand : AllStand d) (rising : IsAscending d.originals) (
 
   pub unswept_border : IsUnsweptBorder parts border
   unswept_border p off =
-      let stands = All-weaker (Contains d.originals) (λ o. StandsFor (along o) o.chain)
-      (λ o there. All-contains (λ q. StandsFor (along q) q.chain) d.originals o stand there) parts are.there in
+      let stands = All-weaker (Contains d.originals) (λ o. IsChainFor (along o) o.chain)
+      (λ o there. All-contains (λ q. IsChainFor (along q) q.chain) d.originals o stand there) parts are.there in
       let same = same_counts (is_over_point p) border (links_of parts) border_links ∙ parts_count p parts stands off in
       (odd_alike p border (map along parts) same, odd_alike p (map along parts) border (sym same))

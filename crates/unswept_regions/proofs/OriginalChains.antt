@@ -13,7 +13,7 @@ use Rattle.hook_chain.specs.Chains.{AllLinks, RunsFrom}
 use Rattle.hook_chain.specs.ValidChain.{IsMonotone}
 use Rattle.hook_chain.proofs.CloseParts.{steep_is}
 use Rattle.hook_chain.proofs.Exchange.{way}
-use Rattle.realm_drawing.specs.Chains.{StandsFor}
+use Rattle.realm_drawing.specs.Chains.{IsChainFor}
 use Rattle.segment_envelope.proofs.Ways.{exchanged_place}
 use Rattle.side_parity.specs.Middle.{differ}
 use Rattle.side_parity.proofs.Regions.{odd_count}
@@ -90,7 +90,7 @@ IsUnsweptWhere flat o chain p = (lie : Lie) → MatchBool flat (IsFromTo o.a.x o
     → MatchBool flat (SideOfUp chain p At) (SideOfUp (map exchanged_point chain) (exchanged_point p) At)
     ⊎ MatchBool flat (SideOfUp chain p lie) (SideOfUp (map exchanged_point chain) (exchanged_point p) lie)
 
-own_chain_counts : (p v : GridPoint) (chain : List GridPoint) → StandsFor (straight_from v chain) (v ∷ chain)
+own_chain_counts : (p v : GridPoint) (chain : List GridPoint) → IsChainFor (straight_from v chain) (v ∷ chain)
     → IsOffChain p (v ∷ chain) → CountsAsStraight p v chain
 own_chain_counts p v chain stands off_chain = by (is_flat o) refl (stands.unswept p)
   where
@@ -122,12 +122,12 @@ ends_are : (a b v : GridPoint) (chain : List GridPoint) → RunsFrom a b (v ∷ 
 ends_are a b v [] leads = leads
 ends_are a b v (w ∷ chain) leads = (leads.0, (ends_are w b w chain leads.1).1)
 
-pub chain_counts : (p : GridPoint) (o : GridSegment) (chain : List GridPoint) → StandsFor o chain → IsOffChain p chain
+pub chain_counts : (p : GridPoint) (o : GridSegment) (chain : List GridPoint) → IsChainFor o chain → IsOffChain p chain
     → odd_count (is_over_point p) (links chain) ≡ is_over_point p o
 chain_counts p o [] stands off = absurd stands.valid.leads
 chain_counts p o (v ∷ chain) stands off =
     let ends = ends_are o.a o.b v chain stands.valid.leads in
     let same : straight_from v chain ≡ o = λ i. way (ends.0 i) (ends.1 i) in
     links_count p v chain (all_links (IsMonotone o.a o.b) IsOnward (λ u w m. m.1) v chain stands.valid.monotone)
-    ∙ own_chain_counts p v chain (subst (λ s. StandsFor s (v ∷ chain)) (sym same) stands) off
+    ∙ own_chain_counts p v chain (subst (λ s. IsChainFor s (v ∷ chain)) (sym same) stands) off
     ∙ ap (is_over_point p) same

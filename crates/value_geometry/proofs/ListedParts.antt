@@ -8,7 +8,7 @@ use Rattle.grid_base.specs.Point.{GridPoint}
 use Rattle.grid_base.specs.Segment.{GridSegment}
 use Rattle.grid_base.specs.Drawing.{Drawing}
 use Rattle.grid_base.specs.declared.original.Original.{Original}
-use Rattle.realm_drawing.specs.Chains.{AllStand, StandsFor}
+use Rattle.realm_drawing.specs.Chains.{AllStand, IsChainFor}
 use Rattle.realm_drawing.specs.Ids.{IsChainOf, LacksId}
 use Rattle.realm_drawing.specs.Straight.{along}
 use Rattle.value_geometry.specs.Links.{links, links_of, IsOnlyOne, AreLinksOf}
@@ -26,7 +26,7 @@ is_only_one d id chain is stand o there same =
     let leads : o.chain ≡ chain = All-contains (λ q. q.id ≡ id → q.chain ≡ chain) d.originals o is.only there same in (
       leads,
       record {
-        valid = (All-contains (λ q. StandsFor (along q) q.chain) d.originals o stand there).valid;
+        valid = (All-contains (λ q. IsChainFor (along q) q.chain) d.originals o stand there).valid;
         only = All-weaker (λ q. q.id ≡ id → q.chain ≡ chain) (λ q. q.id ≡ o.id → q.chain ≡ o.chain)
             (λ q leads_too equal. leads_too (equal ∙ same) ∙ sym leads) d.originals is.only;
       },
