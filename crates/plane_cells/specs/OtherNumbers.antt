@@ -43,7 +43,8 @@ abbrev pub HaveSameSegments : List GridSegment → List GridSegment → Type 0
 HaveSameSegments list other = (s : GridSegment) → Contains list s ↔ Contains other s
 
 -- n are the numbers that s has in the list, in which it stands at some place
-pub record HasNumbersIn (list : List GridSegment) (numbers : List SideClasses) (s : GridSegment) (n : SideClasses) : Type 0 where
+pub record HasNumbersIn (list : List GridSegment) (numbers : List SideClasses) (s : GridSegment)
+    (n : SideClasses) : Type 0 where
   pub place : ℕ
   pub within : place < length list
   pub there : numbered list place ≡ s

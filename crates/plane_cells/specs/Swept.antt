@@ -54,7 +54,8 @@ pub record AreOthers (B T : List GridSegment) : Type 0 where
   pub ascending : AreAscending T
   pub order : (k : ℕ) → k < length T → IsBefore (numbered T k).a (numbered T k).b
   pub on_grid : (k : ℕ) → k < length T → ((numbered T k).a.x < grid_side) × ((numbered T k).a.y < grid_side)
-  pub other : (k : ℕ) → k < length T → IsOther (length B) (sheared_number B) (sheared grid_side (numbered T k))
+  pub other : (k : ℕ) → k < length T
+      → IsOther (length B) (sheared_number B) (sheared grid_side (numbered T k))
 
 -- the first m segments of T begin before the column c
 abbrev pub AreDue : List GridSegment → ℕ → ℕ → Type 0

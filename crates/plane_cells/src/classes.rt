@@ -18,9 +18,9 @@ pub struct SideClasses {
     pub right: u64,
 }
 
-/// Which class lies on the left and which on the right of each segment of the border, in the order of the list.
-/// Sides share a number where they are of one class, and nowhere else; 0 stands for the outer class alone. The
-/// list may be in any order, and a segment that it has twice has the same numbers both times.
+/// Which class lies on the left and which on the right of each segment of the border, in the order of the
+/// list. Sides share a number where they are of one class, and nowhere else; 0 stands for the outer class
+/// alone. The list may be in any order, and a segment that it has twice has the same numbers both times.
 pub fn side_classes(alloc: Global, border: &[Segment]) -> Result<Vec<SideClasses>, NoMemory>
     requires noded { AreNoded border.now }
     ensures { IfOk result (λ v. AreClassNumbers border.now v.items) }
