@@ -48,11 +48,6 @@ has_sides R N face n i two other hi alone =
     by (inr a) (inl f) = OnRight (same_number _ n (both_true _ _ a).0) f.0
     by (inr a) (inr f) = absurd (other (sym (same_number _ n (both_true _ _ a).0) ∙ f.0))
 
--- a place beside segment i on the side d
-at_side : (R : List GridSegment) (N : List SideClasses) (i : ℕ) (d : Side) → AreClassNumbers R N → i < length R → (d ≡ On → ⊥)
-    → (q : Place) × LiesBeside R i d q
-at_side R N i d c hi off = c.some i d hi off
-
 -- the places of the two classes
 pub between : (R : List GridSegment) (N : List SideClasses) (face n : ℕ) (s : GridSegment) → AreClassNumbers R N → IsFaceNumber R N face
     → n ≢ face → Contains (class_rim n R N) s

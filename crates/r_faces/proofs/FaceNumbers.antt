@@ -14,8 +14,8 @@ use Rattle.plane_cells.specs.ClassNumbers.{number_at, AreClassNumbers}
 use Rattle.plane_cells.specs.declared.classes.SideClasses.{SideClasses}
 use Rattle.plane_cells.proofs.ShearedSides.{free_beside}
 use Rattle.r_faces.specs.Faces.{IsNumberOfFaces}
-use Rattle.r_faces.specs.OddNumbers.{IsOddOf, AreOddNumbers}
 use Rattle.r_faces.specs.Rims.{AreOddSides}
+use Rattle.r_faces.proofs.OddNumbers.{IsOddOf, AreOddNumbers}
 
 -- ---- one odd place for each number
 record HasPlaces (B : List GridSegment) (numbers : List SideClasses) (ns : List ℕ) : Type 0 where

@@ -2,6 +2,8 @@
 pub mod Turnings
 -- lists in order
 pub mod ListOrders
+-- the numbers of the classes of faces
+pub mod OddNumbers
 -- as many faces as numbers of odd sides
 pub mod FaceNumbers
 -- segments by the places of their numbers

@@ -46,11 +46,11 @@ pub record IsEnclosed (rim : List GridSegment) (z y : Place) : Type 0 where
 -- the face of z within its rim, by its border to the outer class and one to each enclosed class
 pub record IsBounded (rim : List GridSegment) (z : Place) (face : Face) : Type 0 where
   pub outer_cycle : IsBorderCycle rim z (IsOuter rim) face.outer
-  pub only : (hole : List GridPoint) → Contains face.holes.items hole
+  pub only : (hole : List GridPoint) → Contains face.holes hole
       → (y : Place) × IsEnclosed rim z y × IsBorderCycle rim z (AreInOneClass rim y) hole
   pub each : (y : Place) → IsEnclosed rim z y
-      → Any (IsBorderCycle rim z (AreInOneClass rim y)) face.holes.items
-  pub ascending : AllPairs IsListBefore face.holes.items
+      → Any (IsBorderCycle rim z (AreInOneClass rim y)) face.holes
+  pub ascending : AllPairs IsListBefore face.holes
 
 -- the face of z, which is an interior place of the region, by its rim
 pub record IsFaceOf (border : List GridSegment) (z : Place) (face : Face) : Type 0 where

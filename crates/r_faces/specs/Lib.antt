@@ -2,8 +2,6 @@
 pub mod Turned
 -- the faces of a region, and how many they are
 pub mod Faces
--- the numbers of the classes of faces, for this crate's own proofs
-pub mod OddNumbers
 -- the cycles of faces: what a list of faces has to be
 pub mod FaceCycles
 -- segments in parts by numbers, for this crate's own proofs

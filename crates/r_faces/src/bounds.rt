@@ -15,7 +15,7 @@ ghost use Rattle.r_faces.specs.FaceCycles.{IsBounded};
 ghost use Rattle.r_faces.specs.Rims.{IsInside};
 ghost use Rattle.r_faces.specs.Rounds.{AreBeyond, IsFaceNumber, IsRound};
 
-use crate::face::Face;
+use crate::face::{Face, Holes};
 use crate::ordering::in_order;
 use crate::parts::parted;
 use crate::turning::turned;
@@ -44,7 +44,10 @@ pub(crate) fn face_of(alloc: Global, rim: &[Segment]) -> Result<Face, NoMemory>
     let mut cycles = cycles_of(alloc, rim, &classes, &parts.keys, &parts.lists)?;
     let outer = cycles.remove(0);
     let holes = in_order(cycles)?;
-    Ok(Face { outer, holes })
+    Ok(Face {
+        outer,
+        holes: Holes::new(holes),
+    })
 }
 
 // The number on the left of a segment that has the outer class on its right.

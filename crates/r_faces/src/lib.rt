@@ -11,7 +11,7 @@ mod parts;
 mod rims;
 mod turning;
 
-pub use face::Face;
+pub use face::{Face, Holes};
 pub use listing::faces;
 pub use number::number_of_faces;
 pub use ordering::{faces_in_order, in_order};

@@ -107,7 +107,7 @@ cycle_line word cycle = word ++ (flat_map vertex_text cycle ++ line_feed)
 
 -- the lines of a face: its outer cycle, and each of its holes
 abbrev pub face_lines : Face → List ℕ
-face_lines face = cycle_line (codes "outer") face.outer ++ flat_map (cycle_line (codes "hole")) face.holes.items
+face_lines face = cycle_line (codes "outer") face.outer ++ flat_map (cycle_line (codes "hole")) face.holes
 
 -- how many faces there are, and the lines of each in order
 abbrev pub faces_reply : List Face → List ℕ

@@ -149,7 +149,7 @@ fn push_face(text: &mut String, face: &Face) -> Result<(), AllocError>
     ensures { OnOk result (string_bytes text.new ≡ string_bytes text.old ++ face_lines face.now) }
 {
     push_cycle(text, "outer", face.outer.points())?;
-    push_holes(text, &face.holes)
+    push_holes(text, face.holes.cycles())
 }
 
 fn push_holes(text: &mut String, holes: &[Chain]) -> Result<(), AllocError>

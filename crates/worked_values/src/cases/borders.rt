@@ -5,7 +5,7 @@ ghost use Rattle.grid_base.specs.Point.{point_at};
 use crate::paper::region;
 use grid_base::{Chain, Point, Segment};
 use r_cycles::cycles;
-use r_faces::{Face, faces_in_order, in_order, turned};
+use r_faces::{Face, Holes, faces_in_order, in_order, turned};
 use std::alloc::Global;
 use std::test::Fail;
 
@@ -79,10 +79,10 @@ fn a_list_stands_before_a_longer_one(rt: HostRuntime) -> Result<(), Fail> {
 #[test]
 fn a_face_stays_whole(rt: HostRuntime) -> Result<(), Fail> {
     let outer = Chain::new(triangle(rt.alloc())?);
-    let holes = Vec::new(rt.alloc());
+    let holes = Holes::new(Vec::new(rt.alloc()));
     let sorted = faces_in_order(vec![in rt.alloc(); Face { outer, holes }]?)?;
     assert_eq!(rt; sorted.len(), 1);
     assert_eq!(rt; sorted[0].outer.points().len(), 3);
-    assert_eq!(rt; sorted[0].holes.len(), 0);
+    assert_eq!(rt; sorted[0].holes.cycles().len(), 0);
     Ok(())
 }

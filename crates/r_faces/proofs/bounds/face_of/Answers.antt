@@ -5,7 +5,7 @@ use Rattle.grid_base.proofs.Elements.{same_place}
 use Rattle.r_blocks.specs.Places.{those}
 use Rattle.grid_base.specs.Point.{GridPoint}
 use Rattle.plane_classes.specs.Classes.{AreInOneClass}
-use Rattle.r_faces.specs.FaceCycles.{IsBorderCycle}
+use Rattle.r_faces.specs.FaceCycles.{IsBorderCycle, IsBounded}
 use Rattle.r_faces.proofs.ListsApart.{ascends_strictly}
 use Rattle.r_faces.proofs.FaceRims.{known}
 use Rattle.r_faces.proofs.FaceBounds.{cut_of, face_number_is, key_other, zero_key, some_of_key, rim_of_key, outer_of, hole_of, of_hole}
@@ -82,7 +82,7 @@ returns c = λ z inside.
     let is_rest = c.remove-outer.ensures.items in
     let long = ap (λ (l : List (List GridPoint)). length l) is_rest in
     let all_long = rest_long cycles some in
-    record {
+    let bounded : IsBounded R z (record { outer = c.remove-outer.result; holes = holes }) = record {
       outer_cycle = outer_of R N z face U keys cycles c.remove-outer.result h inside as_many rounds c.remove-outer.ensures.value;
       only = λ hole there.
           let in_rest = Contains-permutation holes rest hole (IsPermutation-sym rest holes c.in_ok-holes.ensures.same) there in
@@ -98,4 +98,5 @@ returns c = λ z inside.
       ascending = ascends_strictly (λ (l : List GridPoint). l) rest holes c.in_ok-holes.ensures.same
           (subst (AllPairs (λ a b. a ≢ b)) (sym is_rest) (rest_apart (λ a b. a ≢ b) cycles (cycles_apart R N face U keys cycles h as_many
           rounds))) c.in_ok-holes.ensures.ascending;
-    }
+    } in
+    subst (λ (l : List (List GridPoint)). IsBounded R z (record { outer = c.remove-outer.result; holes = l })) (sym c.new.ensures) bounded

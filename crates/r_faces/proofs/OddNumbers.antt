@@ -1,4 +1,4 @@
--- The numbers of the classes that hold interior points of a region. No public clause cites this file.
+-- This file defines the numbers of the classes that hold interior points of a region.
 use Rattle.std.specs.Prelude.{◌≡◌, ℕ, ◌<◌, List, Contains}
 use Rattle.grid_base.specs.Segment.{GridSegment}
 use Rattle.grid_base.specs.Sides.{Side}
