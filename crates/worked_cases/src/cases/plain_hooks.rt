@@ -126,12 +126,12 @@ fn hooks_in_a_box_of_nine_by_nine(rt: HostRuntime) {
 
 // The next number of a fixed series that looks like chance.
 fn drawn(last: &mut u64) -> u32
-    ensures { result < 300 }
+    ensures { result < 100 }
 {
     *last = last
         .wrapping_mul(6_364_136_223_846_793_005)
         .wrapping_add(1_442_695_040_888_963_407);
-    ((*last >> 33) % 300) as u32
+    ((*last >> 33) % 100) as u32
 }
 
 #[test]
@@ -142,7 +142,7 @@ fn longer_hooks(rt: HostRuntime) {
         let q = Point::at(drawn(&mut last), drawn(&mut last));
         let column = drawn(&mut last);
         if let Some(t) = Segment::new(p, q) {
-            for row in 0..300 {
+            for row in 0..100 {
                 let x = Point::at(column, row);
                 assert!(rt; agrees(rt.alloc(), &t, x), "{t:?} at {x:?}");
             }

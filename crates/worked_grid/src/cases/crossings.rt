@@ -1,7 +1,7 @@
 //! Meet points and crossings as an independent exact program gave them, which intersects the two
 //! lines by fractions. A row begins with the ends of the first segment and those of the second.
 use grid_base::{Point, Segment};
-use grid_rational::{Meet, crossing, meet_point};
+use grid_rational::{Meet, crossing, crossing_is_one, meet_point, meet_point_is_one};
 use std::process::Abort;
 
 fn point(x: u64, y: u64) -> Option<Point> {
