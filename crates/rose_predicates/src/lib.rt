@@ -3,6 +3,7 @@
 
 mod answering;
 mod enclosing;
+mod laws;
 mod members;
 mod of_lines;
 mod of_points;
@@ -11,3 +12,4 @@ mod of_regions;
 mod tests;
 
 pub use answering::{HoldsError, holds};
+pub use laws::equal_is_same;
