@@ -10,23 +10,21 @@ use Rattle.std.proofs.lemmas.List.{get_or_append_left, length-append, get_or_def
 use Rattle.std.proofs.lemmas.List.Elements.{All-head, All-tail, All-push, All-weaker, All-pop}
 use Rattle.std.proofs.lemmas.List.Kept.{AllPairs-cons}
 use Rattle.std.proofs.lemmas.List.Sums.{sum_by_more}
-use Rattle.grid_base.specs.Point.{GridPoint, IsBefore}
+use Rattle.grid_base.specs.Point.{IsBefore}
 use Rattle.grid_base.specs.Segment.{GridSegment, IsSegmentBefore, segment_cmp}
-use Rattle.grid_base.proofs.Ends.{three_points, not_before_itself}
+use Rattle.grid_base.proofs.Ends.{three_points, not_before_itself, IsBefore-trans}
 use Rattle.grid_base.proofs.Orders.{segment_cmp-Less, segment_between}
 use Rattle.rose_values.specs.Border.{AreSegmentsAscending}
 use Rattle.value_geometry.specs.Links.{IsLast}
 use Rattle.value_geometry.proofs.Counts.{AllPairs-head, AllPairs-tail, count-append, count_first}
 
 -- ---- the order of segments
-point_before : (p q r : GridPoint) → IsBefore p q → IsBefore q r → IsBefore p r
-point_before p q r first second = grind arith
 
 segment_before : (s t u : GridSegment) → IsSegmentBefore s t → IsSegmentBefore t u → IsSegmentBefore s u
-segment_before s t u (inl first) (inl second) = inl (point_before s.a t.a u.a first second)
+segment_before s t u (inl first) (inl second) = inl (IsBefore-trans s.a t.a u.a first second)
 segment_before s t u (inl first) (inr (level, second)) = inl (subst (IsBefore s.a) level first)
 segment_before s t u (inr (level, first)) (inl second) = inl (subst (λ p. IsBefore p u.a) (sym level) second)
-segment_before s t u (inr (level, first)) (inr (flush, second)) = inr (level ∙ flush, point_before s.b t.b u.b first second)
+segment_before s t u (inr (level, first)) (inr (flush, second)) = inr (level ∙ flush, IsBefore-trans s.b t.b u.b first second)
 
 -- a segment before another isn't the same
 pub segment_differs : (s t : GridSegment) → IsSegmentBefore s t → s ≢ t
