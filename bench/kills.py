@@ -72,7 +72,7 @@ def main():
             more += len(found) - (kept + begun)
             kept = len(found)
     print(f"{words.kills} kills in {time.time() - began:.0f} s: {kept} changes were kept, none with a reply was lost,"
-          f" and {more} times the one more that was on its way was there")
+          f" and {more} times the unanswered change was there")
 
 
 if __name__ == "__main__":

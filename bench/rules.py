@@ -6,7 +6,8 @@ import re
 from fractions import Fraction
 
 ROOM = 4_054
-SIDE = 2 ** 28
+# The side of the grid, for all scripts.
+SIDE = 2 ** 30
 NUMBER = re.compile(rb"0|[1-9][0-9]{0,18}")
 NAME = re.compile(rb"[a-z][a-z0-9_]{0,31}")
 KINDS = {1: "points", 2: "lines", 3: "regions"}

@@ -10,11 +10,12 @@ import tempfile
 import threading
 import time
 
+import rules
 from kills import feed
 
 # No command: its reply ends the replies to the command before it.
 END, END_REPLY = b"?\n", b"no line 0\n"
-SIDE, LONGEST = 400, 40
+FIELD, LONGEST = 400, 40
 OPERATORS = [b"intersection", b"plus", b"minus", b"common_border", b"vertices", b"contour", b"interior"]
 PREDICATES = [b"equal", b"inside", b"edge_inside", b"vertex_inside", b"area_disjoint", b"edge_disjoint", b"disjoint",
               b"intersects", b"meets", b"adjacent", b"encloses", b"on_border_of", b"border_in_common"]
@@ -33,10 +34,10 @@ class Author:
         self.free, self.names, self.points, self.next = [], {}, [], 1
 
     def place(self):
-        return self.random.randrange(SIDE), self.random.randrange(SIDE)
+        return self.random.randrange(FIELD), self.random.randrange(FIELD)
 
     def near(self, place):
-        return tuple(min(max(0, part + self.random.randint(-LONGEST, LONGEST)), SIDE - 1) for part in place)
+        return tuple(min(max(0, part + self.random.randint(-LONGEST, LONGEST)), FIELD - 1) for part in place)
 
     def walk(self, count):
         places = [self.place()]
@@ -100,7 +101,8 @@ class Author:
         return b"checkpoint"
 
     def make_bad(self):
-        return self.random.choice([b"segment 0 0 1", b"segment 1 1 1 1", b"point 268435456 0", b"lines n0 1 1", b"points  n0", b"batch 0"])
+        return self.random.choice([b"segment 0 0 1", b"segment 1 1 1 1", b"point %d 0" % rules.SIDE, b"lines n0 1 1", b"points  n0",
+                                   b"batch 0"])
 
     def make_realm(self):
         return b"realm"
@@ -327,7 +329,7 @@ def main():
         compared = soak.finish()
         print(f"{soak.kills} kills in {time.time() - began:.0f} s, {soak.waited} of them when all was answered:"
               f" {soak.steady.end()} commands, {soak.kept} of them changes and {soak.checkpoints} checkpoints; no change with a reply"
-              f" was lost, and {soak.more} times the one more that was on its way was there")
+              f" was lost, and {soak.more} times the unanswered change was there")
         print(f"at the end `check` and {compared} questions get the same replies as without a kill")
 
 

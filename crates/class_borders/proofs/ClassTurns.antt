@@ -1,11 +1,14 @@
 -- This file shows that as many segments come in at each point as go out, each with a class on its left alone.
-use Rattle.std.proofs.Common.{◌≡◌, ◌⊎◌, ℕ, zero, suc, ◌^◌, ◌<◌, ◌==◌, Bool, true, false, not, ◌&&◌, List, [], map, length}
+use Rattle.std.proofs.Common.{◌≡◌, ◌⊎◌, ℕ, zero, suc, ◌<◌, ◌==◌, Bool, true, not, ◌&&◌, List, [], map, length}
 use Rattle.std.proofs.Common.{refl, sym, ap, subst, ◌∙◌, arith, inl, inr}
+use Rattle.grid_base.specs.Grid.{grid_side}
 use Rattle.grid_base.specs.Point.{GridPoint, is_point}
 use Rattle.grid_base.specs.Segment.{GridSegment, IsEnd}
-use Rattle.grid_base.specs.Sides.{Left, On, Right}
+use Rattle.grid_base.specs.Sides.{Left, Right}
 use Rattle.grid_base.proofs.Orders.{is_point-same, is_point-itself}
 use Rattle.grid_base.proofs.Ends.{same_or_not}
+use Rattle.grid_base.proofs.Signs.{left_off, right_off}
+use Rattle.grid_base.proofs.Booleans.{is_false}
 use Rattle.linked_parts.specs.Parts.{IsLink, AreLinked}
 use Rattle.linked_parts.proofs.LinkedNumbers.{linked_here, linked_by, linked_back}
 use Rattle.plane_classes.specs.Shear.{sheared, sheared_point}
@@ -33,17 +36,11 @@ abbrev pub number_of : List SideClasses → ℕ → ℕ
 number_of numbers zero = 0
 number_of numbers (suc i) = number_at numbers i Left
 
-left_off : Left ≡ On → ⊥
-left_off e = cc
-
-right_off : Right ≡ On → ⊥
-right_off e = cc
-
 over_outer : (B : List GridSegment) (N : List SideClasses) (h : HasSweep B) → AreClassNumbers B N → (j : ℕ) → j < length B
     → AreLinked (links h.steps) (suc j) 0 → number_at N j Left ≡ 0
 over_outer B N h c j hj l =
     let q = c.some j Left hj left_off in
-    (c.outer j Left q.0 q.1).1 (outer_by_labels (2 ^ 28) B h.steps h.right j Left q.0 h.sweep hj (inl refl) q.1.beside l)
+    (c.outer j Left q.0 q.1).1 (outer_by_labels grid_side B h.steps h.right j Left q.0 h.sweep hj (inl refl) q.1.beside l)
 
 over_one : (B : List GridSegment) (N : List SideClasses) (h : HasSweep B) → AreClassNumbers B N → (i j : ℕ) → i < length B → j < length B
     → AreLinked (links h.steps) (suc i) (suc j) → number_at N i Left ≡ number_at N j Left
@@ -51,7 +48,7 @@ over_one B N h c i j hi hj l =
     let p = c.some i Left hi left_off in
     let q = c.some j Left hj left_off in
     (c.one_class i j Left Left p.0 q.0 p.1 q.1).1
-    (one_class_by_labels (2 ^ 28) B h.steps h.right i j Left Left p.0 q.0 h.sweep hi hj (inl refl) (inl refl) p.1.beside q.1.beside l)
+    (one_class_by_labels grid_side B h.steps h.right i j Left Left p.0 q.0 h.sweep hi hj (inl refl) (inl refl) p.1.beside q.1.beside l)
 
 -- linked labels have one number
 one_number : (B : List GridSegment) (N : List SideClasses) (h : HasSweep B) → AreClassNumbers B N → (y z : ℕ) → IsLabel (length B) y
@@ -82,14 +79,14 @@ under_number B N h c i hi = by (h.right_labels i)
     by (inl e) =
         let q = c.some i Right hi right_off in
         ap (number_of N) e
-        ∙ sym ((c.outer i Right q.0 q.1).1 (outer_by_labels (2 ^ 28) B h.steps h.right i Right q.0 h.sweep hi (inr refl) q.1.beside
+        ∙ sym ((c.outer i Right q.0 q.1).1 (outer_by_labels grid_side B h.steps h.right i Right q.0 h.sweep hi (inr refl) q.1.beside
         (subst (λ (x : ℕ). AreLinked (links h.steps) (h.right i) x) e (linked_here (links h.steps) (h.right i)))))
     by (inr (j, hj, e)) =
         let p = c.some j Left hj left_off in
         let q = c.some i Right hi right_off in
         ap (number_of N) e
         ∙ (c.one_class j i Left Right p.0 q.0 p.1 q.1).1
-        (one_class_by_labels (2 ^ 28) B h.steps h.right j i Left Right p.0 q.0 h.sweep hj hi (inl refl) (inr refl) p.1.beside q.1.beside
+        (one_class_by_labels grid_side B h.steps h.right j i Left Right p.0 q.0 h.sweep hj hi (inl refl) (inr refl) p.1.beside q.1.beside
         (subst (λ (x : ℕ). AreLinked (links h.steps) x (h.right i)) e (linked_here (links h.steps) (h.right i))))
 
 -- the test of one class
@@ -105,27 +102,23 @@ respects B N n h c y z l = ap (λ (m : ℕ). m == n) (one_number B N h c y z (la
     labels (inr m) = let p = h.link_labels (z, y) m in (p.1, p.0)
 
 -- ---- the tests of ends
-is_false : (b : Bool) → (b ≡ true → ⊥) → b ≡ false
-is_false true h = absurd (h refl)
-is_false false h = refl
-
 is_true : (v p : GridPoint) → p ≡ v → is_point v p ≡ true
 is_true v p e = subst (λ (x : GridPoint). is_point v x ≡ true) (sym e) (is_point-itself v)
 
-tests_of : (B : List GridSegment) (v : GridPoint) (h : HasSweep B) → v.y < 2 ^ 28
-    → AreTests (length B) (sheared_number B) (sheared_point (2 ^ 28) v) (λ i. is_point v (numbered B i).a)
+tests_of : (B : List GridSegment) (v : GridPoint) (h : HasSweep B) → v.y < grid_side
+    → AreTests (length B) (sheared_number B) (sheared_point grid_side v) (λ i. is_point v (numbered B i).a)
     (λ i. is_point v (numbered B i).b)
 tests_of B v h low = record {
   at_a = λ i hi e. is_true v (numbered B i).a
-      (one_point (2 ^ 28) (numbered B i).a v (end_below (2 ^ 28) B (numbered B i) (numbered B i).a h.sweep.realm (numbered_in B i hi)
+      (one_point grid_side (numbered B i).a v (end_below grid_side B (numbered B i) (numbered B i).a h.sweep.realm (numbered_in B i hi)
       (inl refl)) low (ap (λ (p : GridPoint). p.x) e));
   off_a = λ i hi off. is_false _ (λ t. off
-      (ap (λ (p : GridPoint). sheared_point (2 ^ 28) p) (sym (is_point-same v (numbered B i).a t))));
+      (ap (λ (p : GridPoint). sheared_point grid_side p) (sym (is_point-same v (numbered B i).a t))));
   at_b = λ i hi e. is_true v (numbered B i).b
-      (one_point (2 ^ 28) (numbered B i).b v (end_below (2 ^ 28) B (numbered B i) (numbered B i).b h.sweep.realm (numbered_in B i hi)
+      (one_point grid_side (numbered B i).b v (end_below grid_side B (numbered B i) (numbered B i).b h.sweep.realm (numbered_in B i hi)
       (inr refl)) low (ap (λ (p : GridPoint). p.x) e));
   off_b = λ i hi off. is_false _ (λ t. off
-      (ap (λ (p : GridPoint). sheared_point (2 ^ 28) p) (sym (is_point-same v (numbered B i).b t))));
+      (ap (λ (p : GridPoint). sheared_point grid_side p) (sym (is_point-same v (numbered B i).b t))));
 }
 
 -- v is an end of one of the first k segments, or of none of them
@@ -158,10 +151,10 @@ balanced : (B : List GridSegment) (N : List SideClasses) (n : ℕ) (v : GridPoin
     (λ i. is_point v (numbered B i).b)
 balanced B N n v h c = elim (some_end B v (length B)) [
   | inl e ↦
-      balanced_end (map (sheared (2 ^ 28)) B) (length B) (sheared_number B) (links h.steps) h.right (is_class N n)
-      (λ i. is_point v (numbered B i).a) (λ i. is_point v (numbered B i).b) (sheared_point (2 ^ 28) v) e.0
-      (position (2 ^ 28) B h.sweep.realm) (respects B N n h c)
-      (tests_of B v h (end_below (2 ^ 28) B (numbered B e.0) v h.sweep.realm (numbered_in B e.0 e.1) e.2)) e.1
+      balanced_end (map (sheared grid_side) B) (length B) (sheared_number B) (links h.steps) h.right (is_class N n)
+      (λ i. is_point v (numbered B i).a) (λ i. is_point v (numbered B i).b) (sheared_point grid_side v) e.0
+      (position grid_side B h.sweep.realm) (respects B N n h c)
+      (tests_of B v h (end_below grid_side B (numbered B e.0) v h.sweep.realm (numbered_in B e.0 e.1) e.2)) e.1
       (sheared_end v (numbered B e.0) e.2) None [] h.steps h.sweep.walk (all_among h.steps (links h.steps) (λ y z m. m)) h.sweep.rights
       tt tt
   | inr none ↦
@@ -179,9 +172,9 @@ balanced B N n v h c = elim (some_end B v (length B)) [
       )
 ]
   where
-    sheared_end : (v : GridPoint) (s : GridSegment) → IsEnd v s → IsEnd (sheared_point (2 ^ 28) v) (sheared (2 ^ 28) s)
-    sheared_end v s (inl e) = inl (ap (λ (p : GridPoint). sheared_point (2 ^ 28) p) e)
-    sheared_end v s (inr e) = inr (ap (λ (p : GridPoint). sheared_point (2 ^ 28) p) e)
+    sheared_end : (v : GridPoint) (s : GridSegment) → IsEnd v s → IsEnd (sheared_point grid_side v) (sheared grid_side s)
+    sheared_end v s (inl e) = inl (ap (λ (p : GridPoint). sheared_point grid_side p) e)
+    sheared_end v s (inr e) = inr (ap (λ (p : GridPoint). sheared_point grid_side p) e)
 
 pub turns_whole : (B : List GridSegment) (N : List SideClasses) (n : ℕ) (v : GridPoint) → AreOfRealm B → AreClassNumbers B N
     → departures v (class_links n B N) ≡ arrivals v (class_links n B N)

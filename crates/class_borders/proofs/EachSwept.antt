@@ -1,5 +1,6 @@
 -- This file shows that the segments of each realm are swept.
-use Rattle.std.proofs.Common.{◌≡◌, ◌⊎◌, ℕ, ◌+◌, ◌*◌, ◌^◌, ◌<◌, List, [], map, length, Contains, refl, ap, arith, inl, inr}
+use Rattle.std.proofs.Common.{◌≡◌, ◌⊎◌, ℕ, ◌+◌, ◌*◌, ◌<◌, List, [], map, length, Contains, refl, ap, arith, inl, inr}
+use Rattle.grid_base.specs.Grid.{grid_side}
 use Rattle.grid_base.specs.Point.{GridPoint}
 use Rattle.grid_base.specs.Segment.{GridSegment, IsEnd}
 use Rattle.plane_classes.specs.Shear.{sheared}
@@ -16,7 +17,7 @@ use Rattle.class_borders.proofs.RightLabels.{IsLabel, right_in, have_rights, rig
 pub record HasSweep (B : List GridSegment) : Type 0 where
   pub steps : List Step
   pub right : ℕ → ℕ
-  pub sweep : IsRealmSweep (2 ^ 28) B steps right
+  pub sweep : IsRealmSweep grid_side B steps right
   pub right_labels : (i : ℕ) → IsLabel (length B) (right i)
   pub link_labels : (l : ℕ × ℕ) → Contains (links steps) l → IsLabel (length B) l.0 × IsLabel (length B) l.1
 
@@ -24,7 +25,7 @@ end_within : (a b c D : ℕ) → a < b → b < D → (c ≡ a) ⊎ (c ≡ b) →
 end_within a b c D h k (inl e) = omega (arith, h, k, e)
 end_within a b c D h k (inr e) = omega (arith, h, k, e)
 
-walk_has : (B : List GridSegment) → IsRealmBelow (2 ^ 28) B → IsWalked (length B) (sheared_number B) None [] → HasSweep B
+walk_has : (B : List GridSegment) → IsRealmBelow grid_side B → IsWalked (length B) (sheared_number B) None [] → HasSweep B
 walk_has B r w = record {
   steps = w.steps;
   right = right_in w.steps;
@@ -40,12 +41,12 @@ walk_has B r w = record {
 pub has_sweep : (B : List GridSegment) → AreOfRealm B → HasSweep B
 has_sweep B realm =
     let r = realm_below B realm in
-    let P = position (2 ^ 28) B r in
+    let P = position grid_side B r in
     walk_has B r
-    (walked (map (sheared (2 ^ 28)) B) (length B) (sheared_number B) P (λ i j hi hj e f. once_sheared B i j realm hi hj e f)
-    (2 ^ 28 * 2 ^ 28) None [] (first_here (length B) (sheared_number B))
-    (λ p m. end_within (sheared_number B m.0).a.x (sheared_number B m.0).b.x p.x (2 ^ 28 * 2 ^ 28) (P.slanted m.0 m.1)
-    (within (2 ^ 28) B r m.0 m.1) (end_x (sheared_number B m.0) p m.2)))
+    (walked (map (sheared grid_side) B) (length B) (sheared_number B) P (λ i j hi hj e f. once_sheared B i j realm hi hj e f)
+    (grid_side * grid_side) None [] (first_here (length B) (sheared_number B))
+    (λ p m. end_within (sheared_number B m.0).a.x (sheared_number B m.0).b.x p.x (grid_side * grid_side) (P.slanted m.0 m.1)
+    (within grid_side B r m.0 m.1) (end_x (sheared_number B m.0) p m.2)))
   where
     end_x : (s : GridSegment) (v : GridPoint) → IsEnd v s → (v.x ≡ s.a.x) ⊎ (v.x ≡ s.b.x)
     end_x s v (inl e) = inl (ap (λ (p : GridPoint). p.x) e)

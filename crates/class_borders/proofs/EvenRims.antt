@@ -16,6 +16,7 @@ use Rattle.plane_cells.specs.Numbered.{numbered}
 use Rattle.plane_cells.specs.Sheared.{AreOfRealm}
 use Rattle.plane_cells.specs.ClassNumbers.{AreClassNumbers}
 use Rattle.plane_cells.specs.declared.classes.SideClasses.{SideClasses}
+use Rattle.plane_cells.proofs.RimCounts.{rest_ascends, first_before}
 use Rattle.class_borders.specs.ClassLinks.{is_left_alone, is_right_alone, class_links, class_rim, departures, arrivals}
 use Rattle.class_borders.proofs.Tallies.{one}
 use Rattle.class_borders.proofs.LinkCounts.{numbers_at}
@@ -98,13 +99,6 @@ rim_part n (t ∷ B) (k ∷ N) s here =
       | inr later ↦ Contains-later t B s (rim_part n B N s later)
     ])
     (λ e m. Contains-later t B s (rim_part n B N s m)) here
-
-first_before : (s : GridSegment) (B : List GridSegment) (t : GridSegment) → AllPairs IsSegmentBefore (s ∷ B) → Contains B t
-    → IsSegmentBefore s t
-first_before s B t up there = subst (IsSegmentBefore s) there.2 (up 0 (suc there.0) t (omega arith) (omega (arith, there.1)))
-
-rest_ascends : (s : GridSegment) (B : List GridSegment) → AllPairs IsSegmentBefore (s ∷ B) → AllPairs IsSegmentBefore B
-rest_ascends s B up i j d before within = up (suc i) (suc j) d (omega arith) (omega arith)
 
 pub rim_ascends : (n : ℕ) (B : List GridSegment) (N : List SideClasses) → AllPairs IsSegmentBefore B
     → AllPairs IsSegmentBefore (class_rim n B N)

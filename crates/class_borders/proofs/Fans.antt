@@ -7,8 +7,8 @@ use Rattle.grid_base.proofs.Signs.{sign}
 use Rattle.grid_base.proofs.Ends.{same_or_not}
 use Rattle.plane_cells.specs.Order.{at_point}
 use Rattle.plane_cells.specs.Steps.{In, Each, Pairs}
-use Rattle.plane_cells.specs.Walks.{Position}
-use Rattle.plane_cells.proofs.Lists.{each_map, each_in}
+use Rattle.plane_cells.proofs.Walks.{Position}
+use Rattle.plane_cells.proofs.Lists.{each_map, each_in, each_at}
 use Rattle.plane_cells.proofs.Angles.{angle_turned, angle_joined, not_on_one_line}
 
 -- no two numbers stand for one segment
@@ -55,11 +55,6 @@ turns_put : (seg : ℕ → GridSegment) (i j k : ℕ) (F : List ℕ) → TurnsTo
 turns_put seg i j k F t h (inl e) = subst (TurnsTo seg j) (sym e) t
 turns_put seg i j k F t h (inr m) = h k m
 
-each_has : (P : ℕ → Type 0) (A : List ℕ) (i : ℕ) → Each P A → In i A → P i
-each_has P [] i h m = absurd m
-each_has P (j ∷ A) i h (inl e) = subst P (sym e) h.0
-each_has P (j ∷ A) i h (inr m) = each_has P A i h.1 m
-
 put : (B : List GridSegment) (n : ℕ) (seg : ℕ → GridSegment) (v : GridPoint) (i : ℕ) (F : List ℕ) → Position B n seg → IsOnce n seg
     → BeginsAt n seg v i → Each (λ j. i ≡ j → ⊥) F → Each (BeginsAt n seg v) F → Pairs (TurnsTo seg) F → (G : List ℕ) × IsPut seg i F G
 put B n seg v i [] P once bi d b s = (i ∷ [], record { from = λ j m. m; to = λ j m. m; fan = (tt, tt) })
@@ -79,7 +74,7 @@ put B n seg v i (j ∷ F) P once bi d b s = elim (sign (side_number_at (seg j) (
             to = λ k m. in_of_two i j k F rest.0 (rest.1.to k) m;
             fan = (
               each_from (TurnsTo seg j) rest.0
-                  (λ k m. turns_put seg i j k F more (λ m' a. each_has (TurnsTo seg j) F m' s.0 a) (rest.1.from k m)),
+                  (λ k m. turns_put seg i j k F more (λ m' a. each_at (TurnsTo seg j) F m' s.0 a) (rest.1.from k m)),
               rest.1.fan,
             );
           },

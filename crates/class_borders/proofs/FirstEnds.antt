@@ -2,6 +2,7 @@
 use Rattle.std.proofs.Common.{◌≡◌, ◌⊎◌, ℕ, zero, suc, ◌<◌, ◌≤◌, refl, sym, subst, arith, inl, inr}
 use Rattle.grid_base.specs.Point.{GridPoint}
 use Rattle.grid_base.specs.Segment.{GridSegment, IsEnd}
+use Rattle.grid_base.proofs.Signs.{natural_order}
 use Rattle.plane_cells.specs.Walks.{Bound, None, Wall, IfWall, HasWall}
 
 -- the points of Q have a first one behind the wall, or none is behind it
@@ -10,12 +11,9 @@ pub data IsSought (Q : GridPoint → Type 0) (lo : Bound) : Type 0 where
   FirstBehind : (v : GridPoint) → Q v → IfWall (λ c. c < v.x) lo → ((p : GridPoint) → Q p → HasWall (λ c. p.x ≤ c) lo ⊎ (v.x ≤ p.x))
       → IsSought Q lo
 
-le_or : (m n : ℕ) → (m ≤ n) ⊎ (n < m)
-le_or m n = grind arith
-
 behind_or : (lo : Bound) (x : ℕ) → HasWall (λ c. x ≤ c) lo ⊎ IfWall (λ c. c < x) lo
 behind_or None x = inr tt
-behind_or (Wall c) x = le_or x c
+behind_or (Wall c) x = natural_order x c
 
 -- one point more
 with_one : (Q : GridPoint → Type 0) (lo : Bound) (r : GridPoint) → IsSought Q lo → IsSought (λ p. (p ≡ r) ⊎ Q p) lo
@@ -27,7 +25,7 @@ with_one Q lo r (NoneBehind h) = elim (behind_or lo r.x) [
 with_one Q lo r (FirstBehind v m l h) = elim (behind_or lo r.x) [
   | inl past ↦ FirstBehind v (inr m) l
       (λ p q. elim q [ inl e ↦ inl (subst (λ (u : GridPoint). HasWall (λ c. u.x ≤ c) lo) (sym e) past) | inr k ↦ h p k ])
-  | inr is ↦ elim (le_or v.x r.x) [
+  | inr is ↦ elim (natural_order v.x r.x) [
     | inl first ↦ FirstBehind v (inr m) l
         (λ p q. elim q [ inl e ↦ inr (subst (λ (u : GridPoint). v.x ≤ u.x) (sym e) first) | inr k ↦ h p k ])
     | inr sooner ↦ FirstBehind r (inl refl) is

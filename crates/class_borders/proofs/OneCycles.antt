@@ -1,5 +1,5 @@
 -- This file shows that the border between two classes is cut into one cycle.
-use Rattle.std.proofs.Common.{◌≡◌, ◌⊎◌, ℕ, ◌+◌, ◌*◌, ◌<◌, Bool, true, false, cond, ◌&&◌, ◌||◌, List, [], ◌∷◌, ◌++◌, map}
+use Rattle.std.proofs.Common.{◌≡◌, ◌⊎◌, ℕ, ◌+◌, ◌*◌, ◌<◌, Bool, true, false, cond, ◌&&◌, List, [], ◌∷◌, ◌++◌, map}
 use Rattle.std.proofs.Common.{Contains, refl, sym, ap, ap₂, subst, ◌∙◌, arith, inl, inr}
 use Rattle.std.proofs.lemmas.List.Sums.{sum_by-cons}
 use Rattle.std.proofs.lemmas.List.Elements.{All-head, All-tail}
@@ -8,6 +8,7 @@ use Rattle.grid_base.specs.Segment.{GridSegment, segment_of}
 use Rattle.grid_base.specs.Plane.{Place}
 use Rattle.grid_base.proofs.Orders.{is_segment, is_segment-same, is_segment-itself, is_point-same, is_point-itself}
 use Rattle.grid_base.proofs.Elements.{Contains-here, Contains-later, Contains-cases, Contains-nil}
+use Rattle.grid_base.proofs.Booleans.{one_true, both_true, either_true}
 use Rattle.plane_classes.specs.Classes.{AreInOneClass, AreAcross}
 use Rattle.plane_classes.proofs.ClassLemmas.{one_class_back, one_class_joined}
 use Rattle.plane_classes.proofs.Parities.{xor, par, xor_comm, xor_right_none, ends_with, HasPairedEnds}
@@ -78,19 +79,6 @@ alike true c f g = sym (f refl)
 alike false true f g = g refl
 alike false false f g = refl
 
-one_of : (b c : Bool) → (b || c) ≡ true → (b ≡ true) ⊎ (c ≡ true)
-one_of true c h = inl refl
-one_of false c h = inr h
-
-both_true : (b c : Bool) → (b && c) ≡ true → (b ≡ true) × (c ≡ true)
-both_true true c h = (refl, h)
-both_true false c h = cc
-
-either : (b c : Bool) → (b ≡ true) ⊎ (c ≡ true) → (b || c) ≡ true
-either true c h = refl
-either false c (inl h) = cc
-either false c (inr h) = h
-
 both_are : (b c : Bool) → b ≡ true → c ≡ true → (b && c) ≡ true
 both_are b c e f = cc
 
@@ -98,11 +86,11 @@ points_same : (p q : GridPoint) → p ≡ q → is_point p q ≡ true
 points_same p q e = subst (λ (x : GridPoint). is_point p x ≡ true) e (is_point-itself p)
 
 joins_by : (p q : GridPoint) (l : Link) → ((l.from ≡ p) × (l.to ≡ q)) ⊎ ((l.from ≡ q) × (l.to ≡ p)) → joins p q l ≡ true
-joins_by p q l (inl h) = either _ _ (inl (both_are _ _ (points_same l.from p h.0) (points_same l.to q h.1)))
-joins_by p q l (inr h) = either _ _ (inr (both_are _ _ (points_same l.from q h.0) (points_same l.to p h.1)))
+joins_by p q l (inl h) = either_true _ _ (inl (both_are _ _ (points_same l.from p h.0) (points_same l.to q h.1)))
+joins_by p q l (inr h) = either_true _ _ (inr (both_are _ _ (points_same l.from q h.0) (points_same l.to p h.1)))
 
 pub by_joins : (p q : GridPoint) (l : Link) → joins p q l ≡ true → ((l.from ≡ p) × (l.to ≡ q)) ⊎ ((l.from ≡ q) × (l.to ≡ p))
-by_joins p q l h = elim (one_of (is_point l.from p && is_point l.to q) (is_point l.from q && is_point l.to p) h) [
+by_joins p q l h = elim (one_true (is_point l.from p && is_point l.to q) (is_point l.from q && is_point l.to p) h) [
   | inl a ↦ let r = both_true (is_point l.from p) (is_point l.to q) a in inl (is_point-same l.from p r.0, is_point-same l.to q r.1)
   | inr a ↦ let r = both_true (is_point l.from q) (is_point l.to p) a in inr (is_point-same l.from q r.0, is_point-same l.to p r.1)
 ]

@@ -5,6 +5,8 @@ use Rattle.std.proofs.lemmas.List.Elements.{Contains-get_or}
 use Rattle.grid_base.specs.Point.{GridPoint, IsBefore}
 use Rattle.grid_base.specs.Segment.{GridSegment}
 use Rattle.grid_base.proofs.Elements.{Contains-here}
+use Rattle.grid_base.proofs.Orders.{IsBefore-asym}
+use Rattle.grid_base.proofs.Collinear.{same_segment}
 use Rattle.r_cycles.specs.Cycles.{Link, link, links, round, IsCycle}
 use Rattle.plane_cells.specs.Numbered.{numbered}
 use Rattle.plane_cells.specs.Sheared.{AreOfRealm}
@@ -18,12 +20,6 @@ use Rattle.class_borders.proofs.ClassTurns.{turns_whole}
 use Rattle.class_borders.proofs.EvenRims.{IsAlong, link_along}
 use Rattle.class_borders.proofs.Aligned.{AreAlong, GoesWith, With, Against, goes_along}
 
-not_both_ways : (p q : GridPoint) → IsBefore p q → IsBefore q p → ⊥
-not_both_ways p q (inl h) (inl k) = omega (arith, h, k)
-not_both_ways p q (inl h) (inr k) = omega (arith, h, k.0)
-not_both_ways p q (inr h) (inl k) = omega (arith, h.0, k)
-not_both_ways p q (inr h) (inr k) = omega (arith, h.1, k.1)
-
 not_both_sides : (l r : Bool) → (l && not r) ≡ true → (r && not l) ≡ true → ⊥
 not_both_sides true true h k = cc
 not_both_sides true false h k = cc
@@ -31,15 +27,12 @@ not_both_sides false r h k = cc
 
 -- two segments that lead from one end to another, both from the lesser or one from each
 turned_round : (s t : GridSegment) (l : Link) → IsBefore s.a s.b → IsBefore t.a t.b → l ≡ link s.a s.b → back l ≡ link t.a t.b → ⊥
-turned_round s t l o p e f = not_both_ways s.a s.b o
+turned_round s t l o p e f = IsBefore-asym s.a s.b o
     (subst (λ (v : GridPoint). IsBefore v s.a) (sym (ap (λ (k : Link). k.from) f) ∙ ap (λ (k : Link). k.to) e)
     (subst (λ (v : GridPoint). IsBefore t.a v) (sym (ap (λ (k : Link). k.to) f) ∙ ap (λ (k : Link). k.from) e) p))
 
-one_segment : (s t : GridSegment) → s.a ≡ t.a → s.b ≡ t.b → s ≡ t
-one_segment s t e f = ap (λ (p : GridPoint). record { a = p; b = s.b }) e ∙ ap (λ (p : GridPoint). record { a = t.a; b = p }) f
-
-same_segment : (s t : GridSegment) (l : Link) → l ≡ link s.a s.b → back l ≡ link t.b t.a → s ≡ t
-same_segment s t l e f = one_segment s t
+segment_of_link : (s t : GridSegment) (l : Link) → l ≡ link s.a s.b → back l ≡ link t.b t.a → s ≡ t
+segment_of_link s t l e f = same_segment s t
     (sym (ap (λ (k : Link). k.from) e) ∙ ap (λ (k : Link). k.to) f) (sym (ap (λ (k : Link). k.to) e) ∙ ap (λ (k : Link). k.from) f)
 
 pub one_way : (B : List GridSegment) (N : List SideClasses) (n : ℕ) (l : Link) → AreOfRealm B → Contains (class_links n B N) l
@@ -70,8 +63,8 @@ one_way B N n l realm there again = by (link_along n B N l there) (link_along n 
             → ((is_left_alone n (numbers_at N b.place) ≡ true) × (back l ≡ link t.a t.b))
             ⊎ ((is_right_alone n (numbers_at N b.place) ≡ true) × (back l ≡ link t.b t.a)) → ⊥
         ways (inl x) (inl y) = turned_round s t l (order a.place a.within) (order b.place b.within) x.1 y.1
-        ways (inl x) (inr y) = twice a.place b.place a.within b.within (same_segment s t l x.1 y.1) x.0 y.0
-        ways (inr x) (inl y) = twice b.place a.place b.within a.within (same_segment t s (back l) y.1 x.1) y.0 x.0
+        ways (inl x) (inr y) = twice a.place b.place a.within b.within (segment_of_link s t l x.1 y.1) x.0 y.0
+        ways (inr x) (inl y) = twice b.place a.place b.within a.within (segment_of_link t s (back l) y.1 x.1) y.0 x.0
         ways (inr x) (inr y) = turned_round t s l (order b.place b.within) (order a.place a.within) (ap back y.1) (ap back x.1)
 
 -- ---- a cycle along the links of a class

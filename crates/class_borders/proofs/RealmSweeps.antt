@@ -3,7 +3,8 @@ use Rattle.std.proofs.Common.{◌≡◌, ◌⊎◌, ℕ, zero, suc, ◌+◌, ◌
 use Rattle.grid_base.specs.Point.{GridPoint}
 use Rattle.grid_base.specs.Segment.{GridSegment}
 use Rattle.plane_cells.specs.Steps.{Step, before, after}
-use Rattle.plane_cells.specs.Walks.{Position, Bound, None, Wall, IfWall, HasWall, IsStatus, IsStep, Walk, IsHere, IsNextVertex, IsTurn}
+use Rattle.plane_cells.specs.Walks.{Bound, None, Wall, IfWall, HasWall, IsStatus, IsStep, Walk, IsHere}
+use Rattle.plane_cells.proofs.Walks.{Position, IsNextVertex, IsTurn}
 use Rattle.plane_cells.proofs.Statuses.{slab_status}
 use Rattle.plane_cells.proofs.Chains.{last_status}
 use Rattle.plane_cells.proofs.Next.{here_behind}

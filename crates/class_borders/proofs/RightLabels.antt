@@ -12,6 +12,7 @@ use Rattle.plane_cells.proofs.Lists.{each_at, each_joined}
 use Rattle.plane_cells.proofs.Statuses.{pairs_left, pairs_right}
 use Rattle.plane_cells.proofs.Complete.{walk_status, step_numbers}
 use Rattle.plane_cells.proofs.ColumnParity.{distinct}
+use Rattle.plane_cells.proofs.StatusCounts.{same_yes, same_no}
 
 -- ---- the label under i in a list, d being that under the first
 abbrev pub looked_up : ℕ → List ℕ → ℕ → ℕ → ℕ
@@ -22,12 +23,6 @@ looked_up d (j ∷ l) i e = if i == j then d else looked_up (suc j) l i e
 abbrev pub right_in : List Step → ℕ → ℕ
 right_in [] i = 0
 right_in (k ∷ steps) i = looked_up (label_over 0 k.below) k.begins i (right_in steps i)
-
-same_yes : (k : ℕ) → (k == k) ≡ true
-same_yes k = grind arith
-
-same_no : (i k : ℕ) → (i ≡ k → ⊥) → (i == k) ≡ false
-same_no i k h = grind arith
 
 here_is : (d : ℕ) (j : ℕ) (l : List ℕ) (e : ℕ) → looked_up d (j ∷ l) j e ≡ d
 here_is d j l e = rw (same_yes j) refl

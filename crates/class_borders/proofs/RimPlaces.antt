@@ -1,11 +1,13 @@
 -- This file shows that the places of a class are the odd ones of its rim, where it isn't the outer class.
-use Rattle.std.proofs.Common.{◌≡◌, ◌↔◌, ℕ, zero, suc, ◌*◌, ◌^◌, ◌<◌, ◌==◌, Bool, true, false, not, ◌&&◌, ◌||◌, if◌then◌else◌, List, []}
+use Rattle.std.proofs.Common.{◌≡◌, ◌↔◌, ℕ, ◌*◌, ◌<◌, ◌==◌, Bool, true, false, not, ◌&&◌, ◌||◌, if◌then◌else◌, List, []}
 use Rattle.std.proofs.Common.{◌∷◌, map, length, Contains, refl, sym, ap, ◌∙◌, arith}
+use Rattle.grid_base.specs.Grid.{grid_side}
 use Rattle.grid_base.specs.Point.{IsBefore}
 use Rattle.grid_base.specs.Segment.{GridSegment}
 use Rattle.grid_base.specs.Sides.{Side, Left, On, Right}
 use Rattle.grid_base.specs.Plane.{Place, IsFree}
 use Rattle.grid_base.specs.Odd.{Odd}
+use Rattle.grid_base.proofs.Booleans.{same_number, number_itself}
 use Rattle.linked_parts.specs.Parts.{AreLinked}
 use Rattle.linked_parts.proofs.LinkedNumbers.{linked_here, linked_both, linked_back}
 use Rattle.plane_classes.specs.Shear.{sheared, sheared_place}
@@ -15,7 +17,7 @@ use Rattle.plane_classes.proofs.OverTests.{is_over}
 use Rattle.plane_classes.proofs.FewerSegments.{free_of_part}
 use Rattle.plane_classes.proofs.Shears.{free_sheared}
 use Rattle.plane_classes.proofs.ShearedParity.{par_map, parity_sheared}
-use Rattle.plane_cells.specs.Steps.{links, side_label}
+use Rattle.plane_cells.specs.Steps.{links}
 use Rattle.plane_cells.specs.Walks.{None}
 use Rattle.plane_cells.specs.Numbered.{numbered}
 use Rattle.plane_cells.specs.Sheared.{sheared_number, AreOfRealm}
@@ -26,8 +28,10 @@ use Rattle.plane_cells.proofs.ShearedRealm.{IsRealmBelow, position}
 use Rattle.plane_cells.proofs.ShearedSides.{sweep_of, below_of, free_beside, side_of_sweep}
 use Rattle.plane_cells.proofs.Numbered.{IsSweep, IsSideLabel, all_among, side_place, linked_in_class}
 use Rattle.plane_cells.proofs.ColumnChanges.{respected, divides}
-use Rattle.plane_cells.proofs.StatusCounts.{par_below, both}
+use Rattle.plane_cells.proofs.StatusCounts.{par_below, below_alike}
 use Rattle.plane_cells.proofs.ColumnParity.{HasParity, parity_of_place}
+use Rattle.plane_cells.proofs.RimCounts.{below_first}
+use Rattle.plane_cells.proofs.Beside.{side_label}
 use Rattle.class_borders.specs.ClassLinks.{is_left_alone, is_right_alone, class_rim}
 use Rattle.class_borders.proofs.EachSwept.{HasSweep, has_sweep}
 use Rattle.class_borders.proofs.LinkCounts.{numbers_at}
@@ -35,23 +39,6 @@ use Rattle.class_borders.proofs.ClassTurns.{is_class, under_number, respects}
 use Rattle.class_borders.proofs.EvenRims.{is_alone, rim_part, rim_is_even}
 
 -- ---- the segments of a rim, counted
-below_first : (g : ℕ → Bool) (n : ℕ) → par_below g (suc n) ≡ xor (g 0) (par_below (λ i. g (suc i)) n)
-below_first g zero = refl
-below_first g (suc n) = ap (λ (b : Bool). xor (g (suc n)) b) (below_first g n)
-    ∙ swap (g (suc n)) (g 0) (par_below (λ i. g (suc i)) n)
-  where
-    swap : (a b c : Bool) → xor a (xor b c) ≡ xor b (xor a c)
-    swap true true c = refl
-    swap true false true = refl
-    swap true false false = refl
-    swap false true true = refl
-    swap false true false = refl
-    swap false false c = refl
-
-below_alike : (g h : ℕ → Bool) (n : ℕ) → ((i : ℕ) → i < n → g i ≡ h i) → par_below g n ≡ par_below h n
-below_alike g h zero e = refl
-below_alike g h (suc n) e = both _ _ _ _ (e n (omega arith)) (below_alike g h n (λ i l. e i (omega (arith, l))))
-
 par_picked : (l r : Bool) (h : GridSegment → Bool) (s : GridSegment) (R : List GridSegment)
     → par h (if l then s ∷ R else if r then s ∷ R else R) ≡ xor ((l || r) && h s) (par h R)
 par_picked true r h s R = refl
@@ -90,7 +77,7 @@ rim_parity B N n i d q realm c not_outer h lies = counts ∙ same
     C : List GridSegment
     C = class_rim n B N
 
-    r : IsRealmBelow (2 ^ 28) B
+    r : IsRealmBelow grid_side B
     r = h.sweep.realm
 
     f : ℕ → Bool
@@ -100,27 +87,27 @@ rim_parity B N n i d q realm c not_outer h lies = counts ∙ same
     free = free_beside B (numbered B i) d q lies.beside
 
     Q : Place
-    Q = sheared_place (2 ^ 28) q
+    Q = sheared_place grid_side q
 
-    free_Q : IsFree (map (sheared (2 ^ 28)) B) Q
-    free_Q = free_sheared (2 ^ 28) B q r.order r.some free
+    free_Q : IsFree (map (sheared grid_side) B) Q
+    free_Q = free_sheared grid_side B q r.order r.some free
 
-    sweep : IsSweep (map (sheared (2 ^ 28)) B) (length B) (sheared_number B) (2 ^ 28 * 2 ^ 28) h.steps h.right
-    sweep = sweep_of (2 ^ 28) B h.steps h.right h.sweep
+    sweep : IsSweep (map (sheared grid_side) B) (length B) (sheared_number B) (grid_side * grid_side) h.steps h.right
+    sweep = sweep_of grid_side B h.steps h.right h.sweep
 
     hp : HasParity (length B) (sheared_number B) f h.right [] h.steps Q
-    hp = parity_of_place (map (sheared (2 ^ 28)) B) (length B) (sheared_number B) (links h.steps) h.right f Q (position (2 ^ 28) B r) free_Q
+    hp = parity_of_place (map (sheared grid_side) B) (length B) (sheared_number B) (links h.steps) h.right f Q (position grid_side B r) free_Q
         (respects B N n h c) None [] h.steps h.sweep.walk (all_among h.steps (links h.steps) (λ y z m. m)) h.sweep.rights tt tt
         (linked_here (links h.steps) 0)
 
-    own : IsSideLabel (map (sheared (2 ^ 28)) B) (sheared_number B) h.steps h.right i d Q
-    own = side_place (map (sheared (2 ^ 28)) B) (length B) (sheared_number B) (2 ^ 28 * 2 ^ 28) h.steps h.right i d Q sweep lies.within
-        (slanted_of d lies.sided) (side_of_sweep (2 ^ 28) B i d q r lies.within lies.beside)
+    own : IsSideLabel (map (sheared grid_side) B) (sheared_number B) h.steps h.right i d Q
+    own = side_place (map (sheared grid_side) B) (length B) (sheared_number B) (grid_side * grid_side) h.steps h.right i d Q sweep lies.within
+        (slanted_of d lies.sided) (side_of_sweep grid_side B i d q r lies.within lies.beside)
 
     linked : AreLinked (links h.steps) (side_label h.right i d) hp.label
     linked = linked_both (links h.steps) (side_label h.right i d) own.label hp.label own.fits
         (linked_back (links h.steps) hp.label own.label
-        (linked_in_class (map (sheared (2 ^ 28)) B) (length B) (sheared_number B) (2 ^ 28 * 2 ^ 28) h.steps h.right Q own.place hp.label
+        (linked_in_class (map (sheared grid_side) B) (length B) (sheared_number B) (grid_side * grid_side) h.steps h.right Q own.place hp.label
         own.label sweep own.class hp.has own.has))
 
     same : xor (f hp.label) (f 0) ≡ (number_at N i d == n)
@@ -139,25 +126,19 @@ rim_parity B N n i d q realm c not_outer h lies = counts ∙ same
 
     counts : par (is_over q) C ≡ xor (f hp.label) (f 0)
     counts =
-        parity_sheared (2 ^ 28) C q r.some order (λ s m. below_of (2 ^ 28) B r s (rim_part n B N s m))
+        parity_sheared grid_side C q r.some order (λ s m. below_of grid_side B r s (rim_part n B N s m))
         (even_is C order (rim_is_even B N n realm c)) (free_of_part C B q (rim_part n B N) free)
-        ∙ par_map (2 ^ 28) (is_over Q) C ∙ rim_counted n (λ s. is_over Q (sheared (2 ^ 28) s)) B N c.one_each
+        ∙ par_map grid_side (is_over Q) C ∙ rim_counted n (λ s. is_over Q (sheared grid_side s)) B N c.one_each
         ∙ below_alike (λ j. is_alone n (numbers_at N j) && is_over Q (sheared_number B j))
         (λ j. divides f h.right j && is_over Q (sheared_number B j)) (length B)
         (λ j hj. ap (λ (b : Bool). b && is_over Q (sheared_number B j)) (divided j hj))
         ∙ hp.parity
-
-tells : (m n : ℕ) → (m == n) ≡ true → m ≡ n
-tells m n h = grind arith
-
-told : (m n : ℕ) → m ≡ n → (m == n) ≡ true
-told m n h = grind arith
 
 -- what lies beside a segment is odd for the rim of a class exactly where it is of that class
 pub rim_odd : (B : List GridSegment) (N : List SideClasses) (n i : ℕ) (d : Side) (q : Place) → AreOfRealm B → AreClassNumbers B N
     → (n ≡ 0 → ⊥) → LiesBeside B i d q → (number_at N i d ≡ n) ↔ Odd (class_rim n B N) q
 rim_odd B N n i d q realm c not_outer lies =
     let p = rim_parity B N n i d q realm c not_outer (has_sweep B realm) lies in (
-      λ e. is_odd (class_rim n B N) q (p ∙ told (number_at N i d) n e),
-      λ odd. tells (number_at N i d) n (sym p ∙ odd_is (class_rim n B N) q odd),
+      λ e. is_odd (class_rim n B N) q (p ∙ number_itself (number_at N i d) n e),
+      λ odd. same_number (number_at N i d) n (sym p ∙ odd_is (class_rim n B N) q odd),
     )

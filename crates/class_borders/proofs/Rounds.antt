@@ -1,21 +1,22 @@
 -- This file shows that round a vertex as many segments come in as go out, where each has what passes a test on its left alone.
-use Rattle.std.proofs.Common.{◌≡◌, ◌⊎◌, ℕ, suc, ◌+◌, ◌<◌, ◌≤◌, Bool, true, false, not, ◌&&◌, List, [], ◌∷◌, ◌++◌, refl, sym, ap, subst, ◌∙◌}
+use Rattle.std.proofs.Common.{◌≡◌, ℕ, suc, ◌+◌, ◌<◌, Bool, true, false, not, ◌&&◌, List, [], ◌∷◌, ◌++◌, refl, sym, ap, subst, ◌∙◌}
 use Rattle.std.proofs.Common.{arith, inl, inr}
 use Rattle.grid_base.specs.Point.{GridPoint}
 use Rattle.grid_base.specs.Segment.{GridSegment, IsEnd}
+use Rattle.grid_base.proofs.Signs.{three_ways}
 use Rattle.linked_parts.specs.Parts.{Links}
 use Rattle.plane_cells.specs.Order.{IsFurtherDown}
-use Rattle.plane_cells.specs.Steps.{Step, before, after, Each, Pairs, link, label_over, HaveRights}
-use Rattle.plane_cells.specs.Walks.{Position, Bound, None, Wall, IfWall, IsAcross, Lies, Across, Ahead, Past, Walk}
+use Rattle.plane_cells.specs.Steps.{Step, before, after, Pairs, link, label_over, HaveRights}
+use Rattle.plane_cells.specs.Walks.{Bound, None, Wall, IfWall, Walk}
+use Rattle.plane_cells.proofs.Walks.{Position}
 use Rattle.plane_cells.proofs.Labels.{over_joined}
-use Rattle.plane_cells.proofs.Lists.{each_at}
 use Rattle.plane_cells.proofs.Statuses.{pairs_left, pairs_right}
 use Rattle.plane_cells.proofs.AtVertices.{AreNumbers}
 use Rattle.plane_cells.proofs.Beside.{AreRight, AreAmong, right_first, right_last, right_behind}
 use Rattle.plane_cells.proofs.ColumnChanges.{Respects, respected}
 use Rattle.plane_cells.proofs.ColumnParity.{distinct}
 use Rattle.plane_cells.proofs.Complete.{walk_status, step_numbers}
-use Rattle.plane_cells.proofs.EveryEnd.{AreTests, all_begin, all_end}
+use Rattle.plane_cells.proofs.EveryEnd.{AreTests, all_begin, all_end, each_passes, not_before}
 use Rattle.class_borders.proofs.Tallies.{one, tally, tally_below, tallied_where}
 
 -- f holds over segment i and not under it
@@ -54,11 +55,6 @@ round_vertex L right f A E N C h r s e =
   where
     first : (B : List ℕ) → AreRight L right (label_over 0 A) (B ++ C) → AreRight L right (label_over 0 A) B
     first B h = right_first L right (label_over 0 A) B C h
-
-each_passes : (n : ℕ) (P : ℕ → Type 0) (g : ℕ → Bool) (S : List ℕ) → ((i : ℕ) → i < n → P i → g i ≡ true) → Each (λ i. i < n) S
-    → Each P S → Each (λ i. g i ≡ true) S
-each_passes n P g [] h a b = tt
-each_passes n P g (i ∷ S) h a b = (h i a.0 b.0, each_passes n P g S h a.1 b.1)
 
 -- as many come in as go out
 abbrev pub IsBalanced : ℕ → (ℕ → Bool) → (ℕ → Bool) → (ℕ → Bool) → (ℕ → Bool) → Type 0
@@ -101,48 +97,13 @@ balanced_at B n seg L right f ga gb lo status k steps P h t w a r u =
         (λ i l m. t.off_b i l (λ e. m (all_end B n seg lo status k steps i P w l e)))
 
 -- ---- each end is the vertex of a step
-end_column : (s : GridSegment) (v : GridPoint) → s.a.x < s.b.x → IsEnd v s → (s.a.x ≤ v.x) × (v.x ≤ s.b.x)
-end_column s v o (inl e) = let f = ap (λ (p : GridPoint). p.x) e in (omega (arith, f), omega (arith, f, o))
-end_column s v o (inr e) = let f = ap (λ (p : GridPoint). p.x) e in (omega (arith, f, o), omega (arith, f))
-
-crossed : (a b c d v : ℕ) → a ≤ c → d ≤ b → c < v → v < d → (v ≡ a) ⊎ (v ≡ b) → ⊥
-crossed a b c d v h k l m (inl e) = omega (arith, h, k, l, m, e)
-crossed a b c d v h k l m (inr e) = omega (arith, h, k, l, m, e)
-
-end_x : (s : GridSegment) (v : GridPoint) → IsEnd v s → (v.x ≡ s.a.x) ⊎ (v.x ≡ s.b.x)
-end_x s v (inl e) = inl (ap (λ (p : GridPoint). p.x) e)
-end_x s v (inr e) = inr (ap (λ (p : GridPoint). p.x) e)
-
-too_low : (x c v : ℕ) → x ≤ c → c < v → v ≤ x → ⊥
-too_low x c v h k l = omega (arith, h, k, l)
-
--- no end behind the wall lies before the next wall, and none behind the last
-not_before : (n : ℕ) (seg : ℕ → GridSegment) (lo hi : Bound) (status : List ℕ) (v : GridPoint) (i : ℕ) → (seg i).a.x < (seg i).b.x
-    → IsEnd v (seg i) → IfWall (λ c. c < v.x) lo → IfWall (λ e. v.x < e) hi → Each (IsAcross n seg lo hi) status
-    → Lies seg lo hi status i → ⊥
-not_before n seg None hi status v i o e l h a (Across m) = (each_at (IsAcross n seg None hi) status i a m).from
-not_before n seg (Wall c) None status v i o e l h a (Across m) = (each_at (IsAcross n seg (Wall c) None) status i a m).to
-not_before n seg (Wall c) (Wall d) status v i o e l h a (Across m) =
-    let p = each_at (IsAcross n seg (Wall c) (Wall d)) status i a m in
-    crossed (seg i).a.x (seg i).b.x c d v.x p.from p.to l h (end_x (seg i) v e)
-not_before n seg lo None status v i o e l h a (Ahead m) = m
-not_before n seg lo (Wall d) status v i o e l h a (Ahead m) = too_low_2 d (seg i).a.x v.x m h (end_column (seg i) v o e).0
-  where
-    too_low_2 : (d x v : ℕ) → d ≤ x → v < d → x ≤ v → ⊥
-    too_low_2 d x v h k l = omega (arith, h, k, l)
-not_before n seg None hi status v i o e l h a (Past m) = m
-not_before n seg (Wall c) hi status v i o e l h a (Past m) = too_low (seg i).b.x c v.x m l (end_column (seg i) v o e).1
-
-three : (m n : ℕ) → (m < n) ⊎ ((m ≡ n) ⊎ (n < m))
-three m n = grind arith
-
 pub balanced_end : (B : List GridSegment) (n : ℕ) (seg : ℕ → GridSegment) (L : Links) (right : ℕ → ℕ) (f ga gb : ℕ → Bool)
     (v : GridPoint) (i : ℕ) → Position B n seg → Respects L f → AreTests n seg v ga gb → i < n → IsEnd v (seg i)
     → (lo : Bound) (status : List ℕ) (steps : List Step) → Walk n seg lo status steps → AreAmong steps L → HaveRights right steps
     → AreRight L right 0 status → IfWall (λ c. c < v.x) lo → IsBalanced n (rises f right) (falls f right) ga gb
 balanced_end B n seg L right f ga gb v i P h t hi e lo status [] w a r u l =
     absurd (not_before n seg lo None status v i (P.slanted i hi) e l tt w.across (w.others i hi))
-balanced_end B n seg L right f ga gb v i P h t hi e lo status (k ∷ steps) w a r u l = elim (three v.x k.vertex.x) [
+balanced_end B n seg L right f ga gb v i P h t hi e lo status (k ∷ steps) w a r u l = elim (three_ways v.x k.vertex.x) [
   | inl less ↦ absurd (not_before n seg lo (Wall k.vertex.x) status v i (P.slanted i hi) e l less w.3.across (w.3.others i hi))
   | inr o ↦ elim o [
     | inl same ↦

@@ -1,11 +1,13 @@
 -- This file shows that some segment has the outer class on its right.
-use Rattle.std.proofs.Common.{◌≡◌, ℕ, ◌^◌, ◌<◌, List, [], ◌∷◌, ◌++◌, length, refl, sym, ap, ◌∙◌, inl, inr}
+use Rattle.std.proofs.Common.{◌≡◌, ℕ, ◌<◌, List, [], ◌∷◌, ◌++◌, length, refl, sym, ap, ◌∙◌, inl, inr}
+use Rattle.grid_base.specs.Grid.{grid_side}
 use Rattle.grid_base.specs.Segment.{GridSegment}
 use Rattle.grid_base.specs.Sides.{Right}
 use Rattle.plane_classes.specs.Shear.{sheared}
 use Rattle.std.proofs.Common.{map}
 use Rattle.plane_cells.specs.Steps.{Step, In, label_over, HaveRights, HasRights}
-use Rattle.plane_cells.specs.Walks.{Position, None, Lies, Across, Ahead, Past, Walk}
+use Rattle.plane_cells.specs.Walks.{None, Lies, Across, Ahead, Past, Walk}
+use Rattle.plane_cells.proofs.Walks.{Position}
 use Rattle.plane_cells.specs.Sheared.{sheared_number, AreOfRealm}
 use Rattle.plane_cells.specs.ClassNumbers.{number_at, AreClassNumbers}
 use Rattle.plane_cells.specs.declared.classes.SideClasses.{SideClasses}
@@ -64,6 +66,6 @@ some_outer B N realm c some = by (has_sweep B realm)
   where
     by : HasSweep B → (i : ℕ) × (i < length B) × (number_at N i Right ≡ 0)
     by h =
-        let first = first_step (map (sheared (2 ^ 28)) B) (length B) (sheared_number B) h.right h.steps
-        (position (2 ^ 28) B h.sweep.realm) some h.sweep.walk h.sweep.rights in
+        let first = first_step (map (sheared grid_side) B) (length B) (sheared_number B) h.right h.steps
+        (position grid_side B h.sweep.realm) some h.sweep.walk h.sweep.rights in
         (first.0, first.1, sym (under_number B N h c first.0 first.1) ∙ ap (number_of N) first.2)

@@ -4,12 +4,13 @@ use Rattle.std.proofs.lemmas.Int.{ints}
 use Rattle.grid_base.specs.Point.{GridPoint}
 use Rattle.grid_base.specs.Segment.{GridSegment, IsEnd}
 use Rattle.grid_base.specs.Plane.{side_number_at, side_at}
-use Rattle.grid_base.proofs.Signs.{sign}
+use Rattle.grid_base.proofs.Signs.{sign, left_by_sign}
 use Rattle.grid_base.proofs.Ends.{same_or_not}
 use Rattle.plane_cells.specs.Order.{at_point, IsFurtherDown}
 use Rattle.plane_cells.specs.Steps.{Each, Pairs}
-use Rattle.plane_cells.specs.Walks.{Position, Bound, Wall, IfWall, IsAcross}
-use Rattle.plane_cells.proofs.Vertical.{left_by, left_sign}
+use Rattle.plane_cells.specs.Walks.{Bound, Wall, IfWall, IsAcross}
+use Rattle.plane_cells.proofs.Walks.{Position}
+use Rattle.plane_cells.proofs.Vertical.{left_sign}
 use Rattle.plane_cells.proofs.AlongSegments.{left_of_lower}
 use Rattle.plane_cells.proofs.Lists.{each_both}
 use Rattle.plane_cells.proofs.Turning.{vertex_spans}
@@ -42,7 +43,7 @@ below_too : (n : ℕ) (seg : ℕ → GridSegment) (lo : Bound) (v : GridPoint) (
     → IsAcross n seg lo (Wall v.x) i → IsAcross n seg lo (Wall v.x) j → IsFurtherDown seg i j → IsBelow seg v j → IsBelow seg v i
 below_too n seg lo v i j l a b f h =
     left_sign _ (left_of_lower (side_at (seg j) (at_point v)) (side_at (seg i) (at_point v))
-    (f.1 (at_point v) (omega arith) (vertex_spans n seg lo v i l a) (vertex_spans n seg lo v j l b)) (left_by _ h))
+    (f.1 (at_point v) (omega arith) (vertex_spans n seg lo v i l a) (vertex_spans n seg lo v j l b)) (left_by_sign _ h))
 
 none_below : (n : ℕ) (seg : ℕ → GridSegment) (lo : Bound) (v : GridPoint) (i : ℕ) (S : List ℕ) → IfWall (λ c. c < v.x) lo
     → IsAcross n seg lo (Wall v.x) i → Each (IsAcross n seg lo (Wall v.x)) S → Each (IsFurtherDown seg i) S → (IsBelow seg v i → ⊥)

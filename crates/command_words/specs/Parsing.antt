@@ -1,4 +1,5 @@
--- What the parser of command lines is told of the commands, and what its matches tell.
+-- What the parser of command lines is told of the commands, and what its matches tell. No public clause cites
+-- this file.
 use Rattle.std.specs.Prelude.{◌≡◌, ◌≢◌, ◌<◌, ℕ, List, [], ◌∷◌, true, codes, length, slice_index}
 use Rattle.std.specs.Prelude.{Option, Some, MatchOption, if◌then◌else◌}
 use Rattle.std.specs.Prelude.{option_and_then, option_map, bytes_eq}

@@ -19,16 +19,16 @@ IsAllowed Check = Unit {0}
 IsAllowed (Gen lines start) = (lines ≤ 100000) × IsNumber start
 
 -- the words are those of this command
-abbrev pub IsWritten : List (List ℕ) → Word → Type 0
-IsWritten words word = (words ≡ words_of word) × IsAllowed word
+abbrev pub AreWordsOf : List (List ℕ) → Word → Type 0
+AreWordsOf words word = (words ≡ words_of word) × IsAllowed word
 
 -- the words are those of no command
 abbrev pub IsNoCommand : List (List ℕ) → Type 0
-IsNoCommand words = (word : Word) → IsWritten words word → ⊥
+IsNoCommand words = (word : Word) → AreWordsOf words word → ⊥
 
 -- what is found is the command that is written, or nothing where none is
 abbrev pub IsFound : List (List ℕ) → Option Word → Type 0
-IsFound words found = MatchOption found (IsNoCommand words) (IsWritten words)
+IsFound words found = MatchOption found (IsNoCommand words) (AreWordsOf words)
 
 -- the text is that of this number, which is at most so great
 abbrev pub IsNumberText : List ℕ → ℕ → ℕ → Type 0

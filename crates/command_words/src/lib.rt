@@ -5,8 +5,6 @@ mod laws;
 mod numbers;
 mod parsing;
 mod reading;
-#[cfg(test)]
-mod tests;
 mod word;
 
 pub use laws::one_command;

@@ -9,7 +9,7 @@ use Rattle.slab.proofs.SlabLemmas.{Contains-cons_cases}
 use Rattle.slab.specs.Slab as slab
 use Rattle.grid_base.specs.Segment.{GridSegment}
 use Rattle.component_registry.specs.Registry.{Holding, Holdings, holding_of, AddsOwner, DropsOwner}
-use Rattle.component_registry.specs.Kept.{Pieces, Slots, is_segment, held_in, seen_of, IsHeld, IsKept}
+use Rattle.component_registry.specs.Kept.{Pieces, Slots, is_segment, held_in, seen_of, IsHeld, MatchesSlab}
 use Rattle.component_registry.proofs.Lookups.{this_segment_or_other, other_segment}
 use Rattle.component_registry.proofs.Uses.{uses_more, same_registry}
 use Rattle.component_registry.proofs.Seen.{get-seen}
@@ -64,7 +64,7 @@ module _ {S : Type 0} where
   found_here old new s g put t f same at = same_Some g f (sym put.here ∙ ap (held_in new) (sym same) ∙ at)
 
   -- each piece has ascending owners where s has
-  owners_put : (old new : Pieces S) (keys : Slots) (s : GridSegment) (g : Holding) → IsKept old keys → Puts old new s (Some g)
+  owners_put : (old new : Pieces S) (keys : Slots) (s : GridSegment) (g : Holding) → MatchesSlab old keys → Puts old new s (Some g)
       → IsHeld g → (t : GridSegment) (f : Holding) → held_in new t ≡ Some f → IsHeld f
   owners_put old new keys s g kept put held t f at = ⊎_elim
       (λ same. subst IsHeld (found_here old new s g put t f same at) held)
@@ -72,8 +72,8 @@ module _ {S : Type 0} where
       (this_segment_or_other s t)
 
   -- a piece is held otherwise, under its old key
-  pub kept_write : (old new : Pieces S) (keys : Slots) (s : GridSegment) (h g : Holding) → IsKept old keys
-      → held_in old s ≡ Some h → Puts old new s (Some g) → g.key ≡ h.key → IsHeld g → IsKept new keys
+  pub kept_write : (old new : Pieces S) (keys : Slots) (s : GridSegment) (h g : Holding) → MatchesSlab old keys
+      → held_in old s ≡ Some h → Puts old new s (Some g) → g.key ≡ h.key → IsHeld g → MatchesSlab new keys
   kept_write old new keys s h g kept there put key held = record {
     owners = owners_put old new keys s g kept put held;
     stored = λ t f at. ⊎_elim
@@ -92,7 +92,7 @@ module _ {S : Type 0} where
   }
 
   -- a slab with more room
-  pub kept_room : (m : Pieces S) (keys more : Slots) → IsKept m keys → more.slots ≡ keys.slots → IsKept m more
+  pub kept_room : (m : Pieces S) (keys more : Slots) → MatchesSlab m keys → more.slots ≡ keys.slots → MatchesSlab m more
   kept_room m keys more kept same =
       let gets = λ (k : ℕ). ap (λ slots. slice_index_or slots k None) same in record {
         owners = kept.owners;
@@ -101,9 +101,9 @@ module _ {S : Type 0} where
       }
 
   -- a new piece is held under a free key
-  pub kept_insert : (old new : Pieces S) (keys more : Slots) (s : GridSegment) (g : Holding) → IsKept old keys
+  pub kept_insert : (old new : Pieces S) (keys more : Slots) (s : GridSegment) (g : Holding) → MatchesSlab old keys
       → held_in old s ≡ None → slab.get keys g.key ≡ None → Puts old new s (Some g) → slab.Updates keys more g.key (Some s)
-      → IsHeld g → IsKept new more
+      → IsHeld g → MatchesSlab new more
   kept_insert old new keys more s g kept none free put updates held = record {
     owners = owners_put old new keys s g kept put held;
     stored = λ t f at. ⊎_elim
@@ -126,8 +126,8 @@ module _ {S : Type 0} where
   }
 
   -- a piece goes, with its key
-  pub kept_remove : (old new : Pieces S) (keys fewer : Slots) (s : GridSegment) (h : Holding) → IsKept old keys
-      → held_in old s ≡ Some h → Puts old new s None → slab.Updates keys fewer h.key None → IsKept new fewer
+  pub kept_remove : (old new : Pieces S) (keys fewer : Slots) (s : GridSegment) (h : Holding) → MatchesSlab old keys
+      → held_in old s ≡ Some h → Puts old new s None → slab.Updates keys fewer h.key None → MatchesSlab new fewer
   kept_remove old new keys fewer s h kept there put updates = record {
     owners = λ t f at. kept.owners t f (sym (put.others t (stays t f at)) ∙ at);
     stored = λ t f at.

@@ -10,7 +10,7 @@ use Rattle.slab.specs.Slab as slab
 use Rattle.grid_base.specs.Segment.{GridSegment, segment_cmp}
 use Rattle.grid_base.proofs.Orders.{segment_cmp-total}
 use Rattle.component_registry.specs.Registry.{Holding, Holdings, key_of, owners_of, IsSound}
-use Rattle.component_registry.specs.Kept.{Pieces, Slots, is_segment, held_in, seen_of, IsKept}
+use Rattle.component_registry.specs.Kept.{Pieces, Slots, is_segment, held_in, seen_of, MatchesSlab}
 use Rattle.component_registry.proofs.Lookups.{is_segment-ties}
 
 -- a look-up in the list of a map's entries
@@ -43,7 +43,7 @@ module _ {S : Type 0} where
       of_what_is_held (Some h) e = (h, refl, cc)
 
   -- what is kept is sound
-  pub sound_seen : (m : Pieces S) (keys : Slots) → IsKept m keys → IsSound (seen_of m)
+  pub sound_seen : (m : Pieces S) (keys : Slots) → MatchesSlab m keys → IsSound (seen_of m)
   sound_seen m keys kept = record {
     owned = λ s is. grind (arith, get-seen, kept.owners s);
     ascending = λ s. grind (arith, get-seen, kept.owners s);
@@ -57,7 +57,7 @@ module _ {S : Type 0} where
   }
 
   -- the slab has s under k exactly where k is the key of s
-  pub piece_has_key : (m : Pieces S) (keys : Slots) → IsKept m keys → (k : ℕ) (s : GridSegment)
+  pub piece_has_key : (m : Pieces S) (keys : Slots) → MatchesSlab m keys → (k : ℕ) (s : GridSegment)
       → (slab.get keys k ≡ Some s) ↔ (key_of (seen_of m) s ≡ Some k)
   piece_has_key m keys kept k s = (
     λ h. let there = kept.listed k s h in grind (arith, get-seen),
@@ -65,7 +65,7 @@ module _ {S : Type 0} where
   )
 
   -- what is held of the piece under a key is what clauses see of it
-  pub owners_by_key : (m : Pieces S) (keys : Slots) → IsKept m keys → (k : ℕ) (s : GridSegment) (h : Holding)
+  pub owners_by_key : (m : Pieces S) (keys : Slots) → MatchesSlab m keys → (k : ℕ) (s : GridSegment) (h : Holding)
       → slab.get keys k ≡ Some s → held_in m s ≡ Some h → (t : GridSegment) → key_of (seen_of m) t ≡ Some k
       → h.owners ≡ owners_of (seen_of m) t
   owners_by_key m keys kept k s h stored there t is =

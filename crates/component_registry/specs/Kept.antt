@@ -38,7 +38,7 @@ module _ {S : Type 0} where
   seen_of m = map.from_entries m.entries
 
 -- the map has owners of each piece, and the slab has each piece under its key and nothing else
-pub record IsKept {S : Type 0} (m : Pieces S) (keys : Slots) : Type 0 where
+pub record MatchesSlab {S : Type 0} (m : Pieces S) (keys : Slots) : Type 0 where
   pub owners : (s : GridSegment) (h : Holding) → held_in m s ≡ Some h → IsHeld h
   pub stored : (s : GridSegment) (h : Holding) → held_in m s ≡ Some h → slab.get keys h.key ≡ Some s
   pub listed : (k : ℕ) (s : GridSegment) → slab.get keys k ≡ Some s

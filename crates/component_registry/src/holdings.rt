@@ -31,11 +31,11 @@ impl Model for Holdings {
 
     ghost coded = { holdings_code };
 
-    ghost use Rattle.component_registry.specs.Kept.{seen_of, IsKept};
+    ghost use Rattle.component_registry.specs.Kept.{seen_of, MatchesSlab};
 
     ghost view = { λ h. seen_of h.pieces };
 
-    ghost invariant = { λ h. IsKept h.pieces h.keys };
+    ghost invariant = { λ h. MatchesSlab h.pieces h.keys };
 }
 
 impl Holdings {

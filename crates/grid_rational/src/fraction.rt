@@ -1,5 +1,6 @@
 //! Points between the grid points, as fractions.
-ghost use Rattle.std.specs.Prelude.{◌<◌, ◌^◌, pos, ◌<ℤ◌, ◌≤ℤ◌};
+ghost use Rattle.std.specs.Prelude.{◌<◌, ◌*◌, pos, ◌<ℤ◌, ◌≤ℤ◌};
+ghost use Rattle.grid_base.specs.Grid.{side_bound, numerator_bound};
 
 /// The point (x / w, y / w) at which two segments cross, in grid coordinates. A point has many such
 /// fractions, so two of them are compared by products and not by their numbers.
@@ -13,6 +14,6 @@ pub struct Crossing {
     pub w: i128,
     ghost real: { pos 0 <ℤ w },
     ghost from_0: { (pos 0 ≤ℤ x) × (pos 0 ≤ℤ y) },
-    ghost below_2_87: { (x <ℤ pos (2 ^ 87)) × (y <ℤ pos (2 ^ 87)) },
-    ghost below_2_58: { w <ℤ pos (2 ^ 58) },
+    ghost numerators_below: { (x <ℤ pos numerator_bound) × (y <ℤ pos numerator_bound) },
+    ghost weight_below: { w <ℤ pos (2 * side_bound) },
 }

@@ -11,6 +11,3 @@ mod rounding;
 pub use fraction::Crossing;
 pub use laws::{crossing_is_one, meet_point_is_one};
 pub use meeting::{Meet, crossing, meet_point};
-
-#[cfg(test)]
-mod tests;

@@ -7,7 +7,7 @@ ghost use Rattle.grid_rational.specs.Fraction.{IsFraction};
 ghost use Rattle.grid_rational.specs.Meeting.{CrossAtCorner, IsMeeting, IsCorner};
 
 use crate::fraction::Crossing;
-use crate::place::{Place, fraction_of, place_of};
+use crate::place::{RationalPlace, fraction_of, place_of};
 use crate::rounding::{at_centre, cell_of, diagonal, nearest_point, right_corner, rises};
 use grid_base::{Point, Segment, crosses};
 
@@ -62,7 +62,7 @@ pub fn meet_point(s: &Segment, t: &Segment) -> Meet
 }
 
 // How `s` and `t` meet where they cross at the centre of a cell, `place`.
-fn meeting_at_centre(s: &Segment, t: &Segment, place: &Place) -> Meet
+fn meeting_at_centre(s: &Segment, t: &Segment, place: &RationalPlace) -> Meet
     requires cross { Cross s.now t.now }
     requires place { place.now ≡ crossing_of s.now t.now }
     requires centre { IsTrue (is_centre place.now) }

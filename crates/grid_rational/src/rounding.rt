@@ -1,16 +1,17 @@
 //! Grid points next to a place. Each step of the arithmetic is a function with the bound of its
 //! answer.
-ghost use Rattle.std.specs.Prelude.{◌≡◌, ◌+◌, ◌-◌, ◌*◌, ◌/◌, ◌%◌, ◌<◌, ◌≤◌, ◌^◌, ◌==◌, ◌↔◌, IsTrue};
+ghost use Rattle.std.specs.Prelude.{◌≡◌, ◌+◌, ◌-◌, ◌*◌, ◌/◌, ◌%◌, ◌<◌, ◌≤◌, ◌==◌, ◌↔◌, IsTrue};
+ghost use Rattle.grid_base.specs.Grid.{grid_side, side_bound};
 ghost use Rattle.grid_base.specs.Point.{point_at, IsBefore};
 ghost use Rattle.grid_base.specs.Segment.{is_diagonal};
 ghost use Rattle.grid_base.specs.MeetPoint.{nearest, rounded, is_centre, corner_on, IsCell};
 ghost use Rattle.grid_rational.specs.Meeting.{IsRising};
 
-use crate::place::Place;
+use crate::place::RationalPlace;
 use grid_base::{Point, Segment};
 
 /// The grid point that is nearest to `place`: each coordinate is rounded, and a half is rounded up.
-pub(crate) fn nearest_point(place: &Place) -> Point
+pub(crate) fn nearest_point(place: &RationalPlace) -> Point
     ensures { result ≡ rounded place.now }
 {
     let x = nearest_whole(place.x(), place.w());
@@ -19,14 +20,14 @@ pub(crate) fn nearest_point(place: &Place) -> Point
 }
 
 /// Whether `place` is the centre of a cell of the grid.
-pub(crate) fn at_centre(place: &Place) -> bool
+pub(crate) fn at_centre(place: &RationalPlace) -> bool
     ensures { result ≡ is_centre place.now }
 {
     is_halfway(place.x(), place.w()) && is_halfway(place.y(), place.w())
 }
 
 /// The lower left corner of the cell whose centre is `place`.
-pub(crate) fn cell_of(place: &Place) -> Point
+pub(crate) fn cell_of(place: &RationalPlace) -> Point
     requires centre { IsTrue (is_centre place.now) }
     ensures { IsCell place.now result }
 {
@@ -37,7 +38,7 @@ pub(crate) fn cell_of(place: &Place) -> Point
 
 /// Of the corners of the cell whose centre is `place`, the one on the diagonal `d` with the greater
 /// x.
-pub(crate) fn right_corner(d: &Segment, place: &Place) -> Point
+pub(crate) fn right_corner(d: &Segment, place: &RationalPlace) -> Point
     requires centre { IsTrue (is_centre place.now) }
     ensures { result ≡ corner_on d.now place.now }
 {
@@ -68,10 +69,10 @@ pub(crate) fn rises(s: &Segment) -> bool
 // n / w, where a half is rounded up.
 fn nearest_whole(n: u128, w: u128) -> u32
     requires real { 0 < w }
-    requires below { w < 2 ^ 58 }
-    requires on_grid { n ≤ (2 ^ 28 - 1) * w }
+    requires below { w < 2 * side_bound }
+    requires on_grid { n ≤ (grid_side - 1) * w }
     ensures nearest { result ≡ nearest n w }
-    ensures on_grid { result < 2 ^ 28 }
+    ensures on_grid { result < grid_side }
 {
     ((2 * n + w) / (2 * w)) as u32
 }
@@ -79,9 +80,9 @@ fn nearest_whole(n: u128, w: u128) -> u32
 // n / w without its fraction.
 fn whole_part(n: u128, w: u128) -> u32
     requires real { 0 < w }
-    requires on_grid { n ≤ (2 ^ 28 - 1) * w }
+    requires on_grid { n ≤ (grid_side - 1) * w }
     ensures whole { result ≡ n / w }
-    ensures on_grid { result < 2 ^ 28 }
+    ensures on_grid { result < grid_side }
 {
     (n / w) as u32
 }
@@ -89,10 +90,10 @@ fn whole_part(n: u128, w: u128) -> u32
 // The whole number above n / w, which lies halfway between two.
 fn next_whole(n: u128, w: u128) -> u32
     requires real { 0 < w }
-    requires on_grid { n ≤ (2 ^ 28 - 1) * w }
+    requires on_grid { n ≤ (grid_side - 1) * w }
     requires halfway { 2 * (n % w) ≡ w }
     ensures next { result ≡ n / w + 1 }
-    ensures on_grid { result < 2 ^ 28 }
+    ensures on_grid { result < grid_side }
 {
     (n / w + 1) as u32
 }
@@ -100,7 +101,7 @@ fn next_whole(n: u128, w: u128) -> u32
 // Whether n / w lies halfway between two whole numbers.
 fn is_halfway(n: u128, w: u128) -> bool
     requires real { 0 < w }
-    requires below { w < 2 ^ 58 }
+    requires below { w < 2 * side_bound }
     ensures { result ≡ (2 * (n % w) == w) }
 {
     2 * (n % w) == w

@@ -3,7 +3,7 @@
 use Rattle.std.proofs.Common.{◌≡◌, ◌⊎◌, ℕ, ◌+◌, ◌-◌, ◌*◌, ◌<◌, ◌≤◌, ap, arith, inl, inr}
 use Rattle.grid_base.proofs.Turns.{times_le}
 use Rattle.hook_chain.specs.Climbs.{AllSteeperClimb, AllSteeperWithinClimb}
-use Rattle.hook_chain.proofs.Farey.{order}
+use Rattle.grid_base.proofs.Signs.{natural_order}
 use Rattle.hook_chain.proofs.Raised.{IsClear}
 
 -- the piece's two ends, by the line's sums to left and right there, and a margin that neither is farther off than
@@ -64,7 +64,7 @@ pub clear_by_flatter : (dx dy q r left_v right_v left_w right_w margin : ℕ)
     → IsClear dx dy q r left_v right_v
 clear_by_flatter dx dy q r left_v right_v left_w right_w margin span below climb = record {
   near = omega (arith, span.v_within);
-  over = λ b a across steep. elim (order a r) [
+  over = λ b a across steep. elim (natural_order a r) [
     | inl up ↦
         let way = climb (r - a) (q - b) (turned q r b a across up steep) in
         let apart = ends_apart dx dy q r b a across up in

@@ -3,7 +3,7 @@
 use Rattle.std.proofs.Common.{◌≡◌, ℕ, ◌+◌, ◌-◌, ◌*◌, ◌<◌, ◌≤◌, ap, arith, inl, inr}
 use Rattle.grid_base.proofs.Turns.{times, times_le}
 use Rattle.hook_chain.specs.Climbs.{Climbs}
-use Rattle.hook_chain.proofs.Farey.{order}
+use Rattle.grid_base.proofs.Signs.{natural_order}
 
 -- each way climbs that is at least as steep as p / q
 abbrev pub AllFromClimb : ℕ → ℕ → ℕ → ℕ → ℕ → Type 0
@@ -56,7 +56,7 @@ sum_climbs dx dy margin k l p q b a m x y z some_m some_x across up split first 
 -- the upper neighbour goes down by m times the lower one: where it climbs, all steeper ways do
 pub next_climb : (dx dy margin k l p q m : ℕ) → 0 < m → 0 < p → l * p ≡ k * q + 1 → AllFromClimb dx dy margin q p
     → Climbs dx dy margin (q + m * l) (p + m * k) → AllFromClimb dx dy margin (q + m * l) (p + m * k)
-next_climb dx dy margin k l p q m some_m some_p unit all next b a some steep = elim (order (p * b) (a * q)) [
+next_climb dx dy margin k l p q m some_m some_p unit all next b a some steep = elim (natural_order (p * b) (a * q)) [
   | inl before ↦ all b a some before
   | inr between ↦
       let not_low : l * a < k * b → ⊥ = λ low. let gap = times_le (l * a + 1) (k * b) 0 m (omega arith) (omega arith) in omega arith in
@@ -85,7 +85,7 @@ rest_climbs dx dy margin k l p q b a x y z some across up split first forth =
 -- where the sum of the neighbours is the piece's direction, and the piece doesn't fall against the line, all steeper ways climb
 pub all_climb_by : (dx dy margin k l p q : ℕ) → 0 < p → l * p ≡ k * q + 1 → AllFromClimb dx dy margin q p → dy * (l + q) ≤ dx * (k + p)
     → (b a : ℕ) → 0 < a → (k + p) * b < a * (l + q) → Climbs dx dy margin b a
-all_climb_by dx dy margin k l p q some_p unit all forth b a some steep = elim (order (p * b) (a * q)) [
+all_climb_by dx dy margin k l p q some_p unit all forth b a some steep = elim (natural_order (p * b) (a * q)) [
   | inl before ↦ all b a some before
   | inr between ↦
       let sum = sum_of k l p q b a unit (omega arith) (omega arith) in

@@ -9,8 +9,7 @@ use Rattle.grid_base.specs.Segment.{GridSegment}
 use Rattle.grid_base.specs.Sides.{turn, Side, Left, On, Right, opposite, side}
 use Rattle.grid_base.proofs.Turns.{times, times_le, turn_is, left_is, right_is, on_is}
 use Rattle.hook_chain.specs.Chains.{AllLinks}
-use Rattle.hook_chain.specs.Hook.{Hook, IsOnward, IsBetweenPieceAndHook}
-use Rattle.grid_base.specs.Crossing.{IsOn}
+use Rattle.hook_chain.specs.Hook.{Hook, IsOnward, IsBetweenPieceAndHook, HoldsBetween}
 use Rattle.hook_chain.proofs.Axes.{Axis, bend, bend_not_below, turn_back}
 use Rattle.hook_chain.proofs.Paths.{links_map, links_both, leads_on, IsForthAlong, IsWithin, links_within}
 use Rattle.hook_chain.proofs.HookLaw.{a_is_on, b_is_on}
@@ -112,10 +111,6 @@ hook_close t x chain ordered (inr (inr (inr beside))) = subst (λ (l : List Grid
     (sym beside.3) beside.4.no_point_between
 
 -- ---- the points between
--- each point between t and the link is on the link
-abbrev pub HoldsBetween : GridSegment → GridPoint → GridPoint → GridPoint → Type 0
-HoldsBetween t x v w = (p : GridPoint) → IsBetweenPieceAndHook t x v w p → IsOn (record { a = v; b = w }) p
-
 -- a point not beyond a link of a straight hook is on its line
 on_straight : (t : GridSegment) (x v w p : GridPoint) → side t.a t.b x ≡ On → IsBetweenPieceAndHook t x v w p → side v w p ≡ On
 on_straight t x v w p on between = elim between.not_beyond [
@@ -147,7 +142,7 @@ holds_straight : (t : GridSegment) (axis : Axis) (x v w : GridPoint) → Follows
     → HoldsBetween t x v w
 holds_straight t axis x v w follows on forth p between = (follows.beside v w p forth between.beside).2 (on_straight t x v w p on between)
 
-holds_bent : (t : GridSegment) (axis : Axis) (x v w : GridPoint) → Follows t axis → side t.a t.b x ≢ On → IsForthAlong axis v w
+pub holds_bent : (t : GridSegment) (axis : Axis) (x v w : GridPoint) → Follows t axis → side t.a t.b x ≢ On → IsForthAlong axis v w
     → IsWithin axis t.a t.b v w → IsCloseLink t v w → HoldsBetween t x v w
 holds_bent t axis x v w follows off forth within close p between =
     let range = follows.beside v w p forth between.beside in

@@ -11,7 +11,7 @@ use Rattle.grid_base.proofs.Lines.{IsOnLine, line_by}
 use Rattle.grid_base.proofs.Columns.{placed}
 use Rattle.hook_chain.specs.Close.{IsCloseUp, Close}
 use Rattle.grid_base.specs.Segment.{exchanged, exchanged_point}
-use Rattle.hook_chain.proofs.Farey.{order}
+use Rattle.grid_base.proofs.Signs.{natural_order}
 use Rattle.hook_chain.proofs.Slanted.{turn_gap}
 use Rattle.hook_chain.proofs.Upright.{grid_place}
 use Rattle.hook_chain.proofs.Exchange.{way, place_back}
@@ -58,7 +58,7 @@ within_step o p g wide from to on close =
     λ some far.
     let step = a_step_down g.y r.place.w (leftward o.a o.b g) (rightward o.a o.b g) r.place.y (omega (arith, r.across)) sides some in
     close (point_at g.x (g.y - 1)) r.place (grid_place g.x g.y) r.is on r.column here (inl (step, omega arith)) in
-    elim (order g.y 0) [
+    elim (natural_order g.y 0) [
       | inl none ↦
           let level : g.y ≡ 0 = omega arith in
           let product = ap (λ (n : ℕ). n * r.place.w) level in

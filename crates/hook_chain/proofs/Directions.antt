@@ -40,6 +40,7 @@ pub record Follows (t : GridSegment) (axis : Axis) : Type 0 where
   pub close : (v w : GridPoint) → IsForthAlong axis v w → AllApart t axis v w → Close t (way v w)
   pub beside : (v w p : GridPoint) → IsForthAlong axis v w → IsBeside t v w p
       → (axis.along v ≤ℤ axis.along p) × (axis.along p ≤ℤ axis.along w) × (side v w p ≡ On → IsOn (way v w) p)
+  pub besides : (v w p : GridPoint) → axis.along v ≤ℤ axis.along p → axis.along p ≤ℤ axis.along w → IsBeside t v w p
   pub inside : (p : GridPoint) → IsOn t p → p ≢ t.a → p ≢ t.b → IsForthAlong axis t.a p × IsForthAlong axis p t.b
   pub between : (v w p : GridPoint) → IsForthAlong axis v w → axis.along v ≤ℤ axis.along p → axis.along p ≤ℤ axis.along w
       → IsBetweenEnds t v w p
@@ -187,6 +188,8 @@ flat_follows t wide flat = record {
           box = (range, rows_by_columns v w p (omega (arith, ints)) (on_is v w p line) (omega (arith, ints)) (omega (arith, ints)));
         },
       );
+  besides = λ v w p from to.
+      let range : IsFromTo v.x w.x p.x = omega (arith, ints, from, to) in transport (sym (flat_beside t v w p flat)) range;
   inside = λ p on not_a not_b.
       let inner = inner_columns t p (omega arith) on not_a not_b in
       let box = on.box in
@@ -248,6 +251,8 @@ rising_follows t high steep rising = record {
           );
         },
       );
+  besides = λ v w p from to.
+      let range : IsFromTo v.y w.y p.y = omega (arith, ints, from, to) in transport (sym (steep_beside t v w p steep)) range;
   inside = λ p on not_a not_b.
       let inner = inner_rows t p (omega arith) on not_a not_b in
       let box = on.box in
@@ -289,6 +294,8 @@ falling_follows t high steep falling = record {
             (omega (arith, ints))
             (omega (arith, ints)) in record { line = line; box = (omega arith, range) },
       );
+  besides = λ v w p from to.
+      let range : IsFromTo v.y w.y p.y = omega (arith, ints, from, to) in transport (sym (steep_beside t v w p steep)) range;
   inside = λ p on not_a not_b.
       let inner = inner_rows t p (omega arith) on not_a not_b in
       let box = on.box in

@@ -14,7 +14,7 @@ use Rattle.hook_chain.specs.Placing.{cross, are_diagonals, placed, seen, side_fo
 use Rattle.hook_chain.specs.Redrawing.{front}
 use Rattle.hook_chain.specs.ValidChain.{IsMonotone}
 use Rattle.hook_chain.proofs.LeastFractions.{HasLeast, has_least}
-use Rattle.hook_chain.proofs.Farey.{order}
+use Rattle.grid_base.proofs.Signs.{natural_order}
 use Rattle.hook_chain.proofs.Walks.{away, IsWalk, begin, go_on, come, further}
 use Rattle.hook_chain.proofs.PieceCharts.{both_charted}
 use Rattle.hook_chain.proofs.HookParts.{IsMonotoneHook, hook_of_walks}
@@ -35,7 +35,7 @@ least_for c d (suc n) some columns = has_least c d n some
 walk_ends : (turns c d : ℕ) (goal z : GridPoint) (path : List GridPoint) → IsGoal c d goal → IsWalk c d goal z path
     → goal.x ≤ z.x + turns → HasPart c d goal
 walk_ends zero c d goal z path is_goal walk left = record { path = path; part = come c d goal z path is_goal walk (omega arith) }
-walk_ends (suc turns) c d goal z path is_goal walk left = elim (order goal.x z.x) [
+walk_ends (suc turns) c d goal z path is_goal walk left = elim (natural_order goal.x z.x) [
   | inl come_to ↦ record { path = path; part = come c d goal z path is_goal walk come_to }
   | inr before ↦
       let proper = is_goal.proper in

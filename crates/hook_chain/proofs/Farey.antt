@@ -1,11 +1,8 @@
 -- Neighbours among fractions.
 use Rattle.std.proofs.Common.{◌≡◌, ◌⊎◌, ℕ, ◌+◌, ◌-◌, ◌*◌, ◌/◌, min, ◌<◌, ◌≤◌, ap, arith}
 use Rattle.grid_base.proofs.Turns.{times, times_le}
+use Rattle.grid_base.proofs.Signs.{natural_order}
 use Rattle.hook_chain.specs.Fractions.{IsLeastAbove}
-
--- one of two numbers is at most the other, or greater
-pub order : (m n : ℕ) → (m ≤ n) ⊎ (n < m)
-order m n = grind arith
 
 -- k / l is below c / d and p / q is not, by what is kept of the distances, and no fraction between them has a small denominator
 pub record AreNeighbours (c d k l p q under over : ℕ) : Type 0 where

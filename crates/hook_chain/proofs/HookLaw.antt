@@ -7,7 +7,7 @@ use Rattle.grid_base.specs.Sides.{On, side}
 use Rattle.grid_base.proofs.Turns.{on_by}
 use Rattle.hook_chain.specs.Hook.{Hook}
 use Rattle.hook_chain.proofs.Paths.{leads_on}
-use Rattle.hook_chain.specs.Chains.{Leads}
+use Rattle.hook_chain.specs.Chains.{RunsFrom}
 use Rattle.hook_chain.proofs.Directions.{followed}
 use Rattle.hook_chain.proofs.BentPaths.{one_bent}
 
@@ -49,12 +49,12 @@ one_hook t x first second ordered (inr (inr (inr beside))) (inr (inr (inr too)))
 
 -- ---- what a hook leads by
 -- a hook leads from end to end
-pub hook_leads : (t : GridSegment) (x : GridPoint) (chain : List GridPoint) → Hook t x chain → Leads t.a t.b chain
-hook_leads t x chain (inl at_a) = subst (λ (l : List GridPoint). Leads t.a t.b l) (sym at_a.1) (refl, (refl, refl))
-hook_leads t x chain (inr (inl at_b)) = subst (λ (l : List GridPoint). Leads t.a t.b l) (sym at_b.1) (refl, (refl, refl))
-hook_leads t x chain (inr (inr (inl on))) = subst (λ (l : List GridPoint). Leads t.a t.b l) (sym on.3) (refl, (refl, (refl, refl)))
+pub hook_leads : (t : GridSegment) (x : GridPoint) (chain : List GridPoint) → Hook t x chain → RunsFrom t.a t.b chain
+hook_leads t x chain (inl at_a) = subst (λ (l : List GridPoint). RunsFrom t.a t.b l) (sym at_a.1) (refl, (refl, refl))
+hook_leads t x chain (inr (inl at_b)) = subst (λ (l : List GridPoint). RunsFrom t.a t.b l) (sym at_b.1) (refl, (refl, refl))
+hook_leads t x chain (inr (inr (inl on))) = subst (λ (l : List GridPoint). RunsFrom t.a t.b l) (sym on.3) (refl, (refl, (refl, refl)))
 hook_leads t x chain (inr (inr (inr beside))) =
-    subst (λ (l : List GridPoint). Leads t.a t.b l) (sym beside.3)
+    subst (λ (l : List GridPoint). RunsFrom t.a t.b l) (sym beside.3)
     (leads_on t.a x t.b beside.1 beside.2 beside.4.leads_to_x beside.4.leads_from_x)
 
 -- and by its point

@@ -3,7 +3,7 @@ use Rattle.std.proofs.Common.{◌≡◌, ◌⊎◌, ℕ, zero, suc, ◌+◌, ◌
 use Rattle.std.proofs.Math.Nat.{lt_of_mul-lt-mul_right}
 use Rattle.grid_base.proofs.Turns.{times, times_le}
 use Rattle.hook_chain.specs.Fractions.{IsLeastAbove}
-use Rattle.hook_chain.proofs.Farey.{order}
+use Rattle.grid_base.proofs.Signs.{natural_order}
 
 -- the least multiple of d that isn't below m, by its factor
 record IsCeiling (m d a : ℕ) : Type 0 where
@@ -55,7 +55,7 @@ with_next c d n a p q top old (inr less) = record {
     some = omega arith;
     within = omega arith;
     above = omega (arith, top.above);
-    least = λ b e some_e at_most above. elim (order e n) [
+    least = λ b e some_e at_most above. elim (natural_order e n) [
       | inl before ↦ (let strict = smaller b e some_e before above in omega arith)
       | inr after ↦
           let last : e ≡ n + 1 = omega arith in
@@ -82,7 +82,7 @@ with_next c d n a p q top old (inl not_less) = record {
     some = old.some;
     within = omega (arith, old.within);
     above = old.above;
-    least = λ b e some_e at_most above. elim (order e n) [
+    least = λ b e some_e at_most above. elim (natural_order e n) [
       | inl before ↦ old.least b e some_e before above
       | inr after ↦
           let last : e ≡ n + 1 = omega arith in
@@ -104,4 +104,4 @@ has_least c d (suc n) some =
     let a = (c * (suc n + 1) + (d - 1)) / d in
     let next : suc n + 1 ≡ suc (suc n) = omega arith in
     subst (λ (k : ℕ). HasLeast c d k) next (with_next c d (suc n) a old.p old.q (ceiling (c * (suc n + 1)) d some) old.is
-    (order (old.p * (suc n + 1)) (a * old.q)))
+    (natural_order (old.p * (suc n + 1)) (a * old.q)))

@@ -38,6 +38,8 @@ pub mod LeastFractions
 pub mod Existence
 -- hooks are close to their pieces
 pub mod CloseHooks
+-- ways that hold the points between
+mod HeldPoints
 -- ways that climb: what a few of them say of all the steeper ones
 mod Climbs
 -- the search along a piece, turn by turn

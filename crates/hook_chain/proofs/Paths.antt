@@ -4,7 +4,7 @@ use Rattle.std.proofs.lemmas.Int.{ints}
 use Rattle.std.proofs.lemmas.List.{reverse-append}
 use Rattle.std.specs.List.{AllByRecursion}
 use Rattle.grid_base.specs.Point.{GridPoint}
-use Rattle.hook_chain.specs.Chains.{AllLinks, AllBends, Leads}
+use Rattle.hook_chain.specs.Chains.{AllLinks, AllBends, RunsFrom}
 use Rattle.hook_chain.specs.Redrawing.{front}
 use Rattle.hook_chain.proofs.Axes.{Axis}
 
@@ -68,8 +68,9 @@ links_from P x (v ∷ []) from all = all.1
 links_from P x (v ∷ w ∷ to) from all = links_from P x (w ∷ to) from all.1
 
 -- a path from a to x and on to b leads from a to b
-pub leads_on : (a x b : GridPoint) (to from : List GridPoint) → Leads a x (to ++ x ∷ []) → Leads x b (x ∷ from) → Leads a b (to ++ x ∷ from)
-leads_on a x b [] from first second = subst (λ (p : GridPoint). Leads p b (x ∷ from)) first.0 second
+pub leads_on : (a x b : GridPoint) (to from : List GridPoint) → RunsFrom a x (to ++ x ∷ []) → RunsFrom x b (x ∷ from)
+    → RunsFrom a b (to ++ x ∷ from)
+leads_on a x b [] from first second = subst (λ (p : GridPoint). RunsFrom p b (x ∷ from)) first.0 second
 leads_on a x b (v ∷ []) from first second = (first.0, second)
 leads_on a x b (v ∷ w ∷ to) from first second = (first.0, leads_on w x b (w ∷ to) from first.1 second)
 
@@ -79,7 +80,7 @@ rest_of [] = []
 rest_of (p ∷ path) = path
 
 -- a path from x is x and the rest
-pub head_and_rest : (x b : GridPoint) (path : List GridPoint) → Leads x b path → x ∷ rest_of path ≡ path
+pub head_and_rest : (x b : GridPoint) (path : List GridPoint) → RunsFrom x b path → x ∷ rest_of path ≡ path
 unfolding rest_of
 head_and_rest x b [] leads = absurd leads
 head_and_rest x b (p ∷ []) leads = ap (λ (q : GridPoint). q ∷ []) (sym leads.0)
@@ -92,7 +93,7 @@ front_pushed (q ∷ []) p = refl
 front_pushed (q ∷ r ∷ path) p = ap (λ (l : List GridPoint). q ∷ l) (front_pushed (r ∷ path) p)
 
 -- a path to x is the path without its last point, and x
-pub front_and_last : (a x : GridPoint) (path : List GridPoint) → Leads a x path → front path ++ x ∷ [] ≡ path
+pub front_and_last : (a x : GridPoint) (path : List GridPoint) → RunsFrom a x path → front path ++ x ∷ [] ≡ path
 front_and_last a x [] leads = absurd leads
 front_and_last a x (p ∷ []) leads = ap (λ (q : GridPoint). q ∷ []) (sym leads.1)
 front_and_last a x (p ∷ q ∷ path) leads = ap (λ (l : List GridPoint). p ∷ l) (front_and_last q x (q ∷ path) leads.1)
@@ -106,7 +107,7 @@ abbrev pub IsWithin : Axis → GridPoint → GridPoint → GridPoint → GridPoi
 IsWithin axis a b v w = (axis.along a ≤ℤ axis.along v) × (axis.along w ≤ℤ axis.along b)
 
 -- a path that leads forth from a to b lies between them
-pub links_within : (axis : Axis) (a b : GridPoint) (path : List GridPoint) → Leads a b path → AllLinks (IsForthAlong axis) path
+pub links_within : (axis : Axis) (a b : GridPoint) (path : List GridPoint) → RunsFrom a b path → AllLinks (IsForthAlong axis) path
     → AllLinks (IsWithin axis a b) path
 links_within axis a b [] leads forth = tt
 links_within axis a b (v ∷ []) leads forth = tt
@@ -124,7 +125,7 @@ links_within axis a b (v ∷ w ∷ z ∷ path) leads forth =
 
 -- ---- one vertex more
 -- a path to z, and on to n
-pub leads_push : (a z n : GridPoint) (path : List GridPoint) → Leads a z path → Leads a n (path ++ n ∷ [])
+pub leads_push : (a z n : GridPoint) (path : List GridPoint) → RunsFrom a z path → RunsFrom a n (path ++ n ∷ [])
 leads_push a z n [] leads = absurd leads
 leads_push a z n (v ∷ []) leads = (leads.0, (refl, refl))
 leads_push a z n (v ∷ w ∷ path) leads = (leads.0, leads_push w z n (w ∷ path) leads.1)
@@ -139,8 +140,8 @@ pub vertices_last : (P : GridPoint → Type 0) (n : GridPoint) (path : List Grid
 vertices_last P n [] all = all.0
 vertices_last P n (v ∷ path) all = vertices_last P n path all.1
 
-pub links_push : (P : GridPoint → GridPoint → Type 0) (a z n : GridPoint) (path : List GridPoint) → Leads a z path → AllLinks P path → P z n
-    → AllLinks P (path ++ n ∷ [])
+pub links_push : (P : GridPoint → GridPoint → Type 0) (a z n : GridPoint) (path : List GridPoint) → RunsFrom a z path → AllLinks P path
+    → P z n → AllLinks P (path ++ n ∷ [])
 links_push P a z n [] leads all last = tt
 links_push P a z n (v ∷ []) leads all last = (subst (λ (p : GridPoint). P p n) (sym leads.1) last, tt)
 links_push P a z n (v ∷ w ∷ path) leads all last = (all.0, links_push P w z n (w ∷ path) leads.1 all.1 last)
@@ -161,8 +162,8 @@ bends_push P n (v ∷ w ∷ []) all last = (last, tt)
 bends_push P n (v ∷ w ∷ z ∷ path) all last = (all.0, bends_push P n (w ∷ z ∷ path) all.1 last)
 
 -- the last link of a path that was pushed
-pub last_pushed : (P : GridPoint → GridPoint → GridPoint → Type 0) (a z n m : GridPoint) (path : List GridPoint) → Leads a z path → P z n m
-    → LastLink P (path ++ n ∷ []) m
+pub last_pushed : (P : GridPoint → GridPoint → GridPoint → Type 0) (a z n m : GridPoint) (path : List GridPoint) → RunsFrom a z path
+    → P z n m → LastLink P (path ++ n ∷ []) m
 last_pushed P a z n m [] leads last = absurd leads
 last_pushed P a z n m (v ∷ []) leads last = subst (λ (p : GridPoint). P p n m) (sym leads.1) last
 last_pushed P a z n m (v ∷ w ∷ []) leads last = last_pushed P w z n m (w ∷ []) leads.1 last
@@ -188,12 +189,12 @@ pub backwards : List GridPoint → List GridPoint
 backwards [] = []
 backwards (v ∷ path) = backwards path ++ v ∷ []
 
-pub leads_back : (a b : GridPoint) (path : List GridPoint) → Leads a b path → Leads b a (backwards path)
+pub leads_back : (a b : GridPoint) (path : List GridPoint) → RunsFrom a b path → RunsFrom b a (backwards path)
 unfolding backwards
 leads_back a b [] leads = leads
 leads_back a b (v ∷ []) leads = (leads.1, leads.0)
 leads_back a b (v ∷ w ∷ path) leads =
-    subst (λ (p : GridPoint). Leads b p (backwards (w ∷ path) ++ v ∷ [])) leads.0
+    subst (λ (p : GridPoint). RunsFrom b p (backwards (w ∷ path) ++ v ∷ [])) leads.0
     (leads_push b w v (backwards (w ∷ path)) (leads_back w b (w ∷ path) leads.1))
 
 pub vertices_back : (P : GridPoint → Type 0) (path : List GridPoint) → AllByRecursion P path → AllByRecursion P (backwards path)
@@ -202,7 +203,7 @@ vertices_back P [] all = tt
 vertices_back P (v ∷ path) all = vertices_push P v (backwards path) (vertices_back P path all.1) all.0
 
 pub links_back : (P Q : GridPoint → GridPoint → Type 0) → ((v w : GridPoint) → P v w → Q w v)
-    → (a b : GridPoint) (path : List GridPoint) → Leads a b path
+    → (a b : GridPoint) (path : List GridPoint) → RunsFrom a b path
     → AllLinks P path → AllLinks Q (backwards path)
 unfolding backwards
 links_back P Q turned a b [] leads all = tt
@@ -213,7 +214,7 @@ links_back P Q turned a b (v ∷ w ∷ path) leads all =
 
 pub bends_back : (P Q : GridPoint → GridPoint → GridPoint → Type 0) → ((u v w : GridPoint) → P u v w → Q w v u)
     → (a b : GridPoint) (path : List GridPoint)
-    → Leads a b path → AllBends P path → AllBends Q (backwards path)
+    → RunsFrom a b path → AllBends P path → AllBends Q (backwards path)
 unfolding backwards
 bends_back P Q turned a b [] leads all = tt
 bends_back P Q turned a b (u ∷ []) leads all = tt
@@ -233,7 +234,7 @@ reverse_is (v ∷ path) = reverse-append (v ∷ []) path ∙ ap (λ (l : List Gr
 abbrev pub IsPointWithin : (GridPoint → ℤ) → GridPoint → GridPoint → GridPoint → Type 0
 IsPointWithin along a b p = (along a ≤ℤ along p) × (along p ≤ℤ along b)
 
-pub vertices_within : (along : GridPoint → ℤ) (a b : GridPoint) (path : List GridPoint) → Leads a b path
+pub vertices_within : (along : GridPoint → ℤ) (a b : GridPoint) (path : List GridPoint) → RunsFrom a b path
     → AllLinks (λ v w. along v <ℤ along w) path
     → AllByRecursion (IsPointWithin along a b) path
 vertices_within along a b [] leads forth = tt

@@ -6,7 +6,7 @@ use Rattle.grid_base.specs.Point.{GridPoint, point_at}
 use Rattle.grid_base.specs.Sides.{turn}
 use Rattle.grid_base.proofs.Turns.{turn_is}
 use Rattle.hook_chain.specs.declared.charts.Chart.{Chart}
-use Rattle.hook_chain.specs.Chains.{AllLinks, AllBends, Leads}
+use Rattle.hook_chain.specs.Chains.{AllLinks, AllBends, RunsFrom}
 use Rattle.hook_chain.specs.Parts.{Reaches, IsLater, IsGentle, BendsLeft, IsBareLink, IsInReach, IsPartTo}
 use Rattle.hook_chain.specs.Placing.{course, cross, placed, IsAcross, IsUp, IsPlaced, side_for, IsCharted}
 use Rattle.hook_chain.proofs.Axes.{bend}
@@ -40,7 +40,7 @@ bends_mapped R P Q f step (u ∷ v ∷ w ∷ path) at all = (
       (v ∷ w ∷ path) at.1 all.1,
 )
 
-leads_mapped : (a b : GridPoint) (f : GridPoint → GridPoint) (path : List GridPoint) → Leads a b path → Leads (f a) (f b) (map f path)
+leads_mapped : (a b : GridPoint) (f : GridPoint → GridPoint) (path : List GridPoint) → RunsFrom a b path → RunsFrom (f a) (f b) (map f path)
 leads_mapped a b f [] leads = leads
 leads_mapped a b f (v ∷ []) leads = (ap f leads.0, ap f leads.1)
 leads_mapped a b f (v ∷ w ∷ path) leads = (ap f leads.0, leads_mapped w b f (w ∷ path) leads.1)
@@ -173,9 +173,9 @@ like_placed chart start end x c d goal v w v_at w_at charted v_is w_is later gen
 
 -- ---- the whole walk
 -- a walk leads from the point of its first place to that of its last
-leads_from_to : (a b p q : GridPoint) (path : List GridPoint) → a ≡ p → b ≡ q → Leads a b path → Leads p q path
+leads_from_to : (a b p q : GridPoint) (path : List GridPoint) → a ≡ p → b ≡ q → RunsFrom a b path → RunsFrom p q path
 leads_from_to a b p q path first last leads =
-    subst (λ (r : GridPoint). Leads p r path) last (subst (λ (r : GridPoint). Leads r b path) first leads)
+    subst (λ (r : GridPoint). RunsFrom p r path) last (subst (λ (r : GridPoint). RunsFrom r b path) first leads)
 
 -- what is said of a walk on the grid
 pub record IsPlacedPart (chart : Chart) (start end x : GridPoint) (path : List GridPoint) : Type 0 where

@@ -5,7 +5,7 @@ use Rattle.grid_base.specs.Point.{GridPoint, point_at}
 use Rattle.grid_base.specs.Segment.{GridSegment}
 use Rattle.grid_base.proofs.Turns.{times, times_le, leftward, rightward}
 use Rattle.hook_chain.specs.Climbs.{IsRaised}
-use Rattle.hook_chain.proofs.Farey.{order}
+use Rattle.grid_base.proofs.Signs.{natural_order}
 use Rattle.hook_chain.proofs.Closes.{IsBare}
 
 -- the sum to the left at column x, in the row of n less m
@@ -120,7 +120,7 @@ bare_by_clear slant o p dx dy q r pair clear g from to =
     let b = g.x - p.a.x in
     let column : p.a.x + b ≡ g.x = omega arith in
     let within : b ≤ q = omega (arith, pair.piece.across) in
-    elim (order p.a.y (g.y + slant * b)) [
+    elim (natural_order p.a.y (g.y + slant * b)) [
       | inl up ↦
           let a = g.y + slant * b - p.a.y in
           let row : g.y + (slant * b + 0) ≡ p.a.y + a = omega arith in

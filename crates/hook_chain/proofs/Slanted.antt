@@ -8,7 +8,7 @@ use Rattle.grid_base.proofs.Turns.{leftward, rightward, turn_is}
 use Rattle.grid_base.proofs.Signs
 use Rattle.hook_chain.specs.Close.{IsCloseUp}
 use Rattle.hook_chain.specs.Climbs.{IsRaised, AllSteeperClimb, AllSteeperWithinClimb}
-use Rattle.hook_chain.proofs.Farey.{order}
+use Rattle.grid_base.proofs.Signs.{natural_order}
 use Rattle.hook_chain.proofs.Closes.{close_by_sides, sides_by_close}
 use Rattle.hook_chain.proofs.Raised.{IsRaisedPair, IsClear, sides_at, bare_by_clear, clear_by_bare}
 use Rattle.hook_chain.proofs.Clear.{IsSpan, clear_by_steeper, clear_by_flatter, near_ends, steeper_by_clear, flatter_by_clear}
@@ -134,7 +134,7 @@ margin_by_close slant o p dx dy q r margin m close =
 -- where p rises, the end that is as far off as the margin is the greater one on the left, or the lesser one on the right
 far_where_rises : (left_v right_v left_w right_w margin : ℕ) → margin ≡ max (gap left_v right_v) (gap left_w right_w)
     → left_v + right_w ≤ left_w + right_v → (left_w ≡ right_w + margin) ⊎ (right_v ≡ left_v + margin)
-far_where_rises left_v right_v left_w right_w margin is rises = elim (order (right_w + margin) left_w) [
+far_where_rises left_v right_v left_w right_w margin is rises = elim (natural_order (right_w + margin) left_w) [
   | inl left ↦ inl (omega arith)
   | inr right ↦ inr (omega arith)
 ]

@@ -5,7 +5,7 @@ use Rattle.std.specs.List.{AllByRecursion}
 use Rattle.grid_base.specs.Point.{GridPoint}
 use Rattle.grid_base.specs.Sides.{Side}
 use Rattle.grid_base.proofs.Signs.{below_by, below_by_second, order, sign}
-use Rattle.hook_chain.specs.Chains.{AllLinks, AllBends, Leads}
+use Rattle.hook_chain.specs.Chains.{AllLinks, AllBends, RunsFrom}
 use Rattle.hook_chain.proofs.Axes.{Axis, bend, bend_next, bend_swap, bend_same}
 
 -- where a path lies: how far along it points are, the side to which it bends, and the line from a to b beyond which it stays
@@ -49,7 +49,7 @@ IsBare f v w = (q : GridPoint) → f.along v ≤ℤ f.along q → f.along q ≤�
 
 -- path leads from v to e as tautly as the grid points let it
 pub record IsTaut (f : Frame) (v e : GridPoint) (path : List GridPoint) : Type 0 where
-  pub leads : Leads v e path
+  pub leads : RunsFrom v e path
   pub onward : AllLinks (IsForth f) path
   pub bent : AllBends (BendsUp f) path
   pub beyond : AllByRecursion (IsBeyond f) path

@@ -1,6 +1,7 @@
 -- The points of the grid that the walk has come by.
-use Rattle.std.proofs.Common.{◌≡◌, ℕ, ◌+◌, ◌-◌, ◌*◌, ◌/◌, ◌<◌, ◌≤◌, ◌^◌, Bool, true, false, if◌then◌else◌, List, [], ◌∷◌, ◌++◌, map, refl}
+use Rattle.std.proofs.Common.{◌≡◌, ℕ, ◌+◌, ◌-◌, ◌*◌, ◌/◌, ◌<◌, ◌≤◌, Bool, true, false, if◌then◌else◌, List, [], ◌∷◌, ◌++◌, map, refl}
 use Rattle.std.proofs.Common.{sym, ap, subst, ◌∙◌, arith}
+use Rattle.grid_base.specs.Grid.{grid_side}
 use Rattle.grid_base.specs.Point.{GridPoint, point_at, OnGrid}
 use Rattle.hook_chain.specs.declared.charts.Chart.{Chart}
 use Rattle.hook_chain.specs.Fractions.{IsLeastAbove}
@@ -116,17 +117,17 @@ raised_below true false start end side x p at_end reach start_below end_below = 
 raised_below true true start end side x p at_end reach start_below end_below = omega (arith, reach.to_x)
 
 -- a point is on the grid where its coordinates are, whichever comes first
-pub on_grid_by : (steep : Bool) (along beside : ℕ) → along < 2 ^ 28 → beside < 2 ^ 28
+pub on_grid_by : (steep : Bool) (along beside : ℕ) → along < grid_side → beside < grid_side
     → OnGrid (if steep then point_at beside along else point_at along beside)
 on_grid_by false along beside along_below beside_below = record { column = along_below; row = beside_below }
 on_grid_by true along beside along_below beside_below = record { column = beside_below; row = along_below }
 
 -- so are both coordinates of a point on the grid
-course_below : (steep : Bool) (p : GridPoint) → OnGrid p → course steep p < 2 ^ 28
+course_below : (steep : Bool) (p : GridPoint) → OnGrid p → course steep p < grid_side
 course_below false p on_grid = on_grid.column
 course_below true p on_grid = on_grid.row
 
-cross_below : (steep : Bool) (p : GridPoint) → OnGrid p → cross steep p < 2 ^ 28
+cross_below : (steep : Bool) (p : GridPoint) → OnGrid p → cross steep p < grid_side
 cross_below false p on_grid = on_grid.row
 cross_below true p on_grid = on_grid.column
 
@@ -134,7 +135,7 @@ cross_below true p on_grid = on_grid.column
 pub on_grid_placed : (chart : Chart) (start goal x p : GridPoint) → OnGrid start → OnGrid x → IsPlaced chart start goal x → IsInReach goal p
     → OnGrid (placed chart start p)
 on_grid_placed chart start goal x p start_on_grid x_on_grid at_x reach = on_grid_by chart.steep _ _
-    (passed_below chart.back (course chart.steep start) goal.x (course chart.steep x) p.x (2 ^ 28) at_x.across reach.before
+    (passed_below chart.back (course chart.steep start) goal.x (course chart.steep x) p.x grid_side at_x.across reach.before
     (course_below chart.steep start start_on_grid) (course_below chart.steep x x_on_grid))
-    (raised_below chart.under chart.sheared (cross chart.steep start) (cross chart.steep x) (2 ^ 28) goal p at_x.up reach
+    (raised_below chart.under chart.sheared (cross chart.steep start) (cross chart.steep x) grid_side goal p at_x.up reach
     (cross_below chart.steep start start_on_grid) (cross_below chart.steep x x_on_grid))

@@ -10,7 +10,7 @@ use Rattle.grid_base.proofs.Lines.{IsOnLine, line_by}
 use Rattle.grid_base.proofs.Columns.{placed}
 use Rattle.hook_chain.specs.Close.{IsCloseUp}
 use Rattle.grid_base.specs.Places.{InColumn}
-use Rattle.hook_chain.proofs.Farey.{order}
+use Rattle.grid_base.proofs.Signs.{natural_order}
 use Rattle.hook_chain.proofs.Closes.{in_range, not_under_place, not_above_place}
 
 -- the grid point (x, y) as a rational point
@@ -97,7 +97,7 @@ straddled_by_close o p upright close =
     (inr (over, omega (arith, upright.up))) in
     let between = point_at p.a.x (p.a.y + 1) in
     let not_higher : p.a.y + 1 < p.b.y → ⊥ =
-    λ higher. elim (order r.place.y ((p.a.y + 1) * r.place.w)) [
+    λ higher. elim (natural_order r.place.y ((p.a.y + 1) * r.place.w)) [
       | inl over ↦ close between r.place (grid_place p.b.x p.b.y) r.is (place_b p) r.column (omega (arith, upright.column))
           (inl (over, omega arith))
       | inr under ↦ close between r.place (grid_place p.a.x p.a.y) r.is (place_a p) r.column (omega arith)

@@ -9,7 +9,8 @@ use Rattle.grid_base.proofs.Balances.{factor_cancels_le}
 use Rattle.hook_chain.specs.Fractions.{IsLeastAbove}
 use Rattle.hook_chain.specs.Parts.{Reaches, IsLow, IsLater, IsGentle, BendsLeft, IsBareLink, IsInReach, IsPartTo}
 use Rattle.hook_chain.specs.Placing.{IsGoal}
-use Rattle.hook_chain.proofs.Farey.{order, product_of_quotient}
+use Rattle.grid_base.proofs.Signs.{natural_order}
+use Rattle.hook_chain.proofs.Farey.{product_of_quotient}
 use Rattle.hook_chain.proofs.Paths.{leads_push, vertices_push, links_push, LastLink, bends_push, last_pushed}
 
 -- the point q to the right of z and p above it, m times over
@@ -55,7 +56,7 @@ turned c d p q r s x z before some steep least tangent g from to reach =
     let s_up = ap (λ (n : ℕ). s * n) up in
     let along : r * b ≤ s * f = omega arith in
     let enough = steep_enough c d r s b f some steep along in
-    let best : p * b ≤ f * q = elim (order b 0) [
+    let best : p * b ≤ f * q = elim (natural_order b 0) [
       | inl none ↦ let level = times_le b 0 0 p none (omega arith) in omega arith
       | inr more ↦ least.least f b more (omega arith) enough
     ] in

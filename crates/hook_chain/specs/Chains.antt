@@ -16,7 +16,7 @@ AllBends P (u ∷ v ∷ []) = Unit {0}
 AllBends P (u ∷ v ∷ w ∷ chain) = P u v w × AllBends P (v ∷ w ∷ chain)
 
 -- the list leads from a to b
-abbrev pub Leads : GridPoint → GridPoint → List GridPoint → Type 0
-Leads a b [] = ⊥
-Leads a b (v ∷ []) = (v ≡ a) × (v ≡ b)
-Leads a b (v ∷ w ∷ chain) = (v ≡ a) × Leads w b (w ∷ chain)
+abbrev pub RunsFrom : GridPoint → GridPoint → List GridPoint → Type 0
+RunsFrom a b [] = ⊥
+RunsFrom a b (v ∷ []) = (v ≡ a) × (v ≡ b)
+RunsFrom a b (v ∷ w ∷ chain) = (v ≡ a) × RunsFrom w b (w ∷ chain)

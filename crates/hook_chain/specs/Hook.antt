@@ -8,7 +8,7 @@ use Rattle.grid_base.specs.Segment.{GridSegment, is_flat}
 use Rattle.grid_base.specs.Sides.{On, opposite, side}
 use Rattle.grid_base.specs.Crossing.{IsOn}
 use Rattle.hook_chain.specs.Close.{Close}
-use Rattle.hook_chain.specs.Chains.{AllLinks, AllBends, Leads}
+use Rattle.hook_chain.specs.Chains.{AllLinks, AllBends, RunsFrom}
 
 -- p is in the closed triangle a, b, x: on the line of each side of it, or on the side of that line on which
 -- the third corner is
@@ -23,8 +23,8 @@ IsOnward t v w = MatchBool (is_flat t) (v.x < w.x) (MatchBool (nat_lt t.a.y t.b.
 
 -- the hook of t at a point x that is not on t: a part from a to x, and a part from x to b
 pub record IsBent (t : GridSegment) (x : GridPoint) (to from : List GridPoint) : Type 0 where
-  pub leads_to_x : Leads t.a x (to ++ x ∷ [])
-  pub leads_from_x : Leads x t.b (x ∷ from)
+  pub leads_to_x : RunsFrom t.a x (to ++ x ∷ [])
+  pub leads_from_x : RunsFrom x t.b (x ∷ from)
   pub all_in_triangle : AllByRecursion (InTriangle t.a t.b x) (to ++ x ∷ from)
   -- no grid point lies between t and a link, where points on t count and points on the link don't
   pub no_point_between : AllLinks (λ v w. Close t (record { a = v; b = w })) (to ++ x ∷ from)
@@ -54,3 +54,8 @@ pub record IsBetweenPieceAndHook (t : GridSegment) (x v w p : GridPoint) : Type 
   pub not_behind : (side t.a t.b p ≡ On) ⊎ (side t.a t.b p ≡ side t.a t.b x)
   -- on the link, or on the other side of it
   pub not_beyond : (side v w p ≡ On) ⊎ (side v w p ≡ opposite (side t.a t.b x))
+
+-- each grid point between t and the link from v to w of its hook at x is on the link
+abbrev pub HoldsBetween : GridSegment → GridPoint → GridPoint → GridPoint → Type 0
+HoldsBetween t x v w =
+    (p : GridPoint) → IsBetweenPieceAndHook t x v w p → IsOn (record { a = v; b = w }) p

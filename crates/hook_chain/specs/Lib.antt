@@ -8,6 +8,8 @@ pub mod Hook
 pub mod ValidChain
 -- a path in the place of a piece
 pub mod Redrawing
+-- steps, each permitted where it stands, and the traces that settle a drawing
+pub mod Steps
 -- least fractions above another
 pub mod Fractions
 -- a part of a hook in columns and rows of its own

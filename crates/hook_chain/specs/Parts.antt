@@ -4,7 +4,7 @@ use Rattle.std.specs.Prelude.{ℕ, ◌+◌, ◌*◌, ◌<◌, ◌≤◌, pos, �
 use Rattle.std.specs.List.{AllByRecursion}
 use Rattle.grid_base.specs.Point.{GridPoint, point_at}
 use Rattle.grid_base.specs.Sides.{turn}
-use Rattle.hook_chain.specs.Chains.{AllLinks, AllBends, Leads}
+use Rattle.hook_chain.specs.Chains.{AllLinks, AllBends, RunsFrom}
 
 -- p is on or above the line that rises by c in d columns
 abbrev pub Reaches : ℕ → ℕ → GridPoint → Type 0
@@ -41,7 +41,7 @@ pub record IsInReach (x p : GridPoint) : Type 0 where
 
 -- path leads from the origin to z, on the way to x
 pub record IsPartTo (c d : ℕ) (x z : GridPoint) (path : List GridPoint) : Type 0 where
-  pub leads : Leads (point_at 0 0) z path
+  pub leads : RunsFrom (point_at 0 0) z path
   pub later : AllLinks IsLater path
   pub gentle : AllLinks IsGentle path
   pub bends : AllBends BendsLeft path

@@ -3,10 +3,10 @@ use Rattle.std.specs.Prelude.{◌≡◌, ◌≢◌, ◌⊎◌, ◌+◌, ◌≤�
 use Rattle.grid_base.specs.Point.{GridPoint, IsBefore}
 use Rattle.grid_base.specs.Segment.{GridSegment}
 use Rattle.hook_chain.specs.Close.{Close}
-use Rattle.hook_chain.specs.Chains.{AllLinks, Leads}
+use Rattle.hook_chain.specs.Chains.{AllLinks, RunsFrom}
 
--- on the way from a to b, w may follow v: x never falls, y never falls where b isn't below a, and y never rises where
--- b isn't above a
+-- on the way from a to b, w may follow v: x never falls, y never falls where b isn't below a, and y never
+-- rises where b isn't above a
 abbrev pub IsMonotone : GridPoint → GridPoint → GridPoint → GridPoint → Type 0
 IsMonotone a b v w = (v ≢ w) × (v.x ≤ w.x) × (a.y ≤ b.y → v.y ≤ w.y) × (b.y ≤ a.y → w.y ≤ v.y)
 
@@ -28,6 +28,6 @@ IsCloseChain o (u ∷ v ∷ w ∷ chain) =
 -- the chain may stand for o
 pub record ValidChain (o : GridSegment) (chain : List GridPoint) : Type 0 where
   pub ends : IsBefore o.a o.b
-  pub leads : Leads o.a o.b chain
+  pub leads : RunsFrom o.a o.b chain
   pub monotone : AllLinks (IsMonotone o.a o.b) chain
   pub close : IsCloseChain o chain

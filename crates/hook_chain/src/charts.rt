@@ -1,6 +1,7 @@
 //! How the columns and rows of a walk lie on the grid. One walk serves all hooks: each of their parts
 //! leads, in columns and rows of its own, to the right and up, and less steeply than a diagonal.
-ghost use Rattle.std.specs.Prelude.{◌≡◌, ◌⊎◌, ◌<◌, ◌+◌, ◌-◌, ◌^◌, not, nat_lt, if◌then◌else◌};
+ghost use Rattle.std.specs.Prelude.{◌≡◌, ◌⊎◌, ◌<◌, ◌+◌, ◌-◌, ◌*◌, not, nat_lt, if◌then◌else◌};
+ghost use Rattle.grid_base.specs.Grid.{grid_side};
 ghost use Rattle.grid_base.specs.Point.{point_at, OnGrid};
 ghost use Rattle.grid_base.specs.Sides.{On, side_of};
 ghost use Rattle.hook_chain.specs.Placing.{course, cross, passed, passing, raised, rising, placed, seen};
@@ -23,7 +24,7 @@ pub(crate) struct Chart {
 
 /// A place of a walk: how many columns and rows it is from the start.
 #[derive(Clone, Copy)]
-pub(crate) struct Place {
+pub(crate) struct Offset {
     pub across: u64,
     pub up: u64,
 }
@@ -57,10 +58,10 @@ pub(crate) fn back_along(chart: &Chart) -> Chart
 }
 
 /// The place of a walk from `start` that is at `p`.
-pub(crate) fn seen_at(chart: &Chart, start: Point, p: Point) -> Place
+pub(crate) fn seen_at(chart: &Chart, start: Point, p: Point) -> Offset
     ensures seen { point_at result.across result.up ≡ seen chart.now start p }
-    ensures across_below { result.across < 2 ^ 29 }
-    ensures up_below { result.up < 2 ^ 29 }
+    ensures across_below { result.across < 2 * grid_side }
+    ensures up_below { result.up < 2 * grid_side }
     ensures start_on_grid { OnGrid start }
     ensures point_on_grid { OnGrid p }
 {
@@ -76,13 +77,13 @@ pub(crate) fn seen_at(chart: &Chart, start: Point, p: Point) -> Place
         across,
         coordinate(!chart.steep, p),
     );
-    Place { across, up }
+    Offset { across, up }
 }
 
 /// The point at a place of a walk from `start`.
-pub(crate) fn point_of(chart: &Chart, start: Point, at: Place) -> Point
-    requires across_below { at.across < 2 ^ 29 }
-    requires up_below { at.up < 2 ^ 29 }
+pub(crate) fn point_of(chart: &Chart, start: Point, at: Offset) -> Point
+    requires across_below { at.across < 2 * grid_side }
+    requires up_below { at.up < 2 * grid_side }
     requires on_grid { OnGrid (placed chart.now start (point_at at.across at.up)) }
     ensures { result ≡ placed chart.now start (point_at at.across at.up) }
 {
@@ -120,7 +121,7 @@ fn are_sheared(under: bool, start: u64, end: u64) -> bool
 // The coordinate of `p` along which a walk goes, and with `!steep` the other one.
 fn coordinate(steep: bool, p: Point) -> u64
     ensures course { result ≡ course steep p }
-    ensures on_grid { result < 2 ^ 28 }
+    ensures on_grid { result < grid_side }
 {
     if steep {
         u64::from(p.y())
@@ -131,10 +132,10 @@ fn coordinate(steep: bool, p: Point) -> u64
 
 // How far from `start` a walk passes `n`.
 fn passing_of(back: bool, start: u64, n: u64) -> u64
-    requires start_on_grid { start < 2 ^ 28 }
-    requires n_on_grid { n < 2 ^ 28 }
+    requires start_on_grid { start < grid_side }
+    requires n_on_grid { n < grid_side }
     ensures passing { result ≡ passing back start n }
-    ensures below { result < 2 ^ 28 }
+    ensures below { result < grid_side }
 {
     if back {
         start.saturating_sub(n)
@@ -145,11 +146,11 @@ fn passing_of(back: bool, start: u64, n: u64) -> u64
 
 // The row of a walk for the grid's `n`.
 fn rising_of(under: bool, sheared: bool, start: u64, across: u64, n: u64) -> u64
-    requires start_on_grid { start < 2 ^ 28 }
-    requires across_below { across < 2 ^ 28 }
-    requires n_on_grid { n < 2 ^ 28 }
+    requires start_on_grid { start < grid_side }
+    requires across_below { across < grid_side }
+    requires n_on_grid { n < grid_side }
     ensures rising { result ≡ rising under sheared start across n }
-    ensures below { result < 2 ^ 29 }
+    ensures below { result < 2 * grid_side }
 {
     let moved = if sheared { across } else { 0 };
     if under {
@@ -161,8 +162,8 @@ fn rising_of(under: bool, sheared: bool, start: u64, across: u64, n: u64) -> u64
 
 // The number that is `across` behind `start`, or before it.
 fn passed_by(back: bool, start: u64, across: u64) -> u64
-    requires start_on_grid { start < 2 ^ 28 }
-    requires across_below { across < 2 ^ 29 }
+    requires start_on_grid { start < grid_side }
+    requires across_below { across < 2 * grid_side }
     ensures { result ≡ passed back start across }
 {
     if back {
@@ -174,9 +175,9 @@ fn passed_by(back: bool, start: u64, across: u64) -> u64
 
 // The grid's row for the place of a walk.
 fn raised_to(under: bool, sheared: bool, start: u64, across: u64, up: u64) -> u64
-    requires start_on_grid { start < 2 ^ 28 }
-    requires across_below { across < 2 ^ 29 }
-    requires up_below { up < 2 ^ 29 }
+    requires start_on_grid { start < grid_side }
+    requires across_below { across < 2 * grid_side }
+    requires up_below { up < 2 * grid_side }
     ensures { result ≡ raised under sheared start across up }
 {
     let moved = if sheared { across } else { 0 };

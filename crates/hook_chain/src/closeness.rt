@@ -1,6 +1,7 @@
 //! Which pieces are close to an original. A steep original is a flat one with columns and rows
 //! exchanged.
-ghost use Rattle.std.specs.Prelude.{◌≡◌, ◌+◌, ◌*◌, ◌^◌, ◌<◌, ◌≤◌, ◌↔◌, ◌≤ℤ◌, IsTrue, max, unsigned_abs};
+ghost use Rattle.std.specs.Prelude.{◌≡◌, ◌+◌, ◌*◌, ◌<◌, ◌≤◌, ◌↔◌, ◌≤ℤ◌, IsTrue, max, unsigned_abs};
+ghost use Rattle.grid_base.specs.Grid.{grid_side, side_bound};
 ghost use Rattle.grid_base.specs.Point.{InBox, IsBefore};
 ghost use Rattle.grid_base.specs.Segment.{segment_of, exchanged_point};
 ghost use Rattle.grid_base.specs.Sides.{Left, Right, side, side_number};
@@ -112,7 +113,7 @@ fn slanted_is_close(o: &Segment, p: &Segment) -> bool
 fn margin_of(o: &Segment, p: &Segment) -> u64
     ensures margin { result
         ≡ max (unsigned_abs (side_number o.now p.now.a)) (unsigned_abs (side_number o.now p.now.b)) }
-    ensures below_2_57 { result < 2 ^ 57 }
+    ensures below { result < side_bound }
 {
     let lesser = cross_of(o, &p.a()).unsigned_abs();
     let greater = cross_of(o, &p.b()).unsigned_abs();
@@ -129,10 +130,10 @@ fn rises_against(o: &Segment, p: &Segment) -> bool
 // How `s` rises, where each column is raised above the one before by as many rows as the grid has.
 fn raised(s: &Segment) -> Fraction
     requires slanted { s.now.a.x < s.now.b.x }
-    ensures raised { IsRaised (2 ^ 28) s.now result.q result.p }
+    ensures raised { IsRaised grid_side s.now result.q result.p }
     ensures some { (0 < result.p) × (0 < result.q) }
     ensures steep { result.q ≤ result.p }
-    ensures below { (result.p < 2 ^ 57) × (result.q < 2 ^ 28) }
+    ensures below { (result.p < side_bound) × (result.q < grid_side) }
 {
     let dx = u64::from(s.b().x()) - u64::from(s.a().x());
     let dy = u64::from(s.b().y()) + u64::from(GRID_SIDE) * dx - u64::from(s.a().y());

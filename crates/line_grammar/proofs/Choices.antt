@@ -6,7 +6,7 @@ use Rattle.std.proofs.lemmas.Option.{same_Some}
 use Rattle.std.proofs.lemmas.Bool.{cases_lt, eq-eqb}
 use Rattle.std.proofs.lemmas.List.{length-drop, nil_from_length}
 use Rattle.std.proofs.Math.Seq.{drop-cons}
-use Rattle.line_grammar.specs.Agree.{agree}
+use Rattle.line_grammar.proofs.Agree.{agree}
 use Rattle.line_grammar.specs.Reading.{literal_at, or_else, choose_from, choose_at}
 use Rattle.line_grammar.specs.Choosing.{entries}
 use Rattle.line_grammar.proofs.Agreement.{agree-same_head, agree-other_head, cases_equal}

@@ -8,8 +8,8 @@ use Rattle.rose_values.specs.declared.operators.Pred.{Pred}
 use Rattle.rose_values.specs.declared.operators.Num.{Num}
 use Rattle.line_grammar.specs.declared.command.At.{At}
 use Rattle.line_grammar.specs.Words.{operator, predicate, measure, takes_two, measures_two}
-use Rattle.line_grammar.specs.Spelling.{point, led_point, points, lists, led_name, second}
-use Rattle.line_grammar.specs.Spellable.{IsNumber, IsName, IsPoint, ArePoints, IsSecond}
+use Rattle.line_grammar.specs.Pieces.{point, led_point, points, lists, led_name, second}
+use Rattle.line_grammar.specs.Fitting.{IsNumber, IsName, IsPoint, ArePoints, IsSecond}
 use Rattle.line_grammar.specs.Reading.{◌>>=◌, end_at, led_name_at, points_at}
 use Rattle.line_grammar.specs.Listing.{lists_at}
 use Rattle.line_grammar.specs.Forms as forms
@@ -22,7 +22,7 @@ use Rattle.line_grammar.proofs.Choices.{Any, Each}
 use Rattle.line_grammar.proofs.WordLemmas.{operator_token, predicate_token, measure_token}
 use Rattle.line_grammar.proofs.PlaceRows.{place, led_place, places}
 use Rattle.line_grammar.proofs.ListRows.{some_or_none}
-use Rattle.line_grammar.specs.Spelling.{space}
+use Rattle.line_grammar.specs.Pieces.{space}
 use Rattle.line_grammar.proofs.Compounds.{last, behind, past}
 
 -- ---- what ends a line

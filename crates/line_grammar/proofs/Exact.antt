@@ -1,7 +1,7 @@
 -- This file shows that a token and a rest that is read exactly are read exactly together.
 use Rattle.std.proofs.Common.{◌≡◌, ℕ, suc, ◌+◌, ◌≤◌, List, ◌++◌, length, Result, Ok, Err, refl, sym, ap, subst, ◌∙◌, arith, ◌⊎◌, inl, inr}
 use Rattle.std.proofs.lemmas.List.{length-append, append_cancel_left}
-use Rattle.line_grammar.specs.Agree.{agree}
+use Rattle.line_grammar.proofs.Agree.{agree}
 use Rattle.line_grammar.specs.Reading.{◌>>=◌}
 use Rattle.line_grammar.proofs.Agreement.{agree-append, agree-self}
 

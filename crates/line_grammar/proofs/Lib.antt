@@ -1,3 +1,5 @@
+-- how far two texts agree
+pub mod Agree
 -- how far texts with a common front agree
 pub mod Agreement
 -- a token and then an exact rest
@@ -16,6 +18,8 @@ pub mod Names
 pub mod Numbers
 -- one of several words
 pub mod Choices
+-- the rows of the commands
+pub mod CommandRows
 -- the words of the lines
 pub mod WordLemmas
 -- places, and rows of them

@@ -6,8 +6,8 @@ use Rattle.std.proofs.lemmas.List.{length-append, nil_from_length}
 use Rattle.line_grammar.specs.declared.command.At.{At}
 use Rattle.line_grammar.specs.declared.fault.ReadError.{ReadError}
 use Rattle.line_grammar.specs.declared.fault.ReadError.TheVariants as errors
-use Rattle.line_grammar.specs.Spelling.{space, point, lists}
-use Rattle.line_grammar.specs.Spellable.{ArePoints}
+use Rattle.line_grammar.specs.Pieces.{space, point, lists}
+use Rattle.line_grammar.specs.Fitting.{ArePoints}
 use Rattle.line_grammar.specs.Reading.{◌>>=◌, Fails, led_point_at}
 use Rattle.line_grammar.specs.Listing.{item_at, Lists, add_item, all_lists, items_at, lists_from_at, lists_at}
 use Rattle.line_grammar.proofs.Agreement.{agree-cons_nil}

@@ -5,8 +5,8 @@ use Rattle.std.specs.List.{flat_map, AllByRecursion}
 use Rattle.std.proofs.lemmas.List.{append-nil}
 use Rattle.std.proofs.lemmas.List.Concat.{flat_map-cons, flat_map-append}
 use Rattle.line_grammar.specs.declared.command.At.{At}
-use Rattle.line_grammar.specs.Spelling.{space, point, led_point, points, lists}
-use Rattle.line_grammar.specs.Spellable.{IsPoint, IsNonempty, ArePoints}
+use Rattle.line_grammar.specs.Pieces.{space, point, led_point, points, lists}
+use Rattle.line_grammar.specs.Fitting.{IsPoint, IsNonempty, ArePoints}
 use Rattle.line_grammar.specs.Reading.{◌>>=◌, led_point_at, push}
 use Rattle.line_grammar.specs.Listing.{Lists, added_item, add_item, all_lists, items_at, lists_from_at}
 use Rattle.line_grammar.proofs.Exact.{Tail, Then, then}

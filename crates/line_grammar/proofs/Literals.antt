@@ -4,7 +4,7 @@ use Rattle.std.proofs.Common.{sym, ap, subst, ◌∙◌, arith, inl, inr, append
 use Rattle.std.proofs.lemmas.Bool.{eq-eqb, ne_eqb}
 use Rattle.std.proofs.lemmas.List.{length-append, append_cancel_left, length-drop, nil_from_length}
 use Rattle.std.proofs.Math.Seq.{drop-cons}
-use Rattle.line_grammar.specs.Agree.{agree}
+use Rattle.line_grammar.proofs.Agree.{agree}
 use Rattle.line_grammar.specs.Reading.{◌>>=◌, literal_at, end_at}
 use Rattle.line_grammar.proofs.Agreement.{agree-append, agree-same_head, agree-other_head, agree-nil, agree-cons_nil, cases_equal}
 use Rattle.line_grammar.proofs.Exact.{Exact, Tail, Kind, Reads, Token}

@@ -1,8 +1,8 @@
 -- This file shows that names are read exactly.
 use Rattle.std.proofs.Common.{◌≡◌, ℕ, suc, ◌≤◌, true, false, List, [], ◌∷◌, ◌++◌, length, drop, refl, sym, ap, ◌∙◌, arith, inl, inr}
 use Rattle.std.proofs.lemmas.List.{take-append-drop}
-use Rattle.line_grammar.specs.Agree.{agree}
-use Rattle.line_grammar.specs.Spellable.{is_letter, is_name_byte, IsName}
+use Rattle.line_grammar.proofs.Agree.{agree}
+use Rattle.line_grammar.specs.Fitting.{is_letter, is_name_byte, IsName}
 use Rattle.line_grammar.specs.Reading.{run, name_at}
 use Rattle.line_grammar.proofs.Agreement.{agree-other_head, agree-nil}
 use Rattle.line_grammar.proofs.Exact.{Kind, Took, Stuck, Reads, Token}

@@ -8,8 +8,8 @@ use Rattle.std.proofs.lemmas.Fmt.{length-decimal-le, decimal_digit}
 use Rattle.std.proofs.Math.Seq.{drop-cons}
 use Rattle.std.proofs.lemmas.Bool.{cases_lt, eq-eqb, ne_eqb}
 use Rattle.std.proofs.lemmas.List.{length-drop, take-append-drop, nil_from_length}
-use Rattle.line_grammar.specs.Agree.{agree}
-use Rattle.line_grammar.specs.Spellable.{is_digit, IsNumber}
+use Rattle.line_grammar.proofs.Agree.{agree}
+use Rattle.line_grammar.specs.Fitting.{is_digit, IsNumber}
 use Rattle.line_grammar.specs.Reading.{run, value_from, number_at}
 use Rattle.line_grammar.proofs.Agreement.{agree-other_head, agree-nil, cases_equal}
 use Rattle.line_grammar.proofs.Exact.{Kind, Took, Stuck, Reads, Token}

@@ -2,7 +2,7 @@
 use Rattle.std.proofs.Common.{◌≡◌, ℕ, ◌+◌, ◌≤◌, List, ◌++◌, length, Result, Ok, Err, sym, ap, subst, ◌∙◌, arith, ◌⊎◌, inl, inr}
 use Rattle.std.proofs.Common.{append_assoc}
 use Rattle.std.proofs.lemmas.List.{length-append}
-use Rattle.line_grammar.specs.Agree.{agree}
+use Rattle.line_grammar.proofs.Agree.{agree}
 use Rattle.line_grammar.specs.Reading.{◌>>=◌}
 use Rattle.line_grammar.proofs.Agreement.{agree-append}
 use Rattle.line_grammar.proofs.Exact.{Kind, Took, Stuck, Reads, Token}

@@ -6,8 +6,8 @@ use Rattle.std.proofs.lemmas.List.{append-nil, nil_from_length}
 use Rattle.line_grammar.specs.declared.command.At.{At}
 use Rattle.line_grammar.specs.declared.fault.ReadError.{ReadError}
 use Rattle.line_grammar.specs.declared.fault.ReadError.TheVariants as errors
-use Rattle.line_grammar.specs.Spelling.{space, point, points}
-use Rattle.line_grammar.specs.Spellable.{IsPoint}
+use Rattle.line_grammar.specs.Pieces.{space, point, points}
+use Rattle.line_grammar.specs.Fitting.{IsPoint}
 use Rattle.line_grammar.specs.Reading.{◌>>=◌, Fails, literal_at, number_at, point_at, led_point_at, points_at, push}
 use Rattle.line_grammar.proofs.Exact.{Kind, Reads, Token, Tail, Tail-same, Spells}
 use Rattle.line_grammar.proofs.Literals.{led}

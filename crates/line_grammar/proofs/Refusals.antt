@@ -1,8 +1,8 @@
 -- This file shows that a line is refused at the end of the longest front with which a command's text begins.
 use Rattle.std.proofs.Common.{◌≡◌, ℕ, ◌-◌, ◌≤◌, List, ◌++◌, length, take, Ok, Err, refl, sym, ap, subst, ◌∙◌, arith}
 use Rattle.line_grammar.specs.declared.command.Command.{Command}
-use Rattle.line_grammar.specs.Agree.{agree}
-use Rattle.line_grammar.specs.Spelling.{text_of}
+use Rattle.line_grammar.proofs.Agree.{agree}
+use Rattle.line_grammar.specs.Spelling.{command_text}
 use Rattle.line_grammar.specs.Lines.{Says, Begins, IsFaultAt}
 use Rattle.line_grammar.specs.Forms.{command_at}
 use Rattle.line_grammar.proofs.Agreement.{agree-self, agree_front, agree_take}
@@ -32,8 +32,8 @@ begins_there line left x =
 no_further : (line : List ℕ) (left : ℕ) → Stops (λ c s. Says s c) line left → (k : ℕ) → k ≤ length line → Begins (take k line)
     → k ≤ length line - left
 no_further line left x k within b =
-    let less = x.furthest b.0 (text_of b.0) (b.2, refl) in
-    let shared : k ≤ agree line (text_of b.0) = rw (b.3) (agree_take k line b.1 within) in
+    let less = x.furthest b.0 (command_text b.0) (b.2, refl) in
+    let shared : k ≤ agree line (command_text b.0) = rw (b.3) (agree_take k line b.1 within) in
     omega (arith, less, shared)
 
 pub fault_at : (line : List ℕ) (left : ℕ) → Stops (λ c s. Says s c) line left → IsFaultAt line (length line - left)

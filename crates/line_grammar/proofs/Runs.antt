@@ -4,7 +4,7 @@ use Rattle.std.proofs.Common.{add-one, refl, sym, ap, subst, ◌∙◌, arith, �
 use Rattle.std.specs.List.{AllByRecursion}
 use Rattle.std.proofs.Math.Seq.{drop-cons}
 use Rattle.std.proofs.lemmas.List.{length-take, length-drop, take_all, nil_from_length}
-use Rattle.line_grammar.specs.Agree.{agree}
+use Rattle.line_grammar.proofs.Agree.{agree}
 use Rattle.line_grammar.specs.Reading.{run}
 use Rattle.line_grammar.proofs.Agreement.{agree-same_head, agree-other_head, cases_equal}
 

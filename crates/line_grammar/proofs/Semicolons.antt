@@ -5,9 +5,9 @@ use Rattle.std.specs.Prelude.{codes}
 use Rattle.std.proofs.lemmas.Bool.{eq-eqb, ne_eqb}
 use Rattle.std.proofs.lemmas.List.{length-append}
 use Rattle.line_grammar.specs.declared.command.At.{At}
-use Rattle.line_grammar.specs.Agree.{agree}
-use Rattle.line_grammar.specs.Spelling.{space, point}
-use Rattle.line_grammar.specs.Spellable.{is_digit, IsPoint}
+use Rattle.line_grammar.proofs.Agree.{agree}
+use Rattle.line_grammar.specs.Pieces.{space, point}
+use Rattle.line_grammar.specs.Fitting.{is_digit, IsPoint}
 use Rattle.line_grammar.specs.Reading.{◌>>=◌, literal_at}
 use Rattle.line_grammar.specs.Listing.{semicolon_at, item_at}
 use Rattle.line_grammar.proofs.Agreement.{agree-other_head, agree-nil, agree-cons_nil, cases_equal}

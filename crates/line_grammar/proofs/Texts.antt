@@ -5,7 +5,7 @@ use Rattle.std.specs.List.{flat_map}
 use Rattle.std.proofs.lemmas.List.{append-nil, take_all}
 use Rattle.std.proofs.lemmas.List.Concat.{flat_map-cons}
 use Rattle.line_grammar.specs.declared.command.At.{At}
-use Rattle.line_grammar.specs.Spelling.{points, next_list, lists}
+use Rattle.line_grammar.specs.Pieces.{points, next_list, lists}
 
 -- the first list, and each other behind a semicolon
 lists-first : (ps : List At) (more : List (List At)) → lists (ps ∷ more) ≡ points ps ++ flat_map next_list more

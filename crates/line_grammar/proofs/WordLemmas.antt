@@ -6,14 +6,12 @@ use Rattle.rose_values.specs.declared.operators.Pred.{Pred}
 use Rattle.rose_values.specs.declared.operators.Pred.TheVariants as preds
 use Rattle.rose_values.specs.declared.operators.Num.{Num}
 use Rattle.rose_values.specs.declared.operators.Num.TheVariants as nums
-use Rattle.line_grammar.specs.declared.words.ChangeWord.{ChangeWord}
-use Rattle.line_grammar.specs.declared.words.ChangeWord.TheVariants as changes
-use Rattle.line_grammar.specs.declared.words.QueryWord.{QueryWord}
-use Rattle.line_grammar.specs.declared.words.QueryWord.TheVariants as queries
-use Rattle.line_grammar.specs.declared.words.Keyword.{Keyword}
-use Rattle.line_grammar.specs.declared.words.Keyword.TheVariants as lines
-use Rattle.line_grammar.specs.Words.{operator, predicate, measure, keyword}
-use Rattle.line_grammar.specs.Choosing.{all_operators, all_predicates, all_measures, all_keywords, operator_at, predicate_at, measure_at}
+use Rattle.line_grammar.specs.declared.command.Keyword.{Keyword}
+use Rattle.line_grammar.specs.declared.command.Keyword.TheVariants as lines
+use Rattle.line_grammar.specs.Words.{operator, predicate, measure}
+use Rattle.line_grammar.specs.Rows.{keyword, all_keywords}
+use Rattle.line_grammar.proofs.CommandRows.{every_keyword}
+use Rattle.line_grammar.specs.Choosing.{all_operators, all_predicates, all_measures, operator_at, predicate_at, measure_at}
 use Rattle.line_grammar.specs.Choosing.{keyword_at}
 use Rattle.line_grammar.proofs.Exact.{Reads, Token}
 use Rattle.line_grammar.proofs.Choices.{Member, stands_at, word_kind, choice}
@@ -47,33 +45,6 @@ every_measure nums.Area2 = stands_at 0 all_measures refl
 every_measure nums.Dist2 = stands_at 1 all_measures refl
 every_measure nums.Diameter2 = stands_at 2 all_measures refl
 every_measure nums.NoOfComponents = stands_at 3 all_measures refl
-
-every_change : (word : ChangeWord) → Member (lines.Change word) all_keywords
-every_change changes.Point = stands_at 0 all_keywords refl
-every_change changes.Unpoint = stands_at 1 all_keywords refl
-every_change changes.Segment = stands_at 2 all_keywords refl
-every_change changes.Points = stands_at 3 all_keywords refl
-every_change changes.Lines = stands_at 4 all_keywords refl
-every_change changes.Regions = stands_at 5 all_keywords refl
-every_change changes.Let = stands_at 6 all_keywords refl
-every_change changes.Drop = stands_at 7 all_keywords refl
-every_change changes.Delete = stands_at 8 all_keywords refl
-
-every_query : (word : QueryWord) → Member (lines.Query word) all_keywords
-every_query queries.Realm = stands_at 9 all_keywords refl
-every_query queries.Show = stands_at 10 all_keywords refl
-every_query queries.Chain = stands_at 11 all_keywords refl
-every_query queries.Eval = stands_at 12 all_keywords refl
-every_query queries.Ask = stands_at 13 all_keywords refl
-every_query queries.Num = stands_at 14 all_keywords refl
-every_query queries.Faces = stands_at 15 all_keywords refl
-every_query queries.Trace = stands_at 16 all_keywords refl
-
-every_keyword : (k : Keyword) → Member k all_keywords
-every_keyword (lines.Change word) = every_change word
-every_keyword (lines.Query word) = every_query word
-every_keyword lines.Batch = stands_at 17 all_keywords refl
-every_keyword lines.Checkpoint = stands_at 18 all_keywords refl
 
 pub operators : (line : List ℕ) → Reads (word_kind operator) line (operator_at line)
 unfolding operator_at

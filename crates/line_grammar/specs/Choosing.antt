@@ -6,11 +6,9 @@ use Rattle.rose_values.specs.declared.operators.Pred.{Pred}
 use Rattle.rose_values.specs.declared.operators.Pred.TheVariants as preds
 use Rattle.rose_values.specs.declared.operators.Num.{Num}
 use Rattle.rose_values.specs.declared.operators.Num.TheVariants as nums
-use Rattle.line_grammar.specs.declared.words.ChangeWord.TheVariants as changes
-use Rattle.line_grammar.specs.declared.words.QueryWord.TheVariants as queries
-use Rattle.line_grammar.specs.declared.words.Keyword.{Keyword}
-use Rattle.line_grammar.specs.declared.words.Keyword.TheVariants as lines
-use Rattle.line_grammar.specs.Words.{operator, predicate, measure, keyword}
+use Rattle.line_grammar.specs.declared.command.Keyword.{Keyword}
+use Rattle.line_grammar.specs.Words.{operator, predicate, measure}
+use Rattle.line_grammar.specs.Rows.{keyword, all_keywords}
 use Rattle.line_grammar.specs.Reading.{choose_at}
 
 -- every operator
@@ -29,16 +27,6 @@ all_predicates =
 -- every number of values
 abbrev pub all_measures : List Num
 all_measures = nums.Area2 ∷ nums.Dist2 ∷ nums.Diameter2 ∷ nums.NoOfComponents ∷ []
-
--- every first word
-abbrev pub all_keywords : List Keyword
-all_keywords =
-    lines.Change changes.Point ∷ lines.Change changes.Unpoint ∷ lines.Change changes.Segment
-    ∷ lines.Change changes.Points ∷ lines.Change changes.Lines ∷ lines.Change changes.Regions
-    ∷ lines.Change changes.Let ∷ lines.Change changes.Drop ∷ lines.Change changes.Delete
-    ∷ lines.Query queries.Realm ∷ lines.Query queries.Show ∷ lines.Query queries.Chain
-    ∷ lines.Query queries.Eval ∷ lines.Query queries.Ask ∷ lines.Query queries.Num
-    ∷ lines.Query queries.Faces ∷ lines.Query queries.Trace ∷ lines.Batch ∷ lines.Checkpoint ∷ []
 
 -- each with its word
 abbrev pub entries : {T : Type 0} → (T → List ℕ) → List T → List (List ℕ × T)

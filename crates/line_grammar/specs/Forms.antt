@@ -4,22 +4,14 @@ use Rattle.rose_values.specs.declared.operators.Op.{Op}
 use Rattle.rose_values.specs.declared.operators.Pred.{Pred}
 use Rattle.rose_values.specs.declared.operators.Num.{Num}
 use Rattle.line_grammar.specs.declared.command.At.{At}
-use Rattle.line_grammar.specs.declared.command.Change.{Change}
-use Rattle.line_grammar.specs.declared.command.Change.TheVariants as change
-use Rattle.line_grammar.specs.declared.command.Query.{Query}
-use Rattle.line_grammar.specs.declared.command.Query.TheVariants as query
 use Rattle.line_grammar.specs.declared.command.Command.{Command}
-use Rattle.line_grammar.specs.declared.command.Command.TheVariants as command
-use Rattle.line_grammar.specs.declared.words.ChangeWord.{ChangeWord}
-use Rattle.line_grammar.specs.declared.words.ChangeWord.TheVariants as changes
-use Rattle.line_grammar.specs.declared.words.QueryWord.{QueryWord}
-use Rattle.line_grammar.specs.declared.words.QueryWord.TheVariants as queries
-use Rattle.line_grammar.specs.declared.words.Keyword.{Keyword}
-use Rattle.line_grammar.specs.declared.words.Keyword.TheVariants as lines
 use Rattle.line_grammar.specs.Words.{takes_two, measures_two}
 use Rattle.line_grammar.specs.Reading.{◌>>=◌, literal_at, end_at, number_at, name_at, point_at}
 use Rattle.line_grammar.specs.Reading.{led_point_at, led_name_at, points_at}
 use Rattle.line_grammar.specs.Choosing.{operator_at, predicate_at, measure_at, keyword_at}
+use Rattle.line_grammar.specs.Slots.{Slots, Values, Nothing, OneNumber, OnePlace, TwoPlaces, OneName, NameAndPlaces}
+use Rattle.line_grammar.specs.Slots.{NameAndLists, Operation, Question, Measure, Definition}
+use Rattle.line_grammar.specs.Rows.{Row, Line, row}
 use Rattle.line_grammar.specs.Listing.{lists_at}
 
 -- ---- what ends a line
@@ -102,36 +94,24 @@ definition_at line = behind name_at (λ n. defined_at) line
 
 -- ---- lines
 
--- what stands behind the first word of a change
-unfoldable pub change_at : ChangeWord → List ℕ → Result Change ℕ
-change_at changes.Point line = last_point_at line >>= λ p. Ok (change.Point p)
-change_at changes.Unpoint line = last_point_at line >>= λ p. Ok (change.Unpoint p)
-change_at changes.Segment line = two_points_at line >>= λ ends. Ok (change.Segment ends.0 ends.1)
-change_at changes.Points line = named_points_at line >>= λ n. Ok (change.Points n.0 n.1)
-change_at changes.Lines line = named_lists_at line >>= λ n. Ok (change.Lines n.0 n.1)
-change_at changes.Regions line = named_lists_at line >>= λ n. Ok (change.Regions n.0 n.1)
-change_at changes.Let line = definition_at line >>= λ d. Ok (change.Let d.0 d.1.0 d.1.1.0 d.1.1.1)
-change_at changes.Drop line = last_name_at line >>= λ n. Ok (change.Drop n)
-change_at changes.Delete line = last_number_at line >>= λ id. Ok (change.Delete id)
+-- what stands behind a first word
+unfoldable pub slots_at : (s : Slots) → List ℕ → Result (Values s) ℕ
+slots_at Nothing line = end_at line >>= λ none. Ok tt
+slots_at OneNumber line = last_number_at line
+slots_at OnePlace line = last_point_at line
+slots_at TwoPlaces line = two_points_at line
+slots_at OneName line = last_name_at line
+slots_at NameAndPlaces line = named_points_at line
+slots_at NameAndLists line = named_lists_at line
+slots_at Operation line = operation_at line
+slots_at Question line = question_at line
+slots_at Measure line = measuring_at line
+slots_at Definition line = definition_at line
 
--- what stands behind the first word of a query
-unfoldable pub query_at : QueryWord → List ℕ → Result Query ℕ
-query_at queries.Realm line = end_at line >>= λ none. Ok query.Realm
-query_at queries.Show line = last_name_at line >>= λ n. Ok (query.Show n)
-query_at queries.Chain line = last_number_at line >>= λ id. Ok (query.Chain id)
-query_at queries.Eval line = operation_at line >>= λ o. Ok (query.Eval o.0 o.1.0 o.1.1)
-query_at queries.Ask line = question_at line >>= λ q. Ok (query.Ask q.0 q.1.0 q.1.1)
-query_at queries.Num line = measuring_at line >>= λ m. Ok (query.Num m.0 m.1.0 m.1.1)
-query_at queries.Faces line = last_name_at line >>= λ n. Ok (query.Faces n)
-query_at queries.Trace line = last_number_at line >>= λ n. Ok (query.Trace n)
-
--- what stands behind the first word of a line
-unfoldable pub form_at : Keyword → List ℕ → Result Command ℕ
-form_at (lines.Change word) line = change_at word line >>= λ c. Ok (command.Change c)
-form_at (lines.Query word) line = query_at word line >>= λ q. Ok (command.Query q)
-form_at lines.Batch line = last_number_at line >>= λ n. Ok (command.Batch n)
-form_at lines.Checkpoint line = end_at line >>= λ none. Ok command.Checkpoint
+-- what the line says behind the first word of the row
+unfoldable pub filled : Row → List ℕ → Result Command ℕ
+filled (Line word slots said) line = slots_at slots line >>= λ v. Ok (said v)
 
 -- the command of which the line is the text
 unfoldable pub command_at : List ℕ → Result Command ℕ
-command_at line = keyword_at line >>= λ k. form_at k.0 k.1
+command_at line = keyword_at line >>= λ k. filled (row k.0) k.1

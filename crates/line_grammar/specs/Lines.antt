@@ -3,16 +3,16 @@ use Rattle.std.specs.Prelude.{◌≡◌, ℕ, ◌≤◌, List, ◌++◌, length,
 use Rattle.line_grammar.specs.declared.command.Command.{Command}
 use Rattle.line_grammar.specs.declared.fault.LineError.{LineError}
 use Rattle.line_grammar.specs.declared.fault.LineError.TheVariants.{Bad, NoMemory}
-use Rattle.line_grammar.specs.Spelling.{text_of}
+use Rattle.line_grammar.specs.Spelling.{command_text}
 use Rattle.line_grammar.specs.Spellable.{IsSpellable}
 
 -- the line is the text of the command
 abbrev pub Says : List ℕ → Command → Type 0
-Says line c = IsSpellable c × (line ≡ text_of c)
+Says line c = IsSpellable c × (line ≡ command_text c)
 
 -- the text of some command begins with these bytes
 abbrev pub Begins : List ℕ → Type 0
-Begins front = (c : Command) × (rest : List ℕ) × IsSpellable c × (text_of c ≡ front ++ rest)
+Begins front = (c : Command) × (rest : List ℕ) × IsSpellable c × (command_text c ≡ front ++ rest)
 
 -- the first `at` bytes of the line are the most with which some command's text begins
 pub record IsFaultAt (line : List ℕ) (at : ℕ) : Type 0 where

@@ -2,7 +2,7 @@
 use Rattle.std.specs.Prelude.{ℕ, List, [], ◌∷◌, Result, Ok, Bool, true, false, codes, ◌==◌}
 use Rattle.std.specs.Prelude.{if◌then◌else◌}
 use Rattle.line_grammar.specs.declared.command.At.{At}
-use Rattle.line_grammar.specs.Spelling.{space}
+use Rattle.line_grammar.specs.Pieces.{space}
 use Rattle.line_grammar.specs.Reading.{◌>>=◌, literal_at, point_at, led_point_at, rows_at, push}
 
 -- whether a semicolon and a space are at the front, and the line behind them

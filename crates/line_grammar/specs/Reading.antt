@@ -7,8 +7,8 @@ use Rattle.line_grammar.specs.declared.fault.ReadError.{ReadError}
 use Rattle.line_grammar.specs.declared.fault.ReadError.TheVariants as errors
 use Rattle.line_grammar.specs.declared.tokens.Alphabet.{Alphabet}
 use Rattle.line_grammar.specs.declared.tokens.Alphabet.TheVariants.{Digit, NameByte}
-use Rattle.line_grammar.specs.Spelling.{space}
-use Rattle.line_grammar.specs.Spellable.{is_letter, is_digit, is_name_byte}
+use Rattle.line_grammar.specs.Pieces.{space}
+use Rattle.line_grammar.specs.Fitting.{is_letter, is_digit, is_name_byte}
 
 infixl 10 ◌>>=◌
 -- what was read, and then what reads on from it

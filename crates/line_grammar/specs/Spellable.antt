@@ -1,92 +1,16 @@
--- Which commands have a text: numbers of at most 19 digits, names as a line may have them, no empty
--- list among lists, and as many names as the operator takes.
-use Rattle.std.specs.Prelude.{◌≡◌, ℕ, ◌<◌, ◌^◌, List, [], ◌∷◌, length, Option, Some, None, Bool, true}
-use Rattle.std.specs.Prelude.{false, ◌&&◌, ◌||◌, nat_le, ◌==◌}
-use Rattle.std.specs.List.{AllByRecursion}
-use Rattle.line_grammar.specs.declared.command.At.{At}
+-- Which commands have a text.
 use Rattle.line_grammar.specs.declared.command.Change.{Change}
-use Rattle.line_grammar.specs.declared.command.Change.TheVariants.{Point, Unpoint, Segment, Points}
-use Rattle.line_grammar.specs.declared.command.Change.TheVariants.{Lines, Regions, Let, Drop, Delete}
-use Rattle.line_grammar.specs.declared.command.Query.{Query}
-use Rattle.line_grammar.specs.declared.command.Query.TheVariants.{Realm, Show, Chain, Eval, Ask, Num}
-use Rattle.line_grammar.specs.declared.command.Query.TheVariants.{Faces, Trace}
 use Rattle.line_grammar.specs.declared.command.Command.{Command}
-use Rattle.line_grammar.specs.declared.command.Command.TheVariants.{Batch, Checkpoint}
 use Rattle.line_grammar.specs.declared.command.Command.TheVariants as commands
-use Rattle.line_grammar.specs.Words.{takes_two, measures_two}
-
--- ---- the parts
-
--- a number of at most 19 digits
-abbrev pub IsNumber : ℕ → Type 0
-IsNumber n = n < 10 ^ 19
-
--- one of a to z
-abbrev pub is_letter : ℕ → Bool
-is_letter b = nat_le 97 b && nat_le b 122
-
--- one of 0 to 9
-abbrev pub is_digit : ℕ → Bool
-is_digit b = nat_le 48 b && nat_le b 57
-
--- a letter, a digit or an underscore
-abbrev pub is_name_byte : ℕ → Bool
-is_name_byte b = is_letter b || is_digit b || b == 95
-
--- a letter and at most 31 letters, digits and underscores
-abbrev pub IsName : List ℕ → Type 0
-IsName [] = ⊥
-IsName (b ∷ bs) =
-    (is_letter b ≡ true) × AllByRecursion (λ c. is_name_byte c ≡ true) bs × (length bs < 32)
-
--- a place with two such numbers
-abbrev pub IsPoint : At → Type 0
-IsPoint p = IsNumber p.x × IsNumber p.y
-
--- a list with one item or more
-abbrev pub IsNonempty : {A : Type 0} → List A → Type 0
-IsNonempty [] = ⊥
-IsNonempty (x ∷ xs) = Unit {0}
-
--- one or more points
-abbrev pub ArePoints : List At → Type 0
-ArePoints ps = IsNonempty ps × AllByRecursion IsPoint ps
-
--- a second name exactly where two are taken
-abbrev pub IsSecond : Bool → Option (List ℕ) → Type 0
-IsSecond true None = ⊥
-IsSecond true (Some b) = IsName b
-IsSecond false None = Unit {0}
-IsSecond false (Some b) = ⊥
-
--- ---- the commands
-
--- some line stands for the change
-abbrev pub IsSpellableChange : Change → Type 0
-IsSpellableChange (Point p) = IsPoint p
-IsSpellableChange (Unpoint p) = IsPoint p
-IsSpellableChange (Segment p q) = IsPoint p × IsPoint q
-IsSpellableChange (Points n ps) = IsName n × AllByRecursion IsPoint ps
-IsSpellableChange (Lines n ls) = IsName n × AllByRecursion ArePoints ls
-IsSpellableChange (Regions n ls) = IsName n × AllByRecursion ArePoints ls
-IsSpellableChange (Let n op a b) = IsName n × IsName a × IsSecond (takes_two op) b
-IsSpellableChange (Drop n) = IsName n
-IsSpellableChange (Delete id) = IsNumber id
-
--- some line stands for the query
-abbrev pub IsSpellableQuery : Query → Type 0
-IsSpellableQuery Realm = Unit {0}
-IsSpellableQuery (Show n) = IsName n
-IsSpellableQuery (Chain id) = IsNumber id
-IsSpellableQuery (Eval op a b) = IsName a × IsSecond (takes_two op) b
-IsSpellableQuery (Ask p a b) = IsName a × IsName b
-IsSpellableQuery (Num m a b) = IsName a × IsSecond (measures_two m) b
-IsSpellableQuery (Faces n) = IsName n
-IsSpellableQuery (Trace n) = IsNumber n
+use Rattle.line_grammar.specs.Slots.{fits_in}
+use Rattle.line_grammar.specs.Rows.{parts}
+pub use Rattle.line_grammar.specs.Fitting.{IsNumber, is_letter, is_digit, is_name_byte, IsName, IsPoint}
+pub use Rattle.line_grammar.specs.Fitting.{IsNonempty, ArePoints, IsSecond}
 
 -- some line stands for the command
 abbrev pub IsSpellable : Command → Type 0
-IsSpellable (commands.Change c) = IsSpellableChange c
-IsSpellable (commands.Query q) = IsSpellableQuery q
-IsSpellable (Batch n) = IsNumber n
-IsSpellable Checkpoint = Unit {0}
+IsSpellable c = fits_in (parts c).1
+
+-- some line stands for the change
+abbrev pub IsSpellableChange : Change → Type 0
+IsSpellableChange c = IsSpellable (commands.Change c)

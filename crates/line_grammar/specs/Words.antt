@@ -1,5 +1,4 @@
--- The words of operators, predicates, numbers and lines. Each has the space behind it, but for the two
--- that end a line.
+-- The words of operators, predicates and numbers. Each has the space behind it.
 use Rattle.std.specs.Prelude.{ℕ, List, codes, Bool, true, false}
 use Rattle.rose_values.specs.declared.operators.Op.{Op}
 use Rattle.rose_values.specs.declared.operators.Op.TheVariants as ops
@@ -7,12 +6,6 @@ use Rattle.rose_values.specs.declared.operators.Pred.{Pred}
 use Rattle.rose_values.specs.declared.operators.Pred.TheVariants as preds
 use Rattle.rose_values.specs.declared.operators.Num.{Num}
 use Rattle.rose_values.specs.declared.operators.Num.TheVariants as nums
-use Rattle.line_grammar.specs.declared.words.ChangeWord.{ChangeWord}
-use Rattle.line_grammar.specs.declared.words.ChangeWord.TheVariants as changes
-use Rattle.line_grammar.specs.declared.words.QueryWord.{QueryWord}
-use Rattle.line_grammar.specs.declared.words.QueryWord.TheVariants as queries
-use Rattle.line_grammar.specs.declared.words.Keyword.{Keyword}
-use Rattle.line_grammar.specs.declared.words.Keyword.TheVariants as lines
 
 -- the word of an operator
 abbrev pub operator : Op → List ℕ
@@ -63,33 +56,3 @@ measures_two nums.Area2 = false
 measures_two nums.Dist2 = true
 measures_two nums.Diameter2 = false
 measures_two nums.NoOfComponents = false
-
--- the first word of a change
-abbrev pub change_word : ChangeWord → List ℕ
-change_word changes.Point = codes "point "
-change_word changes.Unpoint = codes "unpoint "
-change_word changes.Segment = codes "segment "
-change_word changes.Points = codes "points "
-change_word changes.Lines = codes "lines "
-change_word changes.Regions = codes "regions "
-change_word changes.Let = codes "let "
-change_word changes.Drop = codes "drop "
-change_word changes.Delete = codes "delete "
-
--- the first word of a query
-abbrev pub query_word : QueryWord → List ℕ
-query_word queries.Realm = codes "realm"
-query_word queries.Show = codes "show "
-query_word queries.Chain = codes "chain "
-query_word queries.Eval = codes "eval "
-query_word queries.Ask = codes "ask "
-query_word queries.Num = codes "num "
-query_word queries.Faces = codes "faces "
-query_word queries.Trace = codes "trace "
-
--- the first word of a line
-abbrev pub keyword : Keyword → List ℕ
-keyword (lines.Change word) = change_word word
-keyword (lines.Query word) = query_word word
-keyword lines.Batch = codes "batch "
-keyword lines.Checkpoint = codes "checkpoint"

@@ -4,14 +4,17 @@ ghost use Rattle.std.specs.Prelude.{◌≡◌};
 ghost use Rattle.line_grammar.specs.declared.fault.ReadError.TheVariants.{NoMemory};
 
 use std::alloc::{AllocError, AllocFailed};
+use thiserror::Error;
 
 /// Why a line gives no command.
-#[derive(Clone, Copy, Debug, PartialEq, Eq)]
+#[derive(Clone, Copy, Debug, PartialEq, Eq, Error)]
 pub enum LineError {
     /// No command has this text. The first `at` bytes are the most with which some command's text
     /// begins, so `at` is the length of the line where a command goes on with the line's text.
+    #[error("no command goes on so at byte {at}")]
     Bad { at: usize },
     /// Memory ran out.
+    #[error("no memory")]
     NoMemory,
 }
 

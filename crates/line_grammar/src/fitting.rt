@@ -1,12 +1,14 @@
 //! Whether a command has a text. Nothing here takes memory.
 ghost use Rattle.std.specs.Prelude.{◌≡◌, ◌↔◌, ◌<◌, IsTrue, length, true};
 ghost use Rattle.std.specs.List.{AllByRecursion};
-ghost use Rattle.line_grammar.specs.Spellable.{IsNumber, IsName, IsPoint, ArePoints, IsSecond};
-ghost use Rattle.line_grammar.specs.Spellable.{IsSpellableChange, IsSpellableQuery, IsSpellable};
-ghost use Rattle.line_grammar.specs.Spellable.{is_name_byte};
+ghost use Rattle.line_grammar.specs.Fitting.{IsNumber, is_name_byte, IsName, IsPoint, ArePoints, IsSecond};
+ghost use Rattle.line_grammar.specs.Spellable.{IsSpellableChange, IsSpellable};
+ghost use Rattle.line_grammar.specs.Slots.{fits_in};
+ghost use Rattle.line_grammar.specs.Parts.{seen};
 
-use crate::command::{At, Change, Command, Query};
+use crate::command::{At, Change, Command, change_parts, parts_of};
 use crate::name::Name;
+use crate::parts::Parts;
 use crate::path::Path;
 use crate::tokens::{letter, name_bytes};
 use crate::words::{number_of_two, operator_takes_two};
@@ -17,45 +19,34 @@ use crate::words::{number_of_two, operator_takes_two};
 pub fn spellable(c: &Command) -> bool
     ensures { IsTrue result ↔ IsSpellable c.now }
 {
-    match c {
-        Command::Change(change) => spellable_change(change),
-        Command::Query(query) => query_fits(query),
-        Command::Batch(count) => number_fits(*count),
-        Command::Checkpoint => true,
-    }
+    parts_fit(&parts_of(c).1)
 }
 
 /// Whether some line stands for the change, which is so exactly where one stands for its command.
 pub fn spellable_change(change: &Change) -> bool
     ensures { IsTrue result ↔ IsSpellableChange change.now }
 {
-    match change {
-        Change::Point(p) => point_fits(p),
-        Change::Unpoint(p) => point_fits(p),
-        Change::Segment(p, q) => point_fits(p) && point_fits(q),
-        Change::Points(name, path) => name_fits(name) && points_fit(path.places()),
-        Change::Lines(name, paths) => name_fits(name) && lists_fit(paths.paths()),
-        Change::Regions(name, paths) => name_fits(name) && lists_fit(paths.paths()),
-        Change::Let(name, op, first, second) => {
-            name_fits(name) && operands_fit(operator_takes_two(*op), first, second)
-        }
-        Change::Drop(name) => name_fits(name),
-        Change::Delete(id) => number_fits(*id),
-    }
+    parts_fit(&change_parts(change).1)
 }
 
-fn query_fits(query: &Query) -> bool
-    ensures { IsTrue result ↔ IsSpellableQuery query.now }
+// Whether what is put behind a first word has a text.
+fn parts_fit(parts: &Parts<'_>) -> bool
+    ensures { IsTrue result ↔ fits_in (seen parts.now) }
 {
-    match query {
-        Query::Realm => true,
-        Query::Show(name) => name_fits(name),
-        Query::Chain(id) => number_fits(*id),
-        Query::Eval(op, first, second) => operands_fit(operator_takes_two(*op), first, second),
-        Query::Ask(_, first, second) => name_fits(first) && name_fits(second),
-        Query::Num(num, first, second) => operands_fit(number_of_two(*num), first, second),
-        Query::Faces(name) => name_fits(name),
-        Query::Trace(number) => number_fits(*number),
+    match parts {
+        Parts::Nothing => true,
+        Parts::OneNumber(number) => number_fits(*number),
+        Parts::OnePlace(p) => point_fits(p),
+        Parts::TwoPlaces(p, q) => point_fits(p) && point_fits(q),
+        Parts::OneName(name) => name_fits(name),
+        Parts::NameAndPlaces(name, path) => name_fits(name) && points_fit(path.places()),
+        Parts::NameAndLists(name, paths) => name_fits(name) && lists_fit(paths.paths()),
+        Parts::Operation(op, first, second) => operands_fit(operator_takes_two(*op), first, second),
+        Parts::Question(_, first, second) => name_fits(first) && name_fits(second),
+        Parts::Measure(num, first, second) => operands_fit(number_of_two(*num), first, second),
+        Parts::Definition(name, op, first, second) => {
+            name_fits(name) && operands_fit(operator_takes_two(*op), first, second)
+        }
     }
 }
 

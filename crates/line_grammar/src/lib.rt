@@ -9,6 +9,7 @@ mod fault;
 mod fitting;
 mod laws;
 mod name;
+mod parts;
 mod path;
 mod reading;
 mod rests;

@@ -3,7 +3,7 @@
 ghost use Rattle.std.specs.Prelude.{◌≡◌, ◌≤◌, ◌<◌, ◌^◌, length, IfOk, IfErr, string_bytes, true};
 ghost use Rattle.std.specs.List.{AllByRecursion};
 ghost use Rattle.line_grammar.specs.declared.fault.ReadError.TheVariants.{NoMemory};
-ghost use Rattle.line_grammar.specs.Spellable.{is_letter, is_digit, is_name_byte};
+ghost use Rattle.line_grammar.specs.Fitting.{is_letter, is_digit, is_name_byte};
 ghost use Rattle.line_grammar.specs.Reading.{Gives, literal_at, end_at, test_of, run, value_from};
 ghost use Rattle.line_grammar.specs.Reading.{number_at, name_at, point_at, led_point_at};
 ghost use Rattle.line_grammar.specs.Reading.{led_name_at};

@@ -1,52 +1,19 @@
-//! The words of which one has to stand somewhere in a line: keywords, operators, predicates and
-//! numbers. Each has the space behind it, so that no word is the front of another.
+//! The words of which one has to stand behind some first words: operators, predicates and numbers. Each has
+//! the space behind it, so that no word is the front of another.
 ghost use Rattle.std.specs.Prelude.{◌≡◌, map};
-ghost use Rattle.line_grammar.specs.Words.{keyword, operator, predicate, measure, takes_two, measures_two};
+ghost use Rattle.line_grammar.specs.Words.{operator, predicate, measure, takes_two, measures_two};
 ghost use Rattle.line_grammar.specs.Reading.{Gives, choose_at};
-ghost use Rattle.line_grammar.specs.Choosing.{keyword_at, operator_at, predicate_at, measure_at};
+ghost use Rattle.line_grammar.specs.Choosing.{operator_at, predicate_at, measure_at};
 
 use crate::fault::ReadError;
 use crate::tokens::literal;
 use rose_values::{Num, Op, Pred};
 
-/// What a line that changes the state begins with.
-#[derive(Clone, Copy)]
-pub enum ChangeWord {
-    Point,
-    Unpoint,
-    Segment,
-    Points,
-    Lines,
-    Regions,
-    Let,
-    Drop,
-    Delete,
-}
-
-/// What a line that asks for an answer begins with.
-#[derive(Clone, Copy)]
-pub enum QueryWord {
-    Realm,
-    Show,
-    Chain,
-    Eval,
-    Ask,
-    Num,
-    Faces,
-    Trace,
-}
-
-/// What a line begins with.
-#[derive(Clone, Copy)]
-pub enum Keyword {
-    Change(ChangeWord),
-    Query(QueryWord),
-    Batch,
-    Checkpoint,
-}
-
-// The entry whose word is at the front, and the line behind the word.
-fn choose<'a, T: Copy>(table: &[(&str, T)], line: &'a [u8]) -> Result<(T, &'a [u8]), ReadError>
+/// The entry whose word is at the front, and the line behind the word.
+pub(crate) fn choose<'a, T: Copy>(
+    table: &[(&str, T)],
+    line: &'a [u8],
+) -> Result<(T, &'a [u8]), ReadError>
     ensures { Gives (λ x. (x.0, x.1.now)) result
         (choose_at (map (λ e. (e.0.now, e.1)) table.now) line.now) }
 {
@@ -59,37 +26,6 @@ fn choose<'a, T: Copy>(table: &[(&str, T)], line: &'a [u8]) -> Result<(T, &'a [u
         }
     }
     Err(ReadError::Stopped { left })
-}
-
-/// The keyword at the front.
-#[tactic(auto, unfolding(crate::specs::Choosing::keyword_at))]
-pub(crate) fn keyword_of(line: &[u8]) -> Result<(Keyword, &[u8]), ReadError>
-    ensures { Gives (λ x. (x.0, x.1.now)) result (keyword_at line.now) }
-{
-    choose(
-        &[
-            ("point ", Keyword::Change(ChangeWord::Point)),
-            ("unpoint ", Keyword::Change(ChangeWord::Unpoint)),
-            ("segment ", Keyword::Change(ChangeWord::Segment)),
-            ("points ", Keyword::Change(ChangeWord::Points)),
-            ("lines ", Keyword::Change(ChangeWord::Lines)),
-            ("regions ", Keyword::Change(ChangeWord::Regions)),
-            ("let ", Keyword::Change(ChangeWord::Let)),
-            ("drop ", Keyword::Change(ChangeWord::Drop)),
-            ("delete ", Keyword::Change(ChangeWord::Delete)),
-            ("realm", Keyword::Query(QueryWord::Realm)),
-            ("show ", Keyword::Query(QueryWord::Show)),
-            ("chain ", Keyword::Query(QueryWord::Chain)),
-            ("eval ", Keyword::Query(QueryWord::Eval)),
-            ("ask ", Keyword::Query(QueryWord::Ask)),
-            ("num ", Keyword::Query(QueryWord::Num)),
-            ("faces ", Keyword::Query(QueryWord::Faces)),
-            ("trace ", Keyword::Query(QueryWord::Trace)),
-            ("batch ", Keyword::Batch),
-            ("checkpoint", Keyword::Checkpoint),
-        ],
-        line,
-    )
 }
 
 /// The operator at the front.

@@ -3,12 +3,15 @@ ghost use Rattle.std.specs.Prelude.{◌≡◌, ◌++◌, IfOk, OnOk, string_byte
 ghost use Rattle.std.specs.Fmt.{decimal};
 ghost use Rattle.std.specs.List.{flat_map};
 ghost use Rattle.line_grammar.specs.Words.{operator, predicate, measure};
-ghost use Rattle.line_grammar.specs.Spelling.{point, led_point, points, next_list, lists, led_name};
-ghost use Rattle.line_grammar.specs.Spelling.{second, change_text, query_text, text_of};
+ghost use Rattle.line_grammar.specs.Pieces.{point, led_point, next_list, lists, second};
+ghost use Rattle.line_grammar.specs.Spelling.{change_text, command_text};
 ghost use Rattle.line_grammar.specs.Spellable.{IsSpellable, IsSpellableChange};
+ghost use Rattle.line_grammar.specs.Slots.{text_in};
+ghost use Rattle.line_grammar.specs.Parts.{seen};
 
-use crate::command::{At, Change, Command, Query};
+use crate::command::{At, Change, Command, change_parts, first_word, parts_of};
 use crate::name::Name;
+use crate::parts::Parts;
 use crate::path::Path;
 use grid_base::{NoMemory, Reply};
 use rose_values::{Num, Op, Pred};
@@ -17,15 +20,12 @@ use std::alloc::{AllocError, Global};
 /// The one text of the command: the line that `read_line` reads as this command, without a line feed.
 pub fn write_line(alloc: Global, c: &Command) -> Result<Reply, NoMemory>
     requires { IsSpellable c.now }
-    ensures { IfOk result (λ reply. reply ≡ text_of c.now) }
+    ensures { IfOk result (λ reply. reply ≡ command_text c.now) }
 {
-    let mut text = String::new(alloc);
-    match c {
-        Command::Change(change) => return write_change(alloc, change),
-        Command::Query(query) => push_query(&mut text, query)?,
-        Command::Batch(count) => push_number(&mut text, "batch ", *count)?,
-        Command::Checkpoint => text.push_str("checkpoint")?,
-    }
+    let (first, parts) = parts_of(c);
+    let mut text = String::with_capacity(alloc, ROOM)?;
+    text.push_str(first_word(first))?;
+    push_parts(&mut text, &parts)?;
     Ok(Reply::new(text.into_bytes()))
 }
 
@@ -37,66 +37,50 @@ pub fn write_change(alloc: Global, change: &Change) -> Result<Reply, NoMemory>
     requires { IsSpellableChange change.now }
     ensures { IfOk result (λ reply. reply ≡ change_text change.now) }
 {
+    let (first, parts) = change_parts(change);
     let mut text = String::with_capacity(alloc, ROOM)?;
-    push_change(&mut text, change)?;
+    text.push_str(first_word(first))?;
+    push_parts(&mut text, &parts)?;
     Ok(Reply::new(text.into_bytes()))
 }
 
-fn push_change(text: &mut String, change: &Change) -> Result<(), AllocError>
+// What is put behind a first word.
+fn push_parts(text: &mut String, parts: &Parts<'_>) -> Result<(), AllocError>
     ensures { OnOk result (string_bytes text.new
-        ≡ string_bytes text.old ++ change_text change.now) }
+        ≡ string_bytes text.old ++ text_in (seen parts.now)) }
 {
-    match change {
-        Change::Point(p) => push_point(text, "point ", p),
-        Change::Unpoint(p) => push_point(text, "unpoint ", p),
-        Change::Segment(p, q) => {
-            push_point(text, "segment ", p)?;
+    match parts {
+        Parts::Nothing => Ok(()),
+        Parts::OneNumber(number) => push_number(text, "", *number),
+        Parts::OnePlace(p) => push_point(text, "", p),
+        Parts::TwoPlaces(p, q) => {
+            push_point(text, "", p)?;
             push_point(text, " ", q)
         }
-        Change::Points(name, path) => {
-            push_name(text, "points ", name)?;
+        Parts::OneName(name) => push_name(text, "", name),
+        Parts::NameAndPlaces(name, path) => {
+            push_name(text, "", name)?;
             push_points(text, path.places())
         }
-        Change::Lines(name, paths) => {
-            push_name(text, "lines ", name)?;
+        Parts::NameAndLists(name, paths) => {
+            push_name(text, "", name)?;
             push_lists(text, paths.paths())
         }
-        Change::Regions(name, paths) => {
-            push_name(text, "regions ", name)?;
-            push_lists(text, paths.paths())
+        Parts::Operation(op, first, second) => {
+            push_operation(text, operator_word(*op), first, second)
         }
-        Change::Let(name, op, first, second) => {
-            push_name(text, "let ", name)?;
+        Parts::Question(asked, first, second) => {
+            push_name(text, predicate_word(*asked), first)?;
+            push_name(text, " ", second)
+        }
+        Parts::Measure(num, first, second) => {
+            push_operation(text, measure_word(*num), first, second)
+        }
+        Parts::Definition(name, op, first, second) => {
+            push_name(text, "", name)?;
             text.push_str(" = ")?;
             push_operation(text, operator_word(*op), first, second)
         }
-        Change::Drop(name) => push_name(text, "drop ", name),
-        Change::Delete(id) => push_number(text, "delete ", *id),
-    }
-}
-
-fn push_query(text: &mut String, query: &Query) -> Result<(), AllocError>
-    ensures { OnOk result (string_bytes text.new ≡ string_bytes text.old ++ query_text query.now) }
-{
-    match query {
-        Query::Realm => text.push_str("realm"),
-        Query::Show(name) => push_name(text, "show ", name),
-        Query::Chain(id) => push_number(text, "chain ", *id),
-        Query::Eval(op, first, second) => {
-            text.push_str("eval ")?;
-            push_operation(text, operator_word(*op), first, second)
-        }
-        Query::Ask(predicate, first, second) => {
-            text.push_str("ask ")?;
-            push_name(text, predicate_word(*predicate), first)?;
-            push_name(text, " ", second)
-        }
-        Query::Num(num, first, second) => {
-            text.push_str("num ")?;
-            push_operation(text, measure_word(*num), first, second)
-        }
-        Query::Faces(name) => push_name(text, "faces ", name),
-        Query::Trace(number) => push_number(text, "trace ", *number),
     }
 }
 

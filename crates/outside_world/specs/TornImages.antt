@@ -70,8 +70,8 @@ torn_outside {at} {n} {old} {new} torn i (inr behind) =
     subst (λ j. slice_index_or new j 0 ≡ slice_index_or old j 0) (add-sub_of_le behind) same
 
 -- at this place a byte is free, or as it was at the last sync
-abbrev IsKept : List ℕ → List Range → List ℕ → ℕ → Type 0
-IsKept base pending c i = IsPending i pending ⊎ (slice_index_or c i 0 ≡ slice_index_or base i 0)
+abbrev IsFreeOrSame : List ℕ → List Range → List ℕ → ℕ → Type 0
+IsFreeOrSame base pending c i = IsPending i pending ⊎ (slice_index_or c i 0 ≡ slice_index_or base i 0)
 
 -- where an image is torn once more, an image comes of it
 pub torn_image : (base : List ℕ) (pending : List Range) (range : Range) (old new : List ℕ)
@@ -82,7 +82,7 @@ torn_image base pending range old new image torn =
     let end = range.from + range.size in
     let earlier = le_trans image.no_longer (le-max_left before end) in
     let outside : (i : ℕ) → i < length base → IsOutside range.from range.size i
-    → IsKept base (range ∷ pending) new i =
+    → IsFreeOrSame base (range ∷ pending) new i =
     λ i within out.
     ⊎_elim (λ free. inl (inr free)) (λ same. inr (torn_outside torn i out ∙ same)) (image.kept i within) in
     record {

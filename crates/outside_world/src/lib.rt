@@ -9,8 +9,6 @@ mod leave;
 mod memory_world;
 mod replaying;
 mod steady_world;
-#[cfg(test)]
-mod tests;
 mod world;
 
 pub use leave::Leave;

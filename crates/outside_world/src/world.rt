@@ -16,6 +16,8 @@ ghost use Rattle.outside_world.specs.Calls.{Took, Gave, Sized, Read, Wrote, Sync
 ghost use Rattle.outside_world.specs.Disk.{IsByteByByte};
 ghost use Rattle.outside_world.specs.declared.world.FileName.{FileName};
 
+use thiserror::Error;
+
 /// The two files of a store.
 #[derive(Clone, Copy, Debug, PartialEq, Eq)]
 pub enum FileName {
@@ -24,7 +26,8 @@ pub enum FileName {
 }
 
 /// The call failed, and the count of its faults rose.
-#[derive(Clone, Copy, Debug, PartialEq, Eq)]
+#[derive(Clone, Copy, Debug, PartialEq, Eq, Error)]
+#[error("the call failed")]
 pub struct Failed;
 
 /// The world outside. What it holds is optional: a world may tell it or not, and clauses on content hold

@@ -4,6 +4,7 @@ ghost use Rattle.std.specs.Prelude.{IfSome, Ok, Some};
 ghost use Rattle.page_codec.specs.Pages.{Fills, body_of, page_of, part_of};
 ghost use Rattle.page_codec.specs.Pages.{digest_kept, digest_found, IsFault};
 
+use byteorder::{BigEndian, ByteOrder};
 use sha2::{Digest, Sha256};
 use thiserror::Error;
 
@@ -96,7 +97,7 @@ fn count_in(bytes: &[u8; 4096]) -> usize
     ensures { (number : ℕ) (part rest : List ℕ) → Fills part → bytes.now ≡ body_of number part ++ rest
         → result ≡ length part }
 {
-    usize::from(u16::from_be_bytes([bytes[8], bytes[9]]))
+    usize::from(BigEndian::read_u16(&bytes[8..10]))
 }
 
 // The page without its digest.
@@ -105,8 +106,8 @@ fn body_with(number: u64, part: &[u8]) -> [u8; 4064]
     ensures { result ≡ body_of number part.now }
 {
     let mut body = [0; 4064];
-    body[..8].copy_from_slice(&number.to_be_bytes());
-    body[8..10].copy_from_slice(&(part.len() as u16).to_be_bytes());
+    BigEndian::write_u64(&mut body[..8], number);
+    BigEndian::write_u16(&mut body[8..10], part.len() as u16);
     body[10..10 + part.len()].copy_from_slice(part);
     body
 }

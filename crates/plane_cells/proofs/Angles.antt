@@ -1,5 +1,5 @@
 -- This file shows that the segments that begin at one point are ordered by their angles.
-use Rattle.std.proofs.Common.{◌≡◌, ◌⊎◌, ℕ, zero, suc, ◌+◌, ◌*◌, ◌<◌, ◌≤◌, List, ℤ, pos, negsuc, ◌+ℤ◌, ◌*ℤ◌, ◌<ℤ◌, refl, sym, ap, subst, ◌∙◌}
+use Rattle.std.proofs.Common.{◌≡◌, ℕ, zero, suc, ◌+◌, ◌*◌, ◌<◌, ◌≤◌, List, ℤ, pos, negsuc, ◌+ℤ◌, ◌*ℤ◌, ◌<ℤ◌, refl, sym, ap, subst, ◌∙◌}
 use Rattle.std.proofs.Common.{arith, inl, inr}
 use Rattle.std.proofs.lemmas.Int.{ints}
 use Rattle.grid_base.specs.Point.{GridPoint}
@@ -7,11 +7,12 @@ use Rattle.grid_base.specs.Segment.{GridSegment}
 use Rattle.grid_base.specs.Sides.{turn}
 use Rattle.grid_base.proofs.Turns.{times, times_le}
 use Rattle.grid_base.specs.Plane.{Place, side_number_at, Spans}
+use Rattle.grid_base.proofs.Signs.{natural_order}
 use Rattle.plane_classes.proofs.Heights.{height_is, at_b}
 use Rattle.plane_classes.specs.Shear.{sheared_place}
 use Rattle.plane_classes.proofs.Shears.{height_sheared, same_record}
 use Rattle.plane_cells.specs.Order.{at_point}
-use Rattle.plane_cells.specs.Walks.{Position}
+use Rattle.plane_cells.proofs.Walks.{Position}
 use Rattle.plane_classes.specs.Shear.{sheared_point, sheared}
 use Rattle.plane_cells.proofs.Vertical.{held_at}
 use Rattle.plane_cells.proofs.ShearedSides.{up_scaled}
@@ -79,12 +80,9 @@ sums_joined v b c d hb hc hd h k l =
     let r = times_le (more v b d) (less v b d) v.x c.x l (omega (arith, hc)) in
     omega arith
 
-nat_order : (m n : ℕ) → (m ≤ n) ⊎ (n < m)
-nat_order m n = grind arith
-
 joined_fan : (v b c d : GridPoint) → v.x < b.x → v.x < c.x → v.x < d.x → pos 0 <ℤ side_number_at (fan v b) (at_point c)
     → pos 0 <ℤ side_number_at (fan v c) (at_point d) → pos 0 <ℤ side_number_at (fan v b) (at_point d)
-joined_fan v b c d hb hc hd h k = elim (nat_order (more v b d) (less v b d)) [
+joined_fan v b c d hb hc hd h k = elim (natural_order (more v b d) (less v b d)) [
   | inl l ↦ absurd (sums_joined v b c d hb hc hd (sums v b c h) (sums v c d k) l)
   | inr l ↦ by_sums v b d l
 ]
@@ -146,7 +144,7 @@ one_line_short B n seg i j v P hi hj d e f z l =
 pub not_on_one_line : (B : List GridSegment) (n : ℕ) (seg : ℕ → GridSegment) (i j : ℕ) (v : GridPoint) → Position B n seg
     → ((seg i).a ≡ (seg j).a → (seg i).b ≡ (seg j).b → i ≡ j) → i < n → j < n → (i ≡ j → ⊥) → (seg i).a ≡ v → (seg j).a ≡ v
     → side_number_at (seg i) (at_point (seg j).b) ≡ pos 0 → ⊥
-not_on_one_line B n seg i j v P once hi hj d e f z = elim (nat_order (seg j).b.x (seg i).b.x) [
+not_on_one_line B n seg i j v P once hi hj d e f z = elim (natural_order (seg j).b.x (seg i).b.x) [
   | inl l ↦ d (once (e ∙ sym f) (one_line_short B n seg i j v P hi hj d e f z l))
   | inr l ↦ d (once (e ∙ sym f)
       (sym (one_line_short B n seg j i v P hj hi (λ g. d (sym g)) f e (angle_flat (seg i) (seg j) v e f z) (omega (arith, l)))))

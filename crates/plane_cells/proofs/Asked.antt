@@ -1,25 +1,26 @@
 -- This file shows which label the places of a segment have that isn't of the border.
-use Rattle.std.proofs.Common.{◌≡◌, ℕ, zero, suc, ◌+◌, ◌*◌, ◌<◌, ◌≤◌, List, [], ◌∷◌, ◌++◌, take, drop, ℤ, pos, negsuc, ◌<ℤ◌, ◌≤ℤ◌, refl, sym}
+use Rattle.std.proofs.Common.{◌≡◌, ℕ, zero, suc, ◌+◌, ◌*◌, ◌<◌, ◌≤◌, List, [], ◌∷◌, ◌++◌, take, drop, ℤ, pos, negsuc, ◌<ℤ◌, ◌≤ℤ◌, refl, sym, ◌⊎◌}
 use Rattle.std.proofs.Common.{ap, subst, ◌∙◌, arith, inl, inr}
 use Rattle.std.proofs.lemmas.Int.{ints}
 use Rattle.std.proofs.lemmas.List.{take-append-drop}
 use Rattle.grid_base.specs.Point.{GridPoint}
 use Rattle.grid_base.specs.Segment.{GridSegment}
 use Rattle.grid_base.specs.Sides.{Side, Left, On, Right, side_of}
-use Rattle.grid_base.proofs.Signs.{sign}
+use Rattle.grid_base.proofs.Signs.{sign, on_by_zero, left_by_sign, right_by_sign, above_not_zero, below_not_zero}
 use Rattle.grid_base.proofs.Turns.{times, times_le}
 use Rattle.grid_base.specs.Plane.{Place, side_number_at, side_at, Spans, Holds, HoldsInside, IsFree, IsBeside, blend}
 use Rattle.plane_classes.specs.Classes.{AreInOneClass}
-use Rattle.plane_classes.proofs.Ways.{on_by_zero, zero_by}
+use Rattle.plane_classes.proofs.Ways.{zero_by}
 use Rattle.plane_classes.proofs.Multiples.{held_scaled}
 use Rattle.plane_classes.proofs.AlongSegment.{inside_blend}
 use Rattle.plane_classes.proofs.ClassLemmas.{one_class_joined}
 use Rattle.plane_classes.proofs.Cuts.{one_class_by_way}
 use Rattle.plane_cells.specs.Order.{at_point, IsFurtherDown}
 use Rattle.plane_cells.specs.Steps.{Step, after, Each, label_over}
-use Rattle.plane_cells.specs.Walks.{Position, Bound, Wall, IfWall, WalkTo}
-pub use Rattle.plane_cells.specs.Labels.{IsOther, IsBelowBegin}
-use Rattle.plane_cells.proofs.Vertical.{left_by, right_by, foot, column_real, column_after, column_spans, held_at}
+use Rattle.plane_cells.specs.Walks.{Bound, Wall, IfWall, WalkTo}
+use Rattle.plane_cells.proofs.Walks.{Position}
+pub use Rattle.plane_cells.specs.Labels.{IsOther}
+use Rattle.plane_cells.proofs.Vertical.{foot, column_real, column_after, column_spans, held_at}
 use Rattle.plane_cells.proofs.AlongSegments.{one_side_along, left_of_lower, zero_begin}
 use Rattle.plane_cells.proofs.Lower.{IsLower, lower_by_angle}
 use Rattle.plane_cells.proofs.Lists.{each_left, each_right, each_both}
@@ -28,6 +29,12 @@ use Rattle.plane_cells.proofs.InGaps.{on_at_most, at_most_on}
 use Rattle.plane_cells.proofs.Walks.{HasLabel}
 use Rattle.plane_cells.proofs.Angles.{angle_turned}
 use Rattle.plane_cells.proofs.SomeBeside.{half_column, half_spans, half_inside}
+
+-- segment i is below t just behind the lesser end of t
+abbrev pub IsBelowBegin : (ℕ → GridSegment) → GridSegment → ℕ → Type 0
+IsBelowBegin seg t i =
+    (pos 0 <ℤ side_number_at (seg i) (at_point t.a)) ⊎
+    (((seg i).a ≡ t.a) × (pos 0 <ℤ side_number_at (seg i) (at_point t.b)))
 
 -- a place inside t, half a column behind its lesser end
 abbrev pub inner_place : (t : GridSegment) → t.a.x < t.b.x → Place
@@ -78,12 +85,6 @@ pub data Seen (seg : ℕ → GridSegment) (t : GridSegment) (r : Place) (i : ℕ
 up_not_down : (z : ℤ) → pos 0 <ℤ z → z <ℤ pos 0 → ⊥
 up_not_down z h k = omega (arith, ints, h, k)
 
-not_zero_up : (z : ℤ) → pos 0 <ℤ z → z ≡ pos 0 → ⊥
-not_zero_up z h e = omega (arith, ints, h, e)
-
-not_zero_down : (z : ℤ) → z <ℤ pos 0 → z ≡ pos 0 → ⊥
-not_zero_down z h e = omega (arith, ints, h, e)
-
 positive : (x : ℤ) → pos 0 ≤ℤ x → (x ≡ pos 0 → ⊥) → side_of x ≡ Left
 positive (pos zero) h off = absurd (off refl)
 positive (pos (suc n)) h off = refl
@@ -104,8 +105,8 @@ fan_seen : (n : ℕ) (seg : ℕ → GridSegment) (t : GridSegment) (i : ℕ) →
 fan_seen n seg t i h l g e z = elim (sign (side_number_at (seg i) (at_point t.b))) [
   | inl k ↦
       let low : IsLower t (seg i) = lower_by_angle t (seg i) t.a refl e h.slanted g.slanted (angle_turned (seg i) t t.a e refl k) in
-      Above (λ b. elim b [ inl u ↦ not_zero_up _ u z | inr u ↦ up_not_down _ u.1 k ])
-      (right_by _ (at_most_on (side_number_at (seg i) (inner_place t h.slanted)) (side_at t (inner_place t h.slanted))
+      Above (λ b. elim b [ inl u ↦ above_not_zero _ u z | inr u ↦ up_not_down _ u.1 k ])
+      (right_by_sign _ (at_most_on (side_number_at (seg i) (inner_place t h.slanted)) (side_at t (inner_place t h.slanted))
       (low (inner_place t h.slanted) (real_place t h.slanted) (t_spans t h.slanted) (place_spans seg t i h.slanted g))
       (place_on t h.slanted)
       (off_side _ (place_off n seg t i h l g))))
@@ -135,11 +136,11 @@ begins_there n seg t i h l g z =
 pub seen_by : (n : ℕ) (seg : ℕ → GridSegment) (t : GridSegment) (i : ℕ) → (h : IsOther n seg t) → i < n → GoesOn seg t i
     → Seen seg t (inner_place t h.slanted) i
 seen_by n seg t i h l g = elim (sign (side_number_at (seg i) (at_point t.a))) [
-  | inl k ↦ Above (λ b. elim b [ inl u ↦ up_not_down _ u k | inr u ↦ not_zero_down _ k (flat u.0) ])
-      (sym (along n seg t i h l g (not_zero_down _ k)) ∙ right_by _ k)
+  | inl k ↦ Above (λ b. elim b [ inl u ↦ up_not_down _ u k | inr u ↦ below_not_zero _ k (flat u.0) ])
+      (sym (along n seg t i h l g (below_not_zero _ k)) ∙ right_by_sign _ k)
   | inr o ↦ elim o [
     | inl z ↦ fan_seen n seg t i h l g (begins_there n seg t i h l g z) z
-    | inr k ↦ Below (inl k) (sym (along n seg t i h l g (not_zero_up _ k)) ∙ left_by _ k)
+    | inr k ↦ Below (inl k) (sym (along n seg t i h l g (above_not_zero _ k)) ∙ left_by_sign _ k)
   ]
 ]
   where

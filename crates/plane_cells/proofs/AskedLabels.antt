@@ -1,12 +1,14 @@
 -- This file shows how a segment that is asked for lies to the status, and which label it finds there.
-use Rattle.std.proofs.Common.{◌≡◌, ◌⊎◌, ℕ, zero, suc, ◌+◌, ◌*◌, ◌^◌, ◌<◌, ◌≤◌, List, [], ◌∷◌, length, take, drop, slice_index}
+use Rattle.std.proofs.Common.{◌≡◌, ◌⊎◌, ℕ, zero, suc, ◌+◌, ◌*◌, ◌<◌, ◌≤◌, List, [], ◌∷◌, length, take, drop, slice_index}
 use Rattle.std.proofs.Common.{ℤ, pos, ◌<ℤ◌, ◌≤ℤ◌, refl, ap, subst, ◌∙◌, arith, inl, inr}
 use Rattle.std.specs.Prelude.{Contains}
 use Rattle.std.proofs.lemmas.Int.{ints}
+use Rattle.grid_base.specs.Grid.{grid_side, side_bound}
 use Rattle.grid_base.specs.Point.{GridPoint}
 use Rattle.grid_base.specs.Segment.{GridSegment}
 use Rattle.grid_base.proofs.Turns.{times_le}
 use Rattle.grid_base.specs.Plane.{side_number_at}
+use Rattle.grid_base.proofs.Signs.{natural_order}
 use Rattle.plane_cells.specs.Order.{at_point, IsFurtherDown}
 use Rattle.plane_cells.specs.Steps.{Step, Each, Pairs, label_over}
 use Rattle.plane_classes.specs.Shear.{sheared_point, sheared}
@@ -14,7 +16,7 @@ use Rattle.plane_cells.specs.Numbered.{numbered}
 use Rattle.plane_cells.specs.Sheared.{sheared_number, AreOfRealm}
 use Rattle.plane_cells.specs.Scan.{column_of, IsUnderBegin}
 use Rattle.plane_cells.specs.Walks.{Bound, None, Wall, IfWall, HasWall, IsHere, WalkTo}
-use Rattle.plane_cells.specs.Labels.{IsOther, IsBelowBegin}
+use Rattle.plane_cells.specs.Labels.{IsOther}
 use Rattle.plane_cells.specs.Swept.{AreVertices, wall_before, bound_at, IsAsked}
 use Rattle.plane_cells.proofs.Vertical.{column_to, column_after, foot}
 use Rattle.plane_cells.proofs.Lists.{each_map}
@@ -22,9 +24,9 @@ use Rattle.plane_cells.proofs.Turning.{ends_listed, rises, read_any, pairs_map}
 use Rattle.plane_cells.proofs.ShearedRealm.{position, realm_below, numbered_in, one_point}
 use Rattle.plane_cells.proofs.Angles.{left_sheared, left_unsheared}
 use Rattle.plane_cells.proofs.SomeBeside.{half_column, half_inside}
-use Rattle.plane_cells.proofs.Asked.{GoesOn, Seen, inner_place, seen_by, asked_label, asked_sorted, label_now}
+use Rattle.plane_cells.proofs.Asked.{GoesOn, Seen, inner_place, seen_by, asked_label, asked_sorted, label_now, IsBelowBegin}
 
-some : 0 < 2 ^ 28
+some : 0 < grid_side
 some = omega arith
 
 -- ---- bounds
@@ -33,7 +35,7 @@ bound_read [] m h = absurd (omega (arith, h))
 bound_read (v ∷ V) zero h = refl
 bound_read (v ∷ V) (suc m) h = bound_read V m (omega (arith, h))
 
-pub bound_none : (V : List ℕ) (m : ℕ) → length V ≤ m → 2 ^ 57 ≡ bound_at V m
+pub bound_none : (V : List ℕ) (m : ℕ) → length V ≤ m → side_bound ≡ bound_at V m
 bound_none [] m h = refl
 bound_none (v ∷ V) zero h = absurd (omega (arith, h))
 bound_none (v ∷ V) (suc m) h = bound_none V m (omega (arith, h))
@@ -51,11 +53,8 @@ reaches B V (suc m) i vs l h w = subst (λ (c : ℕ). c ≤ column_of (numbered 
     read : slice_index V found.0 ≡ column_of (numbered B i).b
     read = read_any V found.0 0 (column_of (numbered B i).b) found.1 ∙ found.2
 
-    le_or : (m n : ℕ) → (m ≤ n) ⊎ (n < m)
-    le_or m n = grind arith
-
     late : suc m ≤ found.0
-    late = elim (le_or (suc m) found.0) [
+    late = elim (natural_order (suc m) found.0) [
       | inl a ↦ a
       | inr a ↦ absurd (omega (arith, rises V found.0 m vs.ascending (omega (arith, a)) (omega (arith, l)), read, w))
     ]
@@ -65,25 +64,25 @@ reaches B V (suc m) i vs l h w = subst (λ (c : ℕ). c ≤ column_of (numbered 
 
 -- ---- the test of the code
 under_sheared : (s t : GridSegment) → IsUnderBegin s t
-    → (pos 0 <ℤ side_number_at (sheared (2 ^ 28) s) (at_point (sheared_point (2 ^ 28) t.a)))
-    ⊎ ((sheared_point (2 ^ 28) s.a ≡ sheared_point (2 ^ 28) t.a) ×
-    (pos 0 <ℤ side_number_at (sheared (2 ^ 28) s) (at_point (sheared_point (2 ^ 28) t.b))))
-under_sheared s t (inl h) = inl (left_sheared (2 ^ 28) s t.a some h)
-under_sheared s t (inr h) = inr (ap (λ (p : GridPoint). sheared_point (2 ^ 28) p) h.0, left_sheared (2 ^ 28) s t.b some h.1)
+    → (pos 0 <ℤ side_number_at (sheared grid_side s) (at_point (sheared_point grid_side t.a)))
+    ⊎ ((sheared_point grid_side s.a ≡ sheared_point grid_side t.a) ×
+    (pos 0 <ℤ side_number_at (sheared grid_side s) (at_point (sheared_point grid_side t.b))))
+under_sheared s t (inl h) = inl (left_sheared grid_side s t.a some h)
+under_sheared s t (inr h) = inr (ap (λ (p : GridPoint). sheared_point grid_side p) h.0, left_sheared grid_side s t.b some h.1)
 
-under_unsheared : (B : List GridSegment) (i : ℕ) (t : GridSegment) → AreOfRealm B → i < length B → t.a.y < 2 ^ 28
-    → IsBelowBegin (sheared_number B) (sheared (2 ^ 28) t) i → IsUnderBegin (numbered B i) t
-under_unsheared B i t r h l (inl k) = inl (left_unsheared (2 ^ 28) (numbered B i) t.a some k)
+under_unsheared : (B : List GridSegment) (i : ℕ) (t : GridSegment) → AreOfRealm B → i < length B → t.a.y < grid_side
+    → IsBelowBegin (sheared_number B) (sheared grid_side t) i → IsUnderBegin (numbered B i) t
+under_unsheared B i t r h l (inl k) = inl (left_unsheared grid_side (numbered B i) t.a some k)
 under_unsheared B i t r h l (inr k) = inr (
-  one_point (2 ^ 28) (numbered B i).a t.a (r.on_grid (numbered B i) (numbered_in B i h)).row l
+  one_point grid_side (numbered B i).a t.a (r.on_grid (numbered B i) (numbered_in B i h)).row l
       (ap (λ (p : GridPoint). p.x) k.0),
-  left_unsheared (2 ^ 28) (numbered B i) t.b some k.1,
+  left_unsheared grid_side (numbered B i) t.b some k.1,
 )
 
 -- ---- what the status has
 pub record IsAt (B : List GridSegment) (t : GridSegment) (i : ℕ) : Type 0 where
   pub number : i < length B
-  pub goes : GoesOn (sheared_number B) (sheared (2 ^ 28) t) i
+  pub goes : GoesOn (sheared_number B) (sheared grid_side t) i
 
 at_wall : (B : List GridSegment) (V : List ℕ) (m : ℕ) (t : GridSegment) (i : ℕ) → AreOfRealm B → AreVertices B V → m ≤ length V
     → i < length B → IfWall (λ c. c ≤ column_of t.a) (wall_before V m) → column_of t.a < bound_at V m
@@ -92,7 +91,7 @@ at_wall B V zero t i r vs l h from to w = absurd w
 at_wall B V (suc m) t i r vs l h from to w = record {
   number = h;
   goes = record {
-    slanted = (position (2 ^ 28) B (realm_below B r)).slanted i h;
+    slanted = (position grid_side B (realm_below B r)).slanted i h;
     begun = omega (arith, w.0, from);
     goes = omega (arith, to, reaches B V (suc m) i vs l h w.1);
   };
@@ -109,13 +108,13 @@ all_at B V m t status r vs l from to h = each_with (λ i. i < length B)
     (λ i. HasWall (λ c. ((sheared_number B i).a.x ≤ c) × (c < (sheared_number B i).b.x)) (wall_before V m)) (IsAt B t) status
     (λ i a b. at_wall B V m t i r vs l a from to b) h.number h.begun
 
-pub under_sorted : (B : List GridSegment) (t : GridSegment) (status : List ℕ) → AreOfRealm B → t.a.y < 2 ^ 28
-    → IsOther (length B) (sheared_number B) (sheared (2 ^ 28) t) → Each (IsAt B t) status → Pairs (IsFurtherDown (sheared_number B)) status
+pub under_sorted : (B : List GridSegment) (t : GridSegment) (status : List ℕ) → AreOfRealm B → t.a.y < grid_side
+    → IsOther (length B) (sheared_number B) (sheared grid_side t) → Each (IsAt B t) status → Pairs (IsFurtherDown (sheared_number B)) status
     → Pairs (λ i j. IsUnderBegin (numbered B j) t → IsUnderBegin (numbered B i) t) status
 under_sorted B t status r low o a s = pairs_map (IsFurtherDown (sheared_number B))
     (λ i j. IsUnderBegin (numbered B j) t → IsUnderBegin (numbered B i) t) (IsAt B t) status
     (λ i j p q f h. under_unsheared B i t r p.number low
-    (asked_sorted (length B) (sheared_number B) (sheared (2 ^ 28) t) i j o p.number q.number p.goes q.goes f
+    (asked_sorted (length B) (sheared_number B) (sheared grid_side t) i j o p.number q.number p.goes q.goes f
     (under_sheared (numbered B j) t h))) a s
 
 -- ---- the label
@@ -130,13 +129,13 @@ behind_wall None c w x h k = tt
 behind_wall (Wall d) c w x h k = let t = times_le d c 0 w h (omega arith) in omega (arith, ints, k)
 
 pub asked_now : (B : List GridSegment) (steps : List Step) (lo : Bound) (status : List ℕ) (t : GridSegment) (k : ℕ) → AreOfRealm B
-    → t.a.y < 2 ^ 28 → IsOther (length B) (sheared_number B) (sheared (2 ^ 28) t)
+    → t.a.y < grid_side → IsOther (length B) (sheared_number B) (sheared grid_side t)
     → WalkTo (length B) (sheared_number B) None [] steps lo status
     → IfWall (λ c. c ≤ column_of t.a) lo → Each (IsAt B t) status → Each (λ i. IsUnderBegin (numbered B i) t) (take k status)
     → Each (λ i. IsUnderBegin (numbered B i) t → ⊥) (drop k status)
     → IsAsked B steps t (label_over 0 (take k status))
 asked_now B steps lo status t k r low o walk from a below others =
-    let u = sheared (2 ^ 28) t in
+    let u = sheared grid_side t in
     let f = foot u (half_column u) o.slanted in
     let seen = each_map (IsAt B t) (Seen (sheared_number B) u (inner_place u o.slanted)) status
     (λ i p. seen_by (length B) (sheared_number B) u i o p.number p.goes) a in

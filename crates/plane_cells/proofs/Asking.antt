@@ -1,8 +1,10 @@
 -- This file shows that what the code finds for another segment is the label of a place inside it.
-use Rattle.std.proofs.Common.{◌≡◌, ◌⊎◌, ℕ, zero, suc, ◌+◌, ◌^◌, ◌<◌, ◌≤◌, List, [], ◌∷◌, ◌++◌, length, take, drop, get_or, slice_index}
+use Rattle.std.proofs.Common.{◌≡◌, ◌⊎◌, ℕ, zero, suc, ◌+◌, ◌<◌, ◌≤◌, List, [], ◌∷◌, ◌++◌, length, take, drop, get_or, slice_index}
 use Rattle.std.proofs.Common.{refl, sym, ap, subst, ◌∙◌, arith, inl, inr}
+use Rattle.grid_base.specs.Grid.{grid_side, side_bound}
 use Rattle.grid_base.specs.Point.{GridPoint}
 use Rattle.grid_base.specs.Segment.{GridSegment}
+use Rattle.grid_base.proofs.Signs.{natural_order}
 use Rattle.plane_cells.specs.Steps.{Step, Each, Pairs, label_over}
 use Rattle.linked_parts.specs.Parts.{Links}
 use Rattle.plane_classes.specs.Shear.{sheared}
@@ -98,8 +100,8 @@ pub sorted_there : (B : List GridSegment) (V : List ℕ) (m : ℕ) (status : Lis
     → Pairs (λ i j. IsUnderBegin (numbered B j) t → IsUnderBegin (numbered B i) t) status
 sorted_there B V m status next L right T Y t r vs l o s h e to =
     let k = length Y in
-    under_sorted B t status r (subst (λ (u : GridSegment). u.a.y < 2 ^ 28) (sym e) (o.on_grid k h).1)
-    (subst (λ (u : GridSegment). IsOther (length B) (sheared_number B) (sheared (2 ^ 28) u)) (sym e) (o.other k h))
+    under_sorted B t status r (subst (λ (u : GridSegment). u.a.y < grid_side) (sym e) (o.on_grid k h).1)
+    (subst (λ (u : GridSegment). IsOther (length B) (sheared_number B) (sheared grid_side u)) (sym e) (o.other k h))
     (all_at B V m t status r vs l
     (subst (λ (u : GridSegment). IfWall (λ c. c ≤ column_of u.a) (wall_before V m)) (sym e) (s.asked.later k (omega arith) h)) to
     s.here) s.here.sorted
@@ -116,8 +118,8 @@ asking_more B V m status next L right first list Y Y' t k y r vs l o a h e to be
     let n = length Y in
     let short : n < length first = subst (λ (T : List GridSegment). n < length T) a.same h in
     let e' : t ≡ numbered first n = e ∙ ap (λ (T : List GridSegment). numbered T n) a.same in
-    let low = subst (λ (u : GridSegment). u.a.y < 2 ^ 28) (sym e') (o.on_grid n short).1 in
-    let other = subst (λ (u : GridSegment). IsOther (length B) (sheared_number B) (sheared (2 ^ 28) u)) (sym e') (o.other n short) in
+    let low = subst (λ (u : GridSegment). u.a.y < grid_side) (sym e') (o.on_grid n short).1 in
+    let other = subst (λ (u : GridSegment). IsOther (length B) (sheared_number B) (sheared grid_side u)) (sym e') (o.other n short) in
     let from = subst (λ (u : GridSegment). IfWall (λ c. c ≤ column_of u.a) (wall_before V m)) (sym e')
     (s.asked.later n (omega arith) short) in
     let q = asked_now B s.steps (wall_before V m) status t k r low other s.chain from
@@ -152,14 +154,11 @@ pub record IsPassing (B : List GridSegment) (V : List ℕ) (m : ℕ) (status : L
 pub due_before : (B : List GridSegment) (V : List ℕ) (m : ℕ) (T : List GridSegment) (n : ℕ) → AreOfRealm B → AreVertices B V → m ≤ length V
     → ((k : ℕ) → k < n → HasWall (λ c. column_of (numbered T k).a < c) (wall_before V m)) → AreDue T n (bound_at V m)
 due_before B V zero T n r vs l h k a = absurd (h k a)
-due_before B V (suc m) T n r vs l h k a = elim (le_or (suc m) (length V)) [
+due_before B V (suc m) T n r vs l h k a = elim (natural_order (length V) (suc m)) [
   | inr b ↦ let e = bound_read V (suc m) b in let f = rises V m (suc m) vs.ascending (omega arith) b in let g = h k a in omega
       (arith, e, f, g)
   | inl b ↦ let e = bound_none V (suc m) b in let f = vertex_fits B V m r vs (omega (arith, l)) in let g = h k a in omega (arith, e, f, g)
 ]
-  where
-    le_or : (m n : ℕ) → (n ≤ m) ⊎ (m < n)
-    le_or m n = grind arith
 
 pub passing_on : (B : List GridSegment) (V : List ℕ) (m : ℕ) (status : List ℕ) (next : ℕ) (L : Links) (right : List ℕ) (first list : List
     GridSegment) (Y : List ℕ) → m < length V → list ≡ first → IsSwept B (wall_before V (suc m)) status next L right first Y → AreDue first
@@ -231,14 +230,11 @@ later_of T U V W X m n e f g l h k a b =
 -- behind the last vertex all are asked
 pub all_asked : (B : List GridSegment) (V : List ℕ) (m : ℕ) (T : List GridSegment) (n : ℕ) → AreOthers B T → length V ≤ m → n ≤ length T
     → AreLater T n (bound_at V m) → n ≡ length T
-all_asked B V m T n o h l later = elim (le_or (length T) n) [
+all_asked B V m T n o h l later = elim (natural_order (length T) n) [
   | inl a ↦ omega (arith, a, l)
   | inr a ↦ let g = o.on_grid n a in let b = later n (omega arith) a in let e = bound_none V m h in absurd
       (far (numbered T n).a g.0 g.1 (omega (arith, b, e)))
 ]
   where
-    le_or : (m n : ℕ) → (m ≤ n) ⊎ (n < m)
-    le_or m n = grind arith
-
-    far : (p : GridPoint) → p.x < 2 ^ 28 → p.y < 2 ^ 28 → 2 ^ 57 ≤ column_of p → ⊥
+    far : (p : GridPoint) → p.x < grid_side → p.y < grid_side → side_bound ≤ column_of p → ⊥
     far p h k l = omega (arith, h, k, l)

@@ -6,12 +6,12 @@ use Rattle.grid_base.specs.Segment.{GridSegment}
 use Rattle.grid_base.specs.Segment.{IsEnd}
 use Rattle.grid_base.proofs.Turns.{times_le}
 use Rattle.grid_base.specs.Plane.{Place, side_number_at, Spans, IsFree, IsFreeWay}
+use Rattle.grid_base.proofs.Signs.{on_by_zero, left_by_sign, right_by_sign}
 use Rattle.plane_classes.proofs.Heights.{under_a, under_b, over_a, over_b, at_a, at_b}
-use Rattle.plane_classes.proofs.Ways.{one_side, held_by_line, on_by_zero}
+use Rattle.plane_classes.proofs.Ways.{one_side, held_by_line}
 use Rattle.plane_classes.proofs.OverTests.{Less, Same, More, three, le_from}
 use Rattle.plane_cells.specs.Steps.{Step, before, after, Each, link, label_over}
 use Rattle.linked_parts.specs.Parts.{Links, AreLinked}
-use Rattle.plane_cells.proofs.Vertical.{left_by, right_by}
 use Rattle.plane_cells.proofs.AlongSegments.{over_point}
 use Rattle.plane_cells.proofs.Lower.{at_point}
 use Rattle.plane_cells.proofs.Lists.{each_map}
@@ -71,19 +71,19 @@ no_place B n seg q v i P f l (inr e) c d = no_place_b B n seg q v i P f l (sym e
 
 under_ends : (n : ℕ) (seg : ℕ → GridSegment) (q : Place) (v : GridPoint) (i : ℕ) → (seg i).a.x < (seg i).b.x → (seg i).b ≡ v
     → q.x ≡ pos (v.x * q.w) → q.y <ℤ pos (v.y * q.w) → IsUnder seg q i
-under_ends n seg q v i o e c l = right_by _ (under_b (seg i) q o (rw (sym e) at c) (rw (sym e) at l))
+under_ends n seg q v i o e c l = right_by_sign _ (under_b (seg i) q o (rw (sym e) at c) (rw (sym e) at l))
 
 under_begins : (n : ℕ) (seg : ℕ → GridSegment) (q : Place) (v : GridPoint) (i : ℕ) → (seg i).a.x < (seg i).b.x → (seg i).a ≡ v
     → q.x ≡ pos (v.x * q.w) → q.y <ℤ pos (v.y * q.w) → IsUnder seg q i
-under_begins n seg q v i o e c l = right_by _ (under_a (seg i) q o (rw (sym e) at c) (rw (sym e) at l))
+under_begins n seg q v i o e c l = right_by_sign _ (under_a (seg i) q o (rw (sym e) at c) (rw (sym e) at l))
 
 over_ends : (n : ℕ) (seg : ℕ → GridSegment) (q : Place) (v : GridPoint) (i : ℕ) → (seg i).a.x < (seg i).b.x → (seg i).b ≡ v
     → q.x ≡ pos (v.x * q.w) → pos (v.y * q.w) <ℤ q.y → IsOver seg q i
-over_ends n seg q v i o e c l = left_by _ (over_b (seg i) q o (rw (sym e) at c) (rw (sym e) at l))
+over_ends n seg q v i o e c l = left_by_sign _ (over_b (seg i) q o (rw (sym e) at c) (rw (sym e) at l))
 
 over_begins : (n : ℕ) (seg : ℕ → GridSegment) (q : Place) (v : GridPoint) (i : ℕ) → (seg i).a.x < (seg i).b.x → (seg i).a ≡ v
     → q.x ≡ pos (v.x * q.w) → pos (v.y * q.w) <ℤ q.y → IsOver seg q i
-over_begins n seg q v i o e c l = left_by _ (over_a (seg i) q o (rw (sym e) at c) (rw (sym e) at l))
+over_begins n seg q v i o e c l = left_by_sign _ (over_a (seg i) q o (rw (sym e) at c) (rw (sym e) at l))
 
 -- the numbers of a step are below n
 pub record AreNumbers (n : ℕ) (k : Step) : Type 0 where
@@ -121,7 +121,7 @@ pub below_over : (B : List GridSegment) (n : ℕ) (seg : ℕ → GridSegment) (k
     → Each (IsOver seg q) k.below
 below_over B n seg k q P s m real c l =
     each_with (λ i. pos 0 <ℤ side_number_at (seg i) (at_point k.vertex)) (IsOver seg q) n k.below
-    (λ i h e. left_by _ (over_point (seg i) k.vertex q (P.slanted i h) real c l e)) m.below s.below
+    (λ i h e. left_by_sign _ (over_point (seg i) k.vertex q (P.slanted i h) real c l e)) m.below s.below
 
 -- a list in three parts, the middle one not counting or all counting
 label_past : (seg : ℕ → GridSegment) (q : Place) (A E C : List ℕ) → Each (IsUnder seg q) E

@@ -6,7 +6,7 @@ use Rattle.grid_base.specs.Point.{GridPoint}
 use Rattle.grid_base.specs.Segment.{GridSegment}
 use Rattle.grid_base.specs.Sides.{Side, Left, On, Right, side_of}
 use Rattle.grid_base.proofs.Turns.{times_le}
-use Rattle.grid_base.proofs.Signs.{order}
+use Rattle.grid_base.proofs.Signs.{order, right_by_sign}
 use Rattle.grid_base.specs.Plane.{Place, side_at, side_number_at, Spans, Holds, HoldsInside, IsAtPoint}
 use Rattle.plane_classes.specs.Classes.{IsWall, IsWallBetween}
 use Rattle.plane_classes.proofs.Ways.{held_by_line}
@@ -14,7 +14,7 @@ use Rattle.plane_classes.proofs.PastOthers.{IsClear}
 use Rattle.plane_classes.proofs.Multiples.{held_scaled}
 use Rattle.plane_classes.proofs.OwnSegment.{within_a, within_b}
 use Rattle.plane_cells.proofs.OneSide.{Off, one_side_by_way}
-use Rattle.plane_cells.specs.Steps.{Step, before, after, In, Each, Pairs, link, label_over, HasRights, HaveRights, side_label}
+use Rattle.plane_cells.specs.Steps.{Step, before, after, In, Each, Pairs, link, label_over, HasRights, HaveRights}
 use Rattle.linked_parts.specs.Parts.{Links, AreLinked}
 use Rattle.plane_cells.proofs.Lists.{each_map, each_at}
 use Rattle.linked_parts.proofs.LinkedNumbers.{linked_both}
@@ -25,8 +25,13 @@ use Rattle.plane_cells.proofs.Walks.{Position, Bound, None, Wall, IsFrom, IsTo, 
 use Rattle.plane_cells.proofs.Walks.{HasLabel}
 use Rattle.plane_cells.proofs.AtVertices.{slab_spans}
 use Rattle.plane_cells.proofs.Complete.{wall_of_step}
-use Rattle.plane_cells.proofs.Vertical.{right_by}
 use Rattle.plane_classes.proofs.OverTests.{le_from}
+
+-- the label of the gap beside segment i
+abbrev pub side_label : (ℕ → ℕ) → ℕ → Side → ℕ
+side_label right i Left = suc i
+side_label right i On = suc i
+side_label right i Right = right i
 
 -- ---- the labels under the segments of a status
 -- each segment of the list has a label that is linked with that of the gap under it
@@ -138,7 +143,7 @@ under_near : (B : List GridSegment) (n : ℕ) (seg : ℕ → GridSegment) (lo hi
 under_near B n seg lo hi i d r m k P hn near fr tr fm tm si a f =
     let sm = slab_spans n seg lo hi k m a fm tm in
     alike_near B n seg i k d r m P hn a.number (λ e. f.0 (sym e)) near (slab_spans n seg lo hi k r a fr tr) sm
-    ∙ right_by _ (at_most_on (side_number_at (seg k) m) (side_at (seg i) m) (f.1 m near.real si sm) near.inside.held.line
+    ∙ right_by_sign _ (at_most_on (side_number_at (seg k) m) (side_at (seg i) m) (f.1 m near.real si sm) near.inside.held.line
     (λ e. alone B n seg i k m P hn a.number (λ e. f.0 (sym e)) near.inside (held_by_line (seg k) m near.real (P.slanted k a.number) sm e)))
 
 is_listed : (n : ℕ) (seg : ℕ → GridSegment) (lo hi : Bound) (status : List ℕ) (i : ℕ) (m : Place) → pos ((seg i).a.x * m.w) <ℤ m.x

@@ -14,7 +14,8 @@ use Rattle.plane_cells.specs.Steps.{In, Each, Pairs, label_over}
 use Rattle.linked_parts.specs.Parts.{Links, AreLinked}
 use Rattle.plane_cells.specs.Labels.{label_at}
 use Rattle.plane_cells.specs.Order.{IsFurtherDown}
-use Rattle.plane_cells.specs.Walks.{Position, Bound, None, Wall, IsFrom, IsAcross, Lies, Across, Ahead, Past}
+use Rattle.plane_cells.specs.Walks.{Bound, None, Wall, IsAcross, Lies, Across, Ahead, Past}
+use Rattle.plane_cells.proofs.Walks.{Position, IsFrom}
 use Rattle.plane_cells.specs.Walks.{IsStatus}
 use Rattle.plane_cells.proofs.Lists.{each_map}
 use Rattle.plane_cells.proofs.Labels.{label_kept, IsUnder, IsSeen, Seen, Over, Under, seen, rest_under, label_of_under}

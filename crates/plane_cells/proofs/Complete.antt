@@ -5,6 +5,7 @@ use Rattle.grid_base.specs.Point.{GridPoint}
 use Rattle.grid_base.specs.Segment.{GridSegment}
 use Rattle.grid_base.proofs.Turns.{times_le}
 use Rattle.grid_base.specs.Plane.{Place, IsFreeWay}
+use Rattle.grid_base.proofs.Signs.{not_both}
 use Rattle.plane_classes.specs.Classes.{IsWall, TouchOneCell}
 use Rattle.plane_classes.proofs.Ways.{first_is_free, way_last}
 use Rattle.plane_classes.proofs.Blends.{blend_one, blend_turned}
@@ -19,7 +20,6 @@ use Rattle.plane_cells.proofs.Labels.{label_at}
 use Rattle.plane_cells.proofs.Labels.{label_alike}
 use Rattle.plane_cells.proofs.Walks.{Position, Bound, None, Wall, IfWall, IsFrom, IsAcross, IsStatus, IsStep, Walk, HasLabel}
 use Rattle.plane_cells.proofs.AtVertices.{reach_from, alike_in_slab, AreNumbers, crossed}
-use Rattle.plane_cells.proofs.Lower.{no_two}
 
 -- ---- along the walk
 abbrev pub first_wall : List Step → Bound
@@ -112,14 +112,14 @@ parted : (B : List GridSegment) (n : ℕ) (seg : ℕ → GridSegment) (lo : Boun
     → HasLabel seg (after k) steps q z → AreLinked (link k ∷ links steps) y z
 parted B n seg lo status k steps p q y z P w rest t fp fq tp e g h = elim (three p.x (pos (k.vertex.x * p.w))) [
   | Less l ↦ elim (three q.x (pos (k.vertex.x * q.w))) [
-    | Less m ↦ absurd (no_two _ _ m g)
+    | Less m ↦ absurd (not_both _ _ m g)
     | Same m ↦ linked_both (link k ∷ links steps) y (label_at seg q 0 status) z
         (linked_same (link k ∷ links steps) _ _ (sym e ∙ here B n seg lo status k steps p q P w t fp tp fq (le_of _ _ m)))
         (onward B n seg lo status k steps q q z P w rest (touch_end B p q t) m g h)
     | More m ↦ absurd (t.no_wall_between k.vertex.x (wall_of_step B n seg k P w.1) (inl (l, m)))
   ]
   | Same l ↦ subst (λ (x : ℕ). AreLinked (link k ∷ links steps) x z) e (onward B n seg lo status k steps p q z P w rest t l g h)
-  | More l ↦ absurd (no_two _ _ l tp)
+  | More l ↦ absurd (not_both _ _ l tp)
 ]
 
 -- places that touch one cell have linked labels

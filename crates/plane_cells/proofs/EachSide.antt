@@ -1,11 +1,12 @@
 -- This file shows that each side of each segment of a realm has a place beside it.
-use Rattle.std.proofs.Common.{ℕ, ◌*◌, ◌^◌, ◌<◌, List, map, length, sym, ap, subst, ◌∙◌, inl, inr}
+use Rattle.std.proofs.Common.{ℕ, ◌*◌, ◌<◌, List, map, length, sym, ap, subst, ◌∙◌, inl, inr}
+use Rattle.grid_base.specs.Grid.{grid_side}
 use Rattle.grid_base.specs.Segment.{GridSegment}
 use Rattle.grid_base.specs.Sides.{Side}
 use Rattle.grid_base.specs.Plane.{Place, Holds, IsBeside}
 use Rattle.plane_cells.proofs.Sided.{IsSlanted}
 use Rattle.plane_classes.proofs.Unsheared.{unsheared_place}
-use Rattle.plane_cells.specs.Walks.{Position}
+use Rattle.plane_cells.proofs.Walks.{Position}
 use Rattle.plane_classes.specs.Shear.{sheared}
 use Rattle.plane_cells.specs.Numbered.{numbered}
 use Rattle.plane_cells.specs.Sheared.{AreOfRealm}
@@ -30,7 +31,7 @@ apart_in B n seg D i P w hi = record {
 pub each_side : (B : List GridSegment) (i : ℕ) (d : Side) → AreOfRealm B → i < length B → IsSlanted d
     → (q : Place) × IsBeside B (numbered B i) d q
 each_side B i d r hi di =
-    let n = 2 ^ 28 in
+    let n = grid_side in
     let b = realm_below B r in
     let m = numbered_in B i hi in
     let q = some_beside (map (sheared n) B) (n * n) (sheared n (numbered B i)) d

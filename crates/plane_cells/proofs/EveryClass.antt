@@ -1,10 +1,12 @@
 -- This file shows that each class but the outer one has a side of some segment.
-use Rattle.std.proofs.Common.{◌≡◌, ◌⊎◌, ℕ, zero, suc, ◌*◌, ◌^◌, ◌<◌, ◌≤◌, Bool, true, List, [], map, length, refl, inl, inr, arith}
+use Rattle.std.proofs.Common.{◌⊎◌, ℕ, zero, suc, ◌*◌, ◌<◌, ◌≤◌, true, List, [], map, length, refl, inl, inr, arith}
+use Rattle.grid_base.specs.Grid.{grid_side}
 use Rattle.grid_base.specs.Segment.{GridSegment}
-use Rattle.grid_base.specs.Sides.{Left, On}
+use Rattle.grid_base.specs.Sides.{Left}
 use Rattle.grid_base.specs.Plane.{Place, IsFree}
+use Rattle.grid_base.proofs.Signs.{left_off}
 use Rattle.linked_parts.proofs.LinkedNumbers.{linked_here}
-use Rattle.plane_classes.specs.Classes.{AreInOneClass, IsOuter}
+use Rattle.plane_classes.specs.Classes.{IsOuter}
 use Rattle.plane_classes.specs.Shear.{sheared, sheared_place}
 use Rattle.plane_classes.proofs.ClassLemmas.{one_class_joined, one_class_back}
 use Rattle.plane_classes.proofs.Shears.{free_sheared}
@@ -17,16 +19,16 @@ use Rattle.plane_cells.specs.Steps.{Step, links}
 use Rattle.plane_cells.specs.Walks.{None}
 use Rattle.plane_cells.proofs.ColumnParity.{HasParity, parity_of_place}
 use Rattle.plane_cells.proofs.EachSide.{each_side}
-use Rattle.plane_cells.proofs.Numbered.{IsSweep, all_among, side_place, class_of_linked, outer_by_label}
+use Rattle.plane_cells.proofs.Numbered.{all_among, side_place, class_of_linked, outer_by_label}
 use Rattle.plane_cells.proofs.ShearedRealm.{position}
 use Rattle.plane_cells.proofs.ShearedSides.{IsRealmSweep, sweep_of, below_of, side_of_sweep, free_beside, outer_unsheared}
 
 -- a place with the label of the gap over segment i is in one class with what lies beside it on its left
 over_segment : (B : List GridSegment) (steps : List Step) (right : ℕ → ℕ) (i : ℕ) (q : Place) → AreOfRealm B
-    → IsRealmSweep (2 ^ 28) B steps right → IsFree B q → i < length B
-    → HasLabel (λ j. sheared (2 ^ 28) (numbered B j)) [] steps (sheared_place (2 ^ 28) q) (suc i) → IsBySome B q
+    → IsRealmSweep grid_side B steps right → IsFree B q → i < length B
+    → HasLabel (λ j. sheared grid_side (numbered B j)) [] steps (sheared_place grid_side q) (suc i) → IsBySome B q
 over_segment B steps right i q realm s free within has =
-    let n = 2 ^ 28 in
+    let n = grid_side in
     let C = map (sheared n) B in
     let seg = λ (j : ℕ). sheared n (numbered B j) in
     let r = s.realm in
@@ -40,17 +42,14 @@ over_segment B steps right i q realm s free within has =
     let one = class_unsheared n B q p r.order (below_of n B r) r.some free (free_beside B (numbered B i) Left p some.1)
     (one_class_joined C (sheared_place n q) near.place (sheared_place n p) linked
     (one_class_back C (sheared_place n p) near.place near.class)) in
-    (i, Left, p, record { within = within; sided = two; beside = some.1 }, one)
-  where
-    two : Left ≡ On → ⊥
-    two e = cc
+    (i, Left, p, record { within = within; sided = left_off; beside = some.1 }, one)
 
 pub every_class : (B : List GridSegment) (steps : List Step) (right : ℕ → ℕ) (q : Place) → AreOfRealm B
-    → IsRealmSweep (2 ^ 28) B steps right → IsFree B q → IsOuter B q ⊎ IsBySome B q
+    → IsRealmSweep grid_side B steps right → IsFree B q → IsOuter B q ⊎ IsBySome B q
 every_class B steps right q realm s free = by hp.label hp.has hp.bounded
   where
     n : ℕ
-    n = 2 ^ 28
+    n = grid_side
 
     seg : ℕ → GridSegment
     seg j = sheared n (numbered B j)

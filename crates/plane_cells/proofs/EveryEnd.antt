@@ -1,16 +1,17 @@
 -- This file shows that of the segments that begin or end at a point an even number divides.
-use Rattle.std.proofs.Common.{◌≡◌, ◌⊎◌, ℕ, ◌<◌, ◌≤◌, Bool, true, false, ◌&&◌, List, [], ◌∷◌, ◌++◌, pos, ◌<ℤ◌, sym, ap, subst, ◌∙◌}
+use Rattle.std.proofs.Common.{◌≡◌, ℕ, ◌<◌, ◌≤◌, Bool, true, false, ◌&&◌, List, [], ◌∷◌, ◌++◌, pos, ◌<ℤ◌, sym, ap, subst, ◌∙◌}
 use Rattle.std.proofs.Common.{refl, arith, inl, inr}
 use Rattle.grid_base.specs.Point.{GridPoint}
 use Rattle.grid_base.specs.Segment.{GridSegment, IsEnd}
 use Rattle.grid_base.specs.Plane.{side_number_at}
+use Rattle.grid_base.proofs.Signs.{above_not_zero, below_not_zero, three_ways}
 use Rattle.plane_classes.proofs.Parities.{xor, par, xor_same, and_none}
 use Rattle.linked_parts.specs.Parts.{Links}
 use Rattle.plane_cells.specs.Steps.{Step, before, after, In, Each, Pairs, link, HaveRights}
 use Rattle.plane_cells.specs.Order.{at_point, IsFurtherDown}
-use Rattle.plane_cells.specs.Walks.{Position, Bound, None, Wall, IfWall, IsAcross, Lies, Across, Ahead, Past, Walk}
+use Rattle.plane_cells.specs.Walks.{Bound, None, Wall, IfWall, IsAcross, Lies, Across, Ahead, Past, Walk}
+use Rattle.plane_cells.proofs.Walks.{Position}
 use Rattle.plane_cells.proofs.Lists.{each_at, in_cases}
-use Rattle.plane_cells.proofs.Lower.{not_zero, not_zero'}
 use Rattle.plane_cells.proofs.Statuses.{pairs_left, pairs_right}
 use Rattle.plane_cells.proofs.AtVertices.{AreNumbers}
 use Rattle.plane_cells.proofs.Complete.{first_wall, walk_status, step_numbers}
@@ -25,11 +26,11 @@ use Rattle.plane_cells.proofs.ColumnParity.{distinct}
 off_vertex : (seg : ℕ → GridSegment) (k : Step) (i : ℕ) (A E C : List ℕ) → Each (λ j. pos 0 <ℤ side_number_at (seg j) (at_point k.vertex)) A
     → Each (λ j. side_number_at (seg j) (at_point k.vertex) <ℤ pos 0) C → IsEnd k.vertex (seg i) → In i (A ++ (E ++ C)) → In i E
 off_vertex seg k i A E C over under e m = elim (in_cases i A (E ++ C) m) [
-  | inl a ↦ absurd (not_zero _ (each_at (λ j. pos 0 <ℤ side_number_at (seg j) (at_point k.vertex)) A i over a)
+  | inl a ↦ absurd (above_not_zero _ (each_at (λ j. pos 0 <ℤ side_number_at (seg j) (at_point k.vertex)) A i over a)
       (zero_end (seg i) k.vertex e))
   | inr b ↦ elim (in_cases i E C b) [
     | inl c ↦ c
-    | inr d ↦ absurd (not_zero' _ (each_at (λ j. side_number_at (seg j) (at_point k.vertex) <ℤ pos 0) C i under d)
+    | inr d ↦ absurd (below_not_zero _ (each_at (λ j. side_number_at (seg j) (at_point k.vertex) <ℤ pos 0) C i under d)
         (zero_end (seg i) k.vertex e))
   ]
 ]
@@ -91,7 +92,7 @@ pub record AreTests (n : ℕ) (seg : ℕ → GridSegment) (v : GridPoint) (ga gb
   pub at_b : (i : ℕ) → i < n → (seg i).b ≡ v → gb i ≡ true
   pub off_b : (i : ℕ) → i < n → ((seg i).b ≡ v → ⊥) → gb i ≡ false
 
-each_passes : (n : ℕ) (P : ℕ → Type 0) (g : ℕ → Bool) (S : List ℕ) → ((i : ℕ) → i < n → P i → g i ≡ true) → Each (λ i. i < n) S → Each P S
+pub each_passes : (n : ℕ) (P : ℕ → Type 0) (g : ℕ → Bool) (S : List ℕ) → ((i : ℕ) → i < n → P i → g i ≡ true) → Each (λ i. i < n) S → Each P S
     → Each (λ i. g i ≡ true) S
 each_passes n P g [] h a b = tt
 each_passes n P g (i ∷ S) h a b = (h i a.0 b.0, each_passes n P g S h a.1 b.1)
@@ -141,7 +142,7 @@ end_column s v o (inl e) = let f = ap (λ (p : GridPoint). p.x) e in (omega (ari
 end_column s v o (inr e) = let f = ap (λ (p : GridPoint). p.x) e in (omega (arith, f, o), omega (arith, f))
 
 -- no end behind the wall lies before the next wall, and none behind the last
-not_before : (n : ℕ) (seg : ℕ → GridSegment) (lo hi : Bound) (status : List ℕ) (v : GridPoint) (i : ℕ) → (seg i).a.x < (seg i).b.x
+pub not_before : (n : ℕ) (seg : ℕ → GridSegment) (lo hi : Bound) (status : List ℕ) (v : GridPoint) (i : ℕ) → (seg i).a.x < (seg i).b.x
     → IsEnd v (seg i) → IfWall (λ c. c < v.x) lo → IfWall (λ e. v.x < e) hi → Each (IsAcross n seg lo hi) status → Lies seg lo hi status i
     → ⊥
 not_before n seg None hi status v i o e l h a (Across m) = (each_at (IsAcross n seg None hi) status i a m).from
@@ -159,9 +160,6 @@ not_before n seg None hi status v i o e l h a (Past m) = m
 not_before n seg (Wall c) hi status v i o e l h a (Past m) = let d = end_column (seg i) v o e in early c v.x c
     (omega (arith, m, d.1)) l refl
 
-three : (m n : ℕ) → (m < n) ⊎ ((m ≡ n) ⊎ (n < m))
-three m n = grind arith
-
 pub even_end : (B : List GridSegment) (n : ℕ) (seg : ℕ → GridSegment) (L : Links) (right : ℕ → ℕ) (f ga gb : ℕ
     → Bool) (v : GridPoint) (i : ℕ)
     → Position B n seg → Respects L f → AreTests n seg v ga gb → i < n → IsEnd v (seg i)
@@ -170,7 +168,7 @@ pub even_end : (B : List GridSegment) (n : ℕ) (seg : ℕ → GridSegment) (L :
     → xor (par_below (λ j. divides f right j && ga j) n) (par_below (λ j. divides f right j && gb j) n) ≡ false
 even_end B n seg L right f ga gb v i P h t hi e lo status [] w a r u l =
     absurd (not_before n seg lo None status v i (P.slanted i hi) e l tt w.across (w.others i hi))
-even_end B n seg L right f ga gb v i P h t hi e lo status (k ∷ steps) w a r u l = elim (three v.x k.vertex.x) [
+even_end B n seg L right f ga gb v i P h t hi e lo status (k ∷ steps) w a r u l = elim (three_ways v.x k.vertex.x) [
   | inl less ↦ absurd (not_before n seg lo (Wall k.vertex.x) status v i (P.slanted i hi) e l less w.3.across (w.3.others i hi))
   | inr o ↦ elim o [
     | inl same ↦

@@ -8,6 +8,7 @@ use Rattle.grid_base.specs.Segment.{GridSegment}
 use Rattle.grid_base.specs.Sides.{Side}
 use Rattle.grid_base.proofs.Turns.{times, times_le}
 use Rattle.grid_base.specs.Plane.{Place, side_number_at, side_at, Spans, Holds, HoldsInside, IsFree, blend, IsBeside}
+use Rattle.grid_base.proofs.Signs.{natural_order}
 use Rattle.plane_classes.proofs.Ways.{zero_by}
 use Rattle.plane_classes.proofs.Blends.{weighed, height_blend, blend_first, blend_turned}
 use Rattle.plane_cells.proofs.Vertical.{held_at}
@@ -55,24 +56,18 @@ pub record IsFar (Z : Place) : Type 0 where
 unscale_from : (e A b v : ℕ) (x z : ℤ) (w : ℕ) → 0 < A → z ≡ pos 0 → w ≡ 0 → pos (e * (A * v + b * w)) ≤ℤ weighed A b x z → pos (e * v) ≤ℤ x
 unscale_from e A b v x z w h p q k =
     let f : pos (e * (A * v + b * 0)) ≤ℤ weighed A b x (pos 0) = rw (p, q) at k in
-    elim (le_or (e * v + down x) (up x)) [
+    elim (natural_order (e * v + down x) (up x)) [
       | inl l ↦ omega (arith, ints, l)
       | inr l ↦ let t = times (up x) (e * v + down x) 0 A l h in absurd (omega (arith, ints, f))
     ]
-  where
-    le_or : (m n : ℕ) → (m ≤ n) ⊎ (n < m)
-    le_or m n = grind arith
 
 unscale_to : (e A b v : ℕ) (x z : ℤ) (w : ℕ) → 0 < A → z ≡ pos 0 → w ≡ 0 → weighed A b x z ≤ℤ pos (e * (A * v + b * w)) → x ≤ℤ pos (e * v)
 unscale_to e A b v x z w h p q k =
     let f : weighed A b x (pos 0) ≤ℤ pos (e * (A * v + b * 0)) = rw (p, q) at k in
-    elim (le_or (up x) (e * v + down x)) [
+    elim (natural_order (up x) (e * v + down x)) [
       | inl l ↦ omega (arith, ints, l)
       | inr l ↦ let t = times (e * v + down x) (up x) 0 A l h in absurd (omega (arith, ints, f))
     ]
-  where
-    le_or : (m n : ℕ) → (m ≤ n) ⊎ (n < m)
-    le_or m n = grind arith
 
 spans_back : (s : GridSegment) (A b : ℕ) (m Z : Place) → 0 < A → IsFar Z → Spans s (blend A b m Z) → Spans s m
 spans_back s A b m Z h f k =

@@ -7,10 +7,11 @@ use Rattle.grid_base.specs.Segment.{GridSegment}
 use Rattle.grid_base.specs.Sides.{Side, Left, On, Right, side_of}
 use Rattle.grid_base.proofs.Turns.{times_le}
 use Rattle.grid_base.specs.Plane.{Place, side_at, side_number_at, Spans, Holds, blend}
+use Rattle.grid_base.proofs.Signs.{on_by_zero, right_by_sign, left_off, right_off}
 use Rattle.plane_classes.proofs.Heights.{height_is}
-use Rattle.plane_classes.proofs.Ways.{on_by_zero, zero_by}
+use Rattle.plane_classes.proofs.Ways.{zero_by}
 use Rattle.plane_cells.specs.Steps.{In, Each, Pairs}
-use Rattle.plane_cells.proofs.Vertical.{zenith, right_by, raised_left, raised_right, foot, InColumn, column_spans, column_real}
+use Rattle.plane_cells.proofs.Vertical.{zenith, raised_left, raised_right, foot, InColumn, column_spans, column_real}
 use Rattle.plane_cells.proofs.Vertical.{column_joined, raised_column, held_at}
 use Rattle.plane_cells.proofs.Lower.{AtMost}
 use Rattle.plane_cells.proofs.Lists.{each_map, each_at}
@@ -23,7 +24,7 @@ under_all s x w o h =
     let q : Place = record { x = x; y = negsuc 0; w = w } in
     let t1 = times_le 0 s.a.y (up x) (down x + s.b.x * w) (omega arith) (omega (arith, ints, h.to)) in
     let t2 = times_le 0 s.b.y (down x + s.a.x * w) (up x) (omega arith) (omega (arith, ints, h.from)) in
-    right_by _ (omega (arith, ints, height_is s q))
+    right_by_sign _ (omega (arith, ints, height_is s q))
 
 -- ---- just above a place of a segment
 pub on_at_most : (x : ℤ) (d : Side) → AtMost d (side_of x) → d ≡ On → pos 0 ≤ℤ x
@@ -44,16 +45,10 @@ zero_at_least x e = omega (arith, ints, e)
 
 -- a list that is split just above i: all before it are below, and all behind it above
 pub over_off : (seg : ℕ → GridSegment) (r : Place) (k : ℕ) → IsOver seg r k → IsOff seg r k
-over_off seg r k h e = not_two (sym h ∙ e)
-  where
-    not_two : Left ≡ On → ⊥
-    not_two e = cc
+over_off seg r k h e = left_off (sym h ∙ e)
 
 pub under_off : (seg : ℕ → GridSegment) (r : Place) (k : ℕ) → IsUnder seg r k → IsOff seg r k
-under_off seg r k h e = not_two (sym h ∙ e)
-  where
-    not_two : Right ≡ On → ⊥
-    not_two e = cc
+under_off seg r k h e = right_off (sym h ∙ e)
 
 pub each_apply : (P Q : ℕ → Type 0) (A : List ℕ) → Each P A → Each (λ j. P j → Q j) A → Each Q A
 each_apply P Q [] h f = tt

@@ -1,9 +1,10 @@
 -- This file shows where a segment belongs among those that begin with it.
-use Rattle.std.proofs.Common.{◌≡◌, ◌⊎◌, ℕ, zero, suc, ◌+◌, ◌^◌, ◌<◌, ◌≤◌, List, [], ◌∷◌, ◌++◌, map, length, take, drop, get_or, ℤ}
+use Rattle.std.proofs.Common.{◌≡◌, ◌⊎◌, ℕ, zero, suc, ◌+◌, ◌<◌, ◌≤◌, List, [], ◌∷◌, ◌++◌, map, length, take, drop, get_or, ℤ}
 use Rattle.std.proofs.Common.{refl, sym, ap, subst, ◌∙◌, arith, inl, inr}
+use Rattle.grid_base.specs.Grid.{grid_side}
 use Rattle.grid_base.specs.Point.{GridPoint}
 use Rattle.grid_base.specs.Segment.{GridSegment}
-use Rattle.grid_base.proofs.Signs.{sign}
+use Rattle.grid_base.proofs.Signs.{sign, natural_order}
 use Rattle.grid_base.specs.Plane.{side_number_at}
 use Rattle.plane_cells.specs.Order.{at_point}
 use Rattle.plane_cells.specs.Steps.{In, Each, Pairs}
@@ -16,6 +17,7 @@ use Rattle.std.proofs.lemmas.List.{take-append-drop}
 use Rattle.std.proofs.lemmas.List.Edits.{length-insert}
 use Rattle.grid_base.specs.Point.{is_point}
 use Rattle.grid_base.proofs.Orders.{is_point-same, is_point-itself}
+use Rattle.grid_base.proofs.Collinear.{same_segment}
 use Rattle.plane_cells.proofs.Lists.{each_map, each_both, each_joined, in_left, in_right, in_cases}
 use Rattle.plane_cells.proofs.Statuses.{pairs_joined, Crosswise}
 use Rattle.plane_cells.proofs.Parts.{segment_read}
@@ -23,55 +25,52 @@ use Rattle.plane_cells.proofs.ShearedRealm.{position, realm_below, numbered_in, 
 use Rattle.plane_cells.proofs.Angles.{left_sheared, left_unsheared, angle_turned, angle_joined, not_on_one_line}
 
 -- ---- angles of numbered segments
-some : 0 < 2 ^ 28
+some : 0 < grid_side
 some = omega arith
 
 abbrev high : List GridSegment → ℕ → ℕ → ℤ
-high B i j = side_number_at (sheared (2 ^ 28) (numbered B i)) (at_point (sheared_point (2 ^ 28) (numbered B j).b))
+high B i j = side_number_at (sheared grid_side (numbered B i)) (at_point (sheared_point grid_side (numbered B j).b))
 
 same_begin : (B : List GridSegment) (i : ℕ) (v : GridPoint) → (numbered B i).a ≡ v
-    → (sheared (2 ^ 28) (numbered B i)).a ≡ sheared_point (2 ^ 28) v
-same_begin B i v e = ap (λ (p : GridPoint). sheared_point (2 ^ 28) p) e
-
-one_segment : (s t : GridSegment) → s.a ≡ t.a → s.b ≡ t.b → s ≡ t
-one_segment s t e f = ap (λ (p : GridPoint). record { a = p; b = s.b }) e ∙ ap (λ (p : GridPoint). record { a = t.a; b = p }) f
+    → (sheared grid_side (numbered B i)).a ≡ sheared_point grid_side v
+same_begin B i v e = ap (λ (p : GridPoint). sheared_point grid_side p) e
 
 pub once_sheared : (B : List GridSegment) (i j : ℕ) → AreOfRealm B → i < length B → j < length B
-    → sheared_point (2 ^ 28) (numbered B i).a ≡ sheared_point (2 ^ 28) (numbered B j).a
-    → sheared_point (2 ^ 28) (numbered B i).b ≡ sheared_point (2 ^ 28) (numbered B j).b → i ≡ j
+    → sheared_point grid_side (numbered B i).a ≡ sheared_point grid_side (numbered B j).a
+    → sheared_point grid_side (numbered B i).b ≡ sheared_point grid_side (numbered B j).b → i ≡ j
 once_sheared B i j r hi hj e f =
     let a = r.on_grid (numbered B i) (numbered_in B i hi) in
     let b = r.on_grid (numbered B j) (numbered_in B j hj) in
-    r.once i j hi hj (one_segment (numbered B i) (numbered B j)
-    (one_point (2 ^ 28) (numbered B i).a (numbered B j).a a.row b.row (ap (λ (p : GridPoint). p.x) e))
-    (one_point (2 ^ 28) (numbered B i).b (numbered B j).b a.end_row b.end_row (ap (λ (p : GridPoint). p.x) f)))
+    r.once i j hi hj (same_segment (numbered B i) (numbered B j)
+    (one_point grid_side (numbered B i).a (numbered B j).a a.row b.row (ap (λ (p : GridPoint). p.x) e))
+    (one_point grid_side (numbered B i).b (numbered B j).b a.end_row b.end_row (ap (λ (p : GridPoint). p.x) f)))
 
 -- where i isn't below j, j is below i
 pub other_way : (B : List GridSegment) (i j : ℕ) (v : GridPoint) → AreOfRealm B → i < length B → j < length B → (i ≡ j → ⊥)
     → (numbered B i).a ≡ v → (numbered B j).a ≡ v → (IsLeftward B i j → ⊥) → IsLeftward B j i
 other_way B i j v r hi hj d e f fails =
-    let P = position (2 ^ 28) B (realm_below B r) in
+    let P = position grid_side B (realm_below B r) in
     elim (sign (high B i j)) [
-      | inl h ↦ left_unsheared (2 ^ 28) (numbered B j) (numbered B i).b some
-          (angle_turned (sheared (2 ^ 28) (numbered B i)) (sheared (2 ^ 28) (numbered B j)) (sheared_point (2 ^ 28) v) (same_begin B i v e)
+      | inl h ↦ left_unsheared grid_side (numbered B j) (numbered B i).b some
+          (angle_turned (sheared grid_side (numbered B i)) (sheared grid_side (numbered B j)) (sheared_point grid_side v) (same_begin B i v e)
           (same_begin B j v f) h)
       | inr o ↦ elim o [
-        | inl h ↦ absurd (not_on_one_line (map (sheared (2 ^ 28)) B) (length B) (λ k. sheared (2 ^ 28) (numbered B k)) i j
-            (sheared_point (2 ^ 28) v) P
+        | inl h ↦ absurd (not_on_one_line (map (sheared grid_side) B) (length B) (λ k. sheared grid_side (numbered B k)) i j
+            (sheared_point grid_side v) P
             (once_sheared B i j r hi hj) hi hj d (same_begin B i v e) (same_begin B j v f) h)
-        | inr h ↦ absurd (fails (left_unsheared (2 ^ 28) (numbered B i) (numbered B j).b some h))
+        | inr h ↦ absurd (fails (left_unsheared grid_side (numbered B i) (numbered B j).b some h))
       ]
     ]
 
 pub further : (B : List GridSegment) (i j k : ℕ) (v : GridPoint) → AreOfRealm B → i < length B → j < length B → k < length B
     → (numbered B i).a ≡ v → (numbered B j).a ≡ v → (numbered B k).a ≡ v → IsLeftward B i j → IsLeftward B j k → IsLeftward B i k
 further B i j k v r hi hj hk e f g h l =
-    let P = position (2 ^ 28) B (realm_below B r) in
-    left_unsheared (2 ^ 28) (numbered B i) (numbered B k).b some
-    (angle_joined (sheared (2 ^ 28) (numbered B i)) (sheared (2 ^ 28) (numbered B j)) (sheared (2 ^ 28) (numbered B k))
-    (sheared_point (2 ^ 28) v) (same_begin B i v e) (same_begin B j v f) (same_begin B k v g)
-    (P.slanted i hi) (P.slanted j hj) (P.slanted k hk) (left_sheared (2 ^ 28) (numbered B i) (numbered B j).b some h)
-    (left_sheared (2 ^ 28) (numbered B j) (numbered B k).b some l))
+    let P = position grid_side B (realm_below B r) in
+    left_unsheared grid_side (numbered B i) (numbered B k).b some
+    (angle_joined (sheared grid_side (numbered B i)) (sheared grid_side (numbered B j)) (sheared grid_side (numbered B k))
+    (sheared_point grid_side v) (same_begin B i v e) (same_begin B j v f) (same_begin B k v g)
+    (P.slanted i hi) (P.slanted j hj) (P.slanted k hk) (left_sheared grid_side (numbered B i) (numbered B j).b some h)
+    (left_sheared grid_side (numbered B j) (numbered B k).b some l))
 
 -- ---- the list with i in it
 -- the list is sorted at the end of segment i
@@ -193,7 +192,7 @@ fan_more B v a next i s F G h l e f t ins g = record {
 
 -- ---- no more begin there
 pub fan_done : (B : List GridSegment) (v : GridPoint) (next i : ℕ) (F : List ℕ) → AreOfRealm B → AreAscending B → IsNext B v next
-    → v.y < 2 ^ 28 → IsFanTo B v next i F → (i < length B → (numbered B i).a ≡ v → ⊥) → IsFan B v next F
+    → v.y < grid_side → IsFanTo B v next i F → (i < length B → (numbered B i).a ≡ v → ⊥) → IsFan B v next F
 fan_done B v next i F r asc n low h stop = record {
   fan = subst (λ (j : ℕ). IsFanTo B v next j F) (sym h.count) h;
   all = λ j l e. elim (parts j) [
@@ -204,10 +203,7 @@ fan_done B v next i F r asc n low h stop = record {
 }
   where
     parts : (j : ℕ) → (j < next) ⊎ (((next ≤ j) × (j < i)) ⊎ (i ≤ j))
-    parts j = elim (le_or next j) [ inl a ↦ elim (le_or i j) [ inl b ↦ inr (inr b) | inr b ↦ inr (inl (a, b)) ] | inr a ↦ inl a ]
-      where
-        le_or : (m n : ℕ) → (m ≤ n) ⊎ (n < m)
-        le_or m n = grind arith
+    parts j = elim (natural_order next j) [ inl a ↦ elim (natural_order i j) [ inl b ↦ inr (inr b) | inr b ↦ inr (inl (a, b)) ] | inr a ↦ inl a ]
 
     early : (j : ℕ) → column_of (numbered B j).a < column_of v → (numbered B j).a ≡ v → ⊥
     early j a e = less_self _ _ (ap column_of e) a
@@ -219,7 +215,7 @@ fan_done B v next i F r asc n low h stop = record {
     first l = elim (less_or _ _ (n.later i h.order l)) [
       | inl a ↦ a
       | inr e ↦ absurd
-          (stop l (sym (one_point (2 ^ 28) v (numbered B i).a low (r.on_grid (numbered B i) (numbered_in B i l)).row e)))
+          (stop l (sym (one_point grid_side v (numbered B i).a low (r.on_grid (numbered B i) (numbered_in B i l)).row e)))
     ]
       where
         less_or : (x y : ℕ) → x ≤ y → (x < y) ⊎ (x ≡ y)

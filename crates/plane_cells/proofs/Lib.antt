@@ -86,6 +86,8 @@ pub mod AskedLabels
 pub mod Asking
 -- answers for other segments
 pub mod Outers
+-- lists in any order
+pub mod AnyOrder
 -- a segment that isn't of the border
 pub mod OtherOfRealm
 -- from the premise of the public calls

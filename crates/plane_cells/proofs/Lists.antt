@@ -1,5 +1,6 @@
 -- This file shows how a property of each element goes over parts of a list.
 use Rattle.std.proofs.Common.{◌≡◌, ◌⊎◌, ℕ, ◌<◌, List, [], ◌∷◌, ◌++◌, refl, sym, ap, subst, inl, inr, arith}
+use Rattle.grid_base.proofs.Signs.{three_ways}
 use Rattle.plane_cells.specs.Steps.{In, Each}
 
 pub each_left : (P : ℕ → Type 0) (A B : List ℕ) → Each P (A ++ B) → Each P A
@@ -55,13 +56,10 @@ joined_twice (i ∷ A) B C = ap (λ (l : List ℕ). i ∷ l) (joined_twice A B C
 
 -- two numbers are one, or not
 pub same_or : (m n : ℕ) → (m ≡ n) ⊎ (m ≡ n → ⊥)
-same_or m n = elim (three m n) [
+same_or m n = elim (three_ways m n) [
   | inl h ↦ inr (λ e. less_self m n h e)
   | inr o ↦ elim o [ inl h ↦ inl h | inr h ↦ inr (λ e. less_self n m h (sym e)) ]
 ]
   where
-    three : (m n : ℕ) → (m < n) ⊎ ((m ≡ n) ⊎ (n < m))
-    three m n = grind arith
-
     less_self : (m n : ℕ) → m < n → m ≡ n → ⊥
     less_self m n h e = omega (arith, h, e)

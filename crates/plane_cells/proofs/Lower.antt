@@ -7,13 +7,13 @@ use Rattle.grid_base.specs.Point.{GridPoint}
 use Rattle.grid_base.specs.Segment.{GridSegment}
 use Rattle.grid_base.specs.Sides.{Left, Right, side_of}
 use Rattle.grid_base.proofs.Turns.{times, times_le}
-use Rattle.grid_base.proofs.Signs.{order}
+use Rattle.grid_base.proofs.Signs.{order, left_by_sign, right_by_sign, above_not_zero, below_not_zero, not_both}
 use Rattle.grid_base.specs.Plane.{Place, side_number_at, Spans, blend}
 use Rattle.plane_classes.proofs.Heights.{height_is, under_a, over_a}
 use Rattle.plane_classes.proofs.Blends.{weighed, height_blend}
 use Rattle.plane_classes.proofs.OverTests.{Less, Same, More, three}
 pub use Rattle.plane_cells.specs.Order.{AtMost, IsLower, at_point}
-use Rattle.plane_cells.proofs.Vertical.{zenith, nadir, left_by, right_by, foot_below, foot_above, lowered_column, raised_column}
+use Rattle.plane_cells.proofs.Vertical.{zenith, nadir, foot_below, foot_above, lowered_column, raised_column}
 use Rattle.plane_cells.proofs.Vertical.{column_spans, column_after, column_real, height_zenith, height_nadir}
 use Rattle.plane_cells.proofs.AlongSegments.{at_most, IsOffInside, one_side_along, over_point, under_point}
 
@@ -41,19 +41,10 @@ down_of y (pos n) h k = omega (arith, ints, h, k)
 down_of y (negsuc n) h k = omega (arith, ints, h, k)
 
 sides_differ : (x y : ℤ) → pos 0 <ℤ x → y <ℤ pos 0 → side_of x ≡ side_of y → ⊥
-sides_differ x y h k e = not_two (sym (left_by x h) ∙ e ∙ right_by y k)
+sides_differ x y h k e = not_two (sym (left_by_sign x h) ∙ e ∙ right_by_sign y k)
   where
     not_two : Left ≡ Right → ⊥
     not_two e = cc
-
-pub not_zero : (z : ℤ) → pos 0 <ℤ z → z ≡ pos 0 → ⊥
-not_zero z h e = omega (arith, ints)
-
-pub not_zero' : (z : ℤ) → z <ℤ pos 0 → z ≡ pos 0 → ⊥
-not_zero' z h e = omega (arith, ints)
-
-pub no_two : (a b : ℤ) → a <ℤ b → b ≤ℤ a → ⊥
-no_two a b h k = omega (arith, ints)
 
 wide : (s : GridSegment) → s.a.x < s.b.x → 0 < s.b.x - s.a.x
 wide s o = omega (arith, o)
@@ -68,10 +59,10 @@ pub lower_by_left : (s t : GridSegment) → s.a.x < s.b.x → t.a.x < t.b.x → 
     → pos 0 <ℤ side_number_at s (at_point t.a) → IsLower s t
 lower_by_left s t so o apart g m q hw hs ht = at_most (side_number_at t q) (side_number_at s q)
     (λ up_t down_s less. elim (three q.x (pos (t.a.x * q.w))) [
-      | Less k ↦ no_two q.x _ k ht.from
+      | Less k ↦ not_both q.x _ k ht.from
       | Same k ↦ elim (order (pos (t.a.y * q.w)) q.y) [
-        | inl l ↦ no_two _ _ (over_point s t.a q so hw k l m) down_s
-        | inr l ↦ no_two _ _ (under_a t q o k l) up_t
+        | inl l ↦ not_both _ _ (over_point s t.a q so hw k l m) down_s
+        | inr l ↦ not_both _ _ (under_a t q o k l) up_t
       ]
       | More k ↦
           let f : Place = blend (t.b.x - t.a.x) (up (side_number_at t q)) q nadir in
@@ -84,23 +75,23 @@ lower_by_left s t so o apart g m q hw hs ht = at_most (side_number_at t q) (side
           (subst (λ (n : ℤ). side_number_at s q <ℤ n) (sym (up_of (side_number_at t q) up_t)) less) (fall s so)) in
           sides_differ _ _ m low
           (one_side_along s t f (column_real q f c hw) so o apart g (column_spans s q f c hs) (column_spans t q f c ht) z
-          (column_after t.a.x q f c k) (not_zero _ m) (not_zero' _ low))
+          (column_after t.a.x q f c k) (above_not_zero _ m) (below_not_zero _ low))
     ])
 
 pub lower_by_right : (s t : GridSegment) → s.a.x < s.b.x → t.a.x < t.b.x → IsOffInside s t → Spans s (at_point t.a)
     → side_number_at s (at_point t.a) <ℤ pos 0 → IsLower t s
 lower_by_right s t so o apart g m q hw ht hs = at_most (side_number_at s q) (side_number_at t q)
     (λ up_s down_t less. elim (three q.x (pos (t.a.x * q.w))) [
-      | Less k ↦ no_two q.x _ k ht.from
+      | Less k ↦ not_both q.x _ k ht.from
       | Same k ↦ elim (order q.y (pos (t.a.y * q.w))) [
-        | inl l ↦ no_two _ _ (under_point s t.a q so hw k l m) up_s
-        | inr l ↦ no_two _ _ (over_a t q o k l) down_t
+        | inl l ↦ not_both _ _ (under_point s t.a q so hw k l m) up_s
+        | inr l ↦ not_both _ _ (over_a t q o k l) down_t
       ]
       | More k ↦ elim (order (pos 0) (side_number_at t q)) [
         | inl flat ↦ let z = flat_zero _ flat down_t in
             sides_differ' _ _ m (subst (λ (n : ℤ). n <ℤ side_number_at s q) z less)
-            (one_side_along s t q hw so o apart g hs ht z k (not_zero' _ m)
-            (not_zero _ (subst (λ (n : ℤ). n <ℤ side_number_at s q) z less)))
+            (one_side_along s t q hw so o apart g hs ht z k (below_not_zero _ m)
+            (above_not_zero _ (subst (λ (n : ℤ). n <ℤ side_number_at s q) z less)))
         | inr under ↦
             let f : Place = blend (t.b.x - t.a.x) (down (side_number_at t q)) q zenith in
             let c = raised_column (t.b.x - t.a.x) (down (side_number_at t q)) q (wide t o) in
@@ -112,7 +103,7 @@ lower_by_right s t so o apart g m q hw ht hs = at_most (side_number_at s q) (sid
             (down_of (side_number_at s q) (side_number_at t q) down_t less) (rise s so)) in
             sides_differ' _ _ m high
             (one_side_along s t f (column_real q f c hw) so o apart g (column_spans s q f c hs) (column_spans t q f c ht) z
-            (column_after t.a.x q f c k) (not_zero' _ m) (not_zero _ high))
+            (column_after t.a.x q f c k) (below_not_zero _ m) (above_not_zero _ high))
       ]
     ])
   where

@@ -1,10 +1,11 @@
 -- This file shows that one step of the sweep leads from a right status to the next one.
-use Rattle.std.proofs.Common.{◌≡◌, ◌⊎◌, ℕ, ◌<◌, ◌≤◌, List, [], ◌∷◌, ◌++◌, ℤ, pos, ◌<ℤ◌, refl, sym, ap, subst, arith, inl, inr}
+use Rattle.std.proofs.Common.{◌≡◌, ◌⊎◌, ℕ, ◌<◌, ◌≤◌, List, [], ◌∷◌, ◌++◌, pos, ◌<ℤ◌, refl, sym, ap, subst, arith, inl, inr}
 use Rattle.std.proofs.lemmas.Int.{ints}
 use Rattle.grid_base.specs.Point.{GridPoint}
 use Rattle.grid_base.specs.Segment.{GridSegment}
 use Rattle.grid_base.specs.Segment.{IsEnd}
 use Rattle.grid_base.specs.Plane.{side_number_at, Spans}
+use Rattle.grid_base.proofs.Signs.{above_not_zero, below_not_zero}
 use Rattle.plane_classes.proofs.Heights.{at_b}
 use Rattle.plane_cells.specs.Steps.{Step, before, after, In, Each, Pairs}
 use Rattle.plane_cells.proofs.AlongSegments.{IsOffInside, zero_begin}
@@ -12,17 +13,12 @@ use Rattle.plane_cells.proofs.Lower.{at_point, lower_by_left, lower_by_right, lo
 use Rattle.plane_cells.proofs.Lists.{each_map, each_at, each_both, each_joined, each_left, each_right, in_left, in_right, in_cases}
 use Rattle.plane_cells.proofs.Labels.{IsFurtherDown}
 use Rattle.plane_cells.proofs.Walks.{Position, Bound, None, Wall, IfWall, HasWall, IsAcross}
-pub use Rattle.plane_cells.specs.Walks.{IsHere, IsNextVertex, IsTurn}
+pub use Rattle.plane_cells.specs.Walks.{IsHere}
+pub use Rattle.plane_cells.proofs.Walks.{IsNextVertex, IsTurn}
 use Rattle.plane_cells.proofs.Beside.{alone}
 use Rattle.plane_cells.proofs.Statuses.{pairs_joined, pairs_left, pairs_right, pairs_across, slab_status}
 
 -- ---- what a step must have for it
-not_up : (z : ℤ) → pos 0 <ℤ z → z ≡ pos 0 → ⊥
-not_up z h e = omega (arith, ints, h, e)
-
-not_down : (z : ℤ) → z <ℤ pos 0 → z ≡ pos 0 → ⊥
-not_down z h e = omega (arith, ints, h, e)
-
 zero_at_a : (s : GridSegment) (v : GridPoint) → s.a ≡ v → side_number_at s (at_point v) ≡ pos 0
 zero_at_a s v e = subst (λ (u : GridPoint). side_number_at s (at_point u) ≡ pos 0) e (zero_begin s)
 
@@ -53,7 +49,7 @@ lower_new B n seg v i j P hi hj s h e = (
 )
   where
     apart : i ≡ j → ⊥
-    apart f = not_up _ h (zero_at_a (seg i) v (subst (λ (k : ℕ). (seg k).a ≡ v) (sym f) e))
+    apart f = above_not_zero _ h (zero_at_a (seg i) v (subst (λ (k : ℕ). (seg k).a ≡ v) (sym f) e))
 
 lower_old : (B : List GridSegment) (n : ℕ) (seg : ℕ → GridSegment) (v : GridPoint) (i j : ℕ) → Position B n seg → i < n → j < n
     → Spans (seg j) (at_point v) → side_number_at (seg j) (at_point v) <ℤ pos 0 → (seg i).a ≡ v → IsFurtherDown seg i j
@@ -65,12 +61,12 @@ lower_old B n seg v i j P hi hj s h e = (
 )
   where
     apart : i ≡ j → ⊥
-    apart f = not_down _ h (zero_at_a (seg j) v (subst (λ (k : ℕ). (seg k).a ≡ v) f e))
+    apart f = below_not_zero _ h (zero_at_a (seg j) v (subst (λ (k : ℕ). (seg k).a ≡ v) f e))
 
 lower_fan : (B : List GridSegment) (n : ℕ) (seg : ℕ → GridSegment) (v : GridPoint) (i j : ℕ) → Position B n seg → i < n → j < n
     → (seg i).a ≡ v → (seg j).a ≡ v → pos 0 <ℤ side_number_at (seg i) (at_point (seg j).b) → IsFurtherDown seg i j
 lower_fan B n seg v i j P hi hj e f h = (
-  λ g. not_up _ h (zero_at_b (seg i) (seg j).b (ap (λ (k : ℕ). (seg k).b) g)),
+  λ g. above_not_zero _ h (zero_at_b (seg i) (seg j).b (ap (λ (k : ℕ). (seg k).b) g)),
   lower_by_angle (seg i) (seg j) v e f (P.slanted i hi)
       (P.slanted j hj) h,
 )
@@ -194,13 +190,13 @@ here_behind B n seg lo k status P h s e t =
       begun = each_joined (λ i. ((seg i).a.x ≤ k.vertex.x) × (k.vertex.x < (seg i).b.x)) k.below (k.begins ++ k.above)
           (each_both (IsPart n seg k.vertex) (λ i. pos 0 <ℤ side_number_at (seg i) (at_point k.vertex))
           (λ i. ((seg i).a.x ≤ k.vertex.x) × (k.vertex.x < (seg i).b.x)) k.below
-          (λ i p d. goes_on B n seg k.vertex i P s.vertex p (not_up _ d)) a t.step.below)
+          (λ i p d. goes_on B n seg k.vertex i P s.vertex p (above_not_zero _ d)) a t.step.below)
           (each_joined (λ i. ((seg i).a.x ≤ k.vertex.x) × (k.vertex.x < (seg i).b.x)) k.begins k.above
           (each_both (λ i. i < n) (λ i. (seg i).a ≡ k.vertex) (λ i. ((seg i).a.x ≤ k.vertex.x) × (k.vertex.x < (seg i).b.x)) k.begins
           (λ i l d. new_here B n seg k.vertex i P l d) t.numbers t.step.begins)
           (each_both (IsPart n seg k.vertex) (λ i. side_number_at (seg i) (at_point k.vertex) <ℤ pos 0)
           (λ i. ((seg i).a.x ≤ k.vertex.x) × (k.vertex.x < (seg i).b.x)) k.above
-          (λ i p d. goes_on B n seg k.vertex i P s.vertex p (not_down _ d)) c t.step.above));
+          (λ i p d. goes_on B n seg k.vertex i P s.vertex p (below_not_zero _ d)) c t.step.above));
       others = λ i l. others_behind B n seg lo k status i P t s e l (h.others i l);
       sorted = sorted_behind B n seg k P t a c (subst (Pairs (IsFurtherDown seg)) e h.sorted);
     }

@@ -3,9 +3,9 @@ use Rattle.std.proofs.Common.{◌≡◌, ℕ, ◌*◌, ◌<◌, ◌≤◌, List,
 use Rattle.std.proofs.lemmas.Int.{ints}
 use Rattle.grid_base.specs.Point.{GridPoint}
 use Rattle.grid_base.specs.Segment.{GridSegment}
-use Rattle.grid_base.specs.Sides.{Side, Left, On, Right}
+use Rattle.grid_base.specs.Sides.{Side, On}
 use Rattle.grid_base.proofs.Turns.{times_le}
-use Rattle.grid_base.proofs.Signs.{order}
+use Rattle.grid_base.proofs.Signs.{order, left_off, right_off}
 use Rattle.grid_base.specs.Plane.{Place, IsFree, IsBeside}
 use Rattle.plane_classes.specs.Classes.{TouchOneCell, Joins, AreInOneClass, IsLeftOfAll, IsOuter}
 use Rattle.plane_cells.proofs.Sided.{IsSlanted}
@@ -14,7 +14,7 @@ use Rattle.plane_classes.proofs.ClassLemmas.{touch_back, one_class_joined, one_c
 use Rattle.plane_classes.proofs.Cuts.{walls_of, wall_listed}
 use Rattle.plane_classes.proofs.BesideSegment.{nearer}
 use Rattle.plane_classes.proofs.Outer.{outside, outside_is_left, left_is_free, outer_goes_on}
-use Rattle.plane_cells.specs.Steps.{Step, after, link, links, HaveRights, side_label}
+use Rattle.plane_cells.specs.Steps.{Step, after, link, links, HaveRights}
 use Rattle.linked_parts.specs.Parts.{Links, IsLink, AreLinked}
 use Rattle.plane_cells.proofs.Links.{link_here, link_later}
 use Rattle.linked_parts.proofs.LinkedNumbers.{linked_by, linked_both, linked_back}
@@ -23,7 +23,7 @@ use Rattle.plane_cells.proofs.Walks.{Position, None, Walk, HasLabel}
 use Rattle.plane_cells.proofs.Complete.{touched, touch_end}
 use Rattle.plane_cells.proofs.InSlabs.{AreWithin}
 use Rattle.plane_cells.proofs.Sound.{sound}
-use Rattle.plane_cells.proofs.Beside.{IsNear, AreAmong, labelled}
+use Rattle.plane_cells.proofs.Beside.{IsNear, AreAmong, labelled, side_label}
 
 -- all of it: the segments, none vertical, and the steps from the empty status
 pub record IsSweep (B : List GridSegment) (n : ℕ) (seg : ℕ → GridSegment) (D : ℕ) (steps : List Step) (right : ℕ → ℕ) : Type 0 where
@@ -52,14 +52,8 @@ all_among (k ∷ steps) L h = (
 )
 
 not_on : (d : Side) → IsSlanted d → d ≡ On → ⊥
-not_on d (inl e) f = two (sym e ∙ f)
-  where
-    two : Left ≡ On → ⊥
-    two e = cc
-not_on d (inr e) f = two (sym e ∙ f)
-  where
-    two : Right ≡ On → ⊥
-    two e = cc
+not_on d (inl e) f = left_off (sym e ∙ f)
+not_on d (inr e) f = right_off (sym e ∙ f)
 
 pub side_place : (B : List GridSegment) (n : ℕ) (seg : ℕ → GridSegment) (D : ℕ) (steps : List Step) (right : ℕ
     → ℕ) (i : ℕ) (d : Side) (p : Place) → IsSweep B n seg D steps right → i < n → IsSlanted d → IsBeside B (seg i) d p

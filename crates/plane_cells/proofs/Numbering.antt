@@ -1,13 +1,14 @@
 -- This file shows that the least linked labels number the classes of sides.
-use Rattle.std.proofs.Common.{◌≡◌, ◌↔◌, ℕ, suc, ◌+◌, ◌^◌, ◌<◌, ◌≤◌, List, length, slice_index}
+use Rattle.std.proofs.Common.{◌≡◌, ◌↔◌, ℕ, suc, ◌+◌, ◌<◌, ◌≤◌, List, length, slice_index}
 use Rattle.std.proofs.Common.{refl, sym, ap, subst, ◌∙◌, arith}
+use Rattle.grid_base.specs.Grid.{grid_side}
 use Rattle.grid_base.specs.Segment.{GridSegment}
 use Rattle.grid_base.specs.Sides.{Side, Left, On, Right}
 use Rattle.grid_base.specs.Plane.{Place}
 use Rattle.plane_classes.specs.Classes.{AreInOneClass, IsOuter}
 use Rattle.linked_parts.specs.Parts.{Links, AreLinked, AreLabels}
 use Rattle.linked_parts.proofs.LinkedNumbers.{linked_here}
-use Rattle.plane_cells.specs.Steps.{links, side_label}
+use Rattle.plane_cells.specs.Steps.{links}
 use Rattle.plane_cells.specs.Sheared.{AreOfRealm}
 use Rattle.plane_cells.specs.Swept.{IsDone}
 use Rattle.plane_cells.specs.OtherNumbers.{HasNumber, HasNumbers}
@@ -18,6 +19,7 @@ use Rattle.plane_cells.proofs.ShearedRealm.{realm_below}
 use Rattle.plane_cells.proofs.EachSide.{each_side}
 use Rattle.plane_cells.proofs.EveryClass.{every_class}
 use Rattle.plane_cells.proofs.ShearedSides.{IsRealmSweep, one_class_by_labels, labels_by_class, outer_by_labels, labels_by_outer}
+use Rattle.plane_cells.proofs.Beside.{side_label}
 
 number_is : (labels right : List ℕ) (i : ℕ) (n : SideClasses) (d : Side) → HasNumber labels right i n
     → number_on n d ≡ slice_index labels (side_label (λ j. slice_index right j) i d)
@@ -32,7 +34,7 @@ label_below n right i On h k = omega (arith, h)
 label_below n right i Right h k = omega (arith, k)
 
 pub sweep_of : (B : List GridSegment) (L : Links) (right : List ℕ) → AreOfRealm B
-    → (T : List GridSegment) (Y : List ℕ) (s : IsDone B L right T Y) → IsRealmSweep (2 ^ 28) B s.steps (λ i. slice_index right i)
+    → (T : List GridSegment) (Y : List ℕ) (s : IsDone B L right T Y) → IsRealmSweep grid_side B s.steps (λ i. slice_index right i)
 sweep_of B L right r T Y s = record { realm = realm_below B r; walk = s.walk; rights = s.rights }
 
 -- 0 is the least of its part
@@ -79,9 +81,9 @@ one_class_at B L right labels T Y i j d e p q h b c =
     let y = side_label (λ m. slice_index right m) j e in
     let x_below = below B L right T Y i d s b.within in
     let y_below = below B L right T Y j e s c.within in (
-      (λ same. one_class_by_labels (2 ^ 28) B s.steps (λ m. slice_index right m) i j d e p q w b.within c.within
+      (λ same. one_class_by_labels grid_side B s.steps (λ m. slice_index right m) i j d e p q w b.within c.within
           (slanted_of d b.sided) (slanted_of e c.sided) b.beside c.beside (k.linked x y x_below y_below same)),
-      λ one. k.same x y x_below y_below (labels_by_class (2 ^ 28) B s.steps (λ m. slice_index right m) i j d e p q w b.within c.within
+      λ one. k.same x y x_below y_below (labels_by_class grid_side B s.steps (λ m. slice_index right m) i j d e p q w b.within c.within
           (slanted_of d b.sided) (slanted_of e c.sided) b.beside c.beside one),
     )
 
@@ -93,10 +95,10 @@ outer_at B L right labels T Y i d p h b =
     let k = linked_labels (length B) L (links s.steps) labels s.links h.least in
     let x = side_label (λ m. slice_index right m) i d in
     let x_below = below B L right T Y i d s b.within in (
-      (λ same. outer_by_labels (2 ^ 28) B s.steps (λ m. slice_index right m) i d p w b.within (slanted_of d b.sided) b.beside
+      (λ same. outer_by_labels grid_side B s.steps (λ m. slice_index right m) i d p w b.within (slanted_of d b.sided) b.beside
           (k.linked x 0 x_below (omega arith) (same ∙ sym k.zero))),
       λ outer. k.same x 0 x_below (omega arith)
-          (labels_by_outer (2 ^ 28) B s.steps (λ m. slice_index right m) i d p w b.within (slanted_of d b.sided) b.beside outer) ∙ k.zero,
+          (labels_by_outer grid_side B s.steps (λ m. slice_index right m) i d p w b.within (slanted_of d b.sided) b.beside outer) ∙ k.zero,
     )
 
 pub some_at : (B : List GridSegment) (i : ℕ) (d : Side) → AreOfRealm B → i < length B → (d ≡ On → ⊥) → (q : Place) × LiesBeside B i d q

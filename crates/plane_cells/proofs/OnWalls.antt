@@ -4,11 +4,12 @@ use Rattle.std.proofs.lemmas.Int.{ints}
 use Rattle.grid_base.specs.Point.{GridPoint}
 use Rattle.grid_base.specs.Segment.{GridSegment}
 use Rattle.grid_base.specs.Plane.{Place, side_number_at, Spans, Holds, IsFree, blend, IsAtPoint}
+use Rattle.grid_base.proofs.Signs.{above_not_zero, below_not_zero}
 use Rattle.plane_classes.proofs.Ways.{zero_by}
 use Rattle.plane_cells.specs.Steps.{Step, before, after, In, Each, label_over}
 use Rattle.plane_cells.proofs.Vertical.{zenith, raised_right, column_at, column_real}
 use Rattle.plane_cells.proofs.AlongSegments.{over_point, under_point}
-use Rattle.plane_cells.proofs.Lower.{at_point, not_zero, not_zero'}
+use Rattle.plane_cells.proofs.Lower.{at_point}
 use Rattle.plane_cells.proofs.Lists.{each_map, each_at, each_joined}
 use Rattle.plane_cells.proofs.Labels.{label_at, IsOver, IsUnder, IsOff, IsFurtherDown, label_of_under}
 use Rattle.plane_cells.proofs.InGaps.{IsThere, IsApartAt, just_above, below_all, over_off, under_off}
@@ -127,12 +128,12 @@ IsPassing seg k i = (pos 0 <ℤ side_number_at (seg i) (at_point k.vertex)) ⊎ 
 
 not_at_vertex : (B : List GridSegment) (n : ℕ) (seg : ℕ → GridSegment) (k : Step) (i : ℕ) (m : Place) → Position B n seg → i < n
     → IsPassing seg k i → 0 < m.w → IsAtPoint m k.vertex → Holds (seg i) m → ⊥
-not_at_vertex B n seg k i m P l (inl h) real e held = not_zero _ (over_point (seg i) k.vertex m (P.slanted i l) real e.0 (le_of _ _ e.1) h)
+not_at_vertex B n seg k i m P l (inl h) real e held = above_not_zero _ (over_point (seg i) k.vertex m (P.slanted i l) real e.0 (le_of _ _ e.1) h)
     (zero_by _ held.line)
   where
     le_of : (x y : ℤ) → y ≡ x → x ≤ℤ y
     le_of x y e = omega (arith, ints, e)
-not_at_vertex B n seg k i m P l (inr h) real e held = not_zero' _
+not_at_vertex B n seg k i m P l (inr h) real e held = below_not_zero _
     (under_point (seg i) k.vertex m (P.slanted i l) real e.0 (le_of _ _ e.1) h) (zero_by _ held.line)
   where
     le_of : (x y : ℤ) → x ≡ y → x ≤ℤ y

@@ -2,8 +2,9 @@
 use Rattle.std.proofs.Common.{◌≡◌, ℕ, ◌+◌, ◌<◌, sym, subst, ◌∙◌, arith, inl, inr}
 use Rattle.grid_base.specs.Segment.{GridSegment}
 use Rattle.grid_base.specs.Plane.{Place, side_number_at, side_at, Spans, Holds, blend}
+use Rattle.grid_base.proofs.Signs.{on_by_zero}
 use Rattle.plane_classes.proofs.Blends.{height_blend, spans_blend, blend_one, blend_turned}
-use Rattle.plane_classes.proofs.Ways.{Zero, Alike, Apart, signs, on_by_zero, held_by_line}
+use Rattle.plane_classes.proofs.Ways.{Zero, Alike, Apart, signs, held_by_line}
 use Rattle.plane_classes.proofs.AlongSegment.{some_weight}
 
 -- no place of the straight way from p to q is on s

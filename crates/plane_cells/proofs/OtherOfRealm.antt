@@ -1,5 +1,6 @@
 -- This file shows that a segment that makes a realm with a border, and isn't of it, can be asked for.
-use Rattle.std.proofs.Common.{◌≡◌, ℕ, suc, ◌^◌, ◌<◌, List, ◌∷◌, map, length, refl, sym, subst, arith, inl}
+use Rattle.std.proofs.Common.{◌≡◌, ℕ, suc, ◌<◌, List, ◌∷◌, map, length, refl, sym, subst, arith, inl}
+use Rattle.grid_base.specs.Grid.{grid_side}
 use Rattle.grid_base.specs.Point.{GridPoint}
 use Rattle.grid_base.specs.Segment.{GridSegment}
 use Rattle.grid_base.specs.Segment.{IsEnd}
@@ -20,10 +21,10 @@ not_first : (i : ℕ) → suc i ≡ 0 → ⊥
 not_first i e = omega (arith, e)
 
 pub other_of_realm : (B : List GridSegment) (t : GridSegment) → AreOfRealm (t ∷ B)
-    → IsOther (length B) (sheared_number B) (sheared (2 ^ 28) t)
+    → IsOther (length B) (sheared_number B) (sheared grid_side t)
 other_of_realm B t r =
     let U = t ∷ B in
-    let n = 2 ^ 28 in
+    let n = grid_side in
     let seg = λ (i : ℕ). sheared n (numbered U i) in
     let P = position n U (realm_below U r) in
     let first : 0 < length U = omega arith in

@@ -1,12 +1,14 @@
 -- This file shows that the least linked labels of other segments tell whether they lie in the outer class.
-use Rattle.std.proofs.Common.{◌≡◌, ℕ, ◌^◌, ◌<◌, ◌==◌, Bool, true, List, [], ◌∷◌, ◌++◌, length, slice_index}
+use Rattle.std.proofs.Common.{◌≡◌, ℕ, ◌<◌, ◌==◌, Bool, true, List, [], ◌∷◌, ◌++◌, length, slice_index}
 use Rattle.std.proofs.Common.{slice_index_or}
 use Rattle.std.proofs.Common.{refl, sym, subst, ◌∙◌, arith}
 use Rattle.std.specs.List.{AllZip}
+use Rattle.grid_base.specs.Grid.{grid_side}
 use Rattle.grid_base.specs.Segment.{GridSegment}
 use Rattle.grid_base.specs.Sides.{Side, On, Left, Right}
 use Rattle.grid_base.specs.Plane.{Tells}
 use Rattle.grid_base.proofs.Elements.{same_place}
+use Rattle.grid_base.proofs.Signs.{left_off, right_off}
 use Rattle.plane_classes.specs.Classes.{IsOuter}
 use Rattle.linked_parts.specs.Parts.{Links}
 use Rattle.plane_cells.specs.Steps.{links}
@@ -32,17 +34,17 @@ other_numbers B L right labels T Y numbers h o c a = record { one_each = a.one_e
         let y = slice_index Y k in
         let w = sweep_of B L right h.realm T Y s in
         let p = s.asked k (omega (arith, short, c)) in
-        let asked : IsAsked (2 ^ 28) B s.steps t y = record { other = p.other; place = p.place; inside = p.inside; has = p.has } in
+        let asked : IsAsked grid_side B s.steps t y = record { other = p.other; place = p.place; inside = p.inside; has = p.has } in
         let m = linked_labels (length B) L (links s.steps) labels s.links h.least in
         let read = a.each k (omega (arith, short, c)) in
         let low = (o.on_grid k short).1 in
         record {
-          some = beside_other (2 ^ 28) B t d (realm_below B h.realm) (o.other k short) (o.order k short) low (slanted_of d sided);
+          some = beside_other grid_side B t d (realm_below B h.realm) (o.other k short) (o.order k short) low (slanted_of d sided);
           outer = λ q b. (
-            (λ none. outer_by_asked (2 ^ 28) B s.steps (λ i. slice_index right i) t y d q w asked (o.order k short) low b
+            (λ none. outer_by_asked grid_side B s.steps (λ i. slice_index right i) t y d q w asked (o.order k short) low b
                 (m.linked y 0 (s.known k) (omega arith) (sym read ∙ none ∙ sym m.zero))),
             λ outer. read ∙ m.same y 0 (s.known k) (omega arith)
-                (asked_by_outer (2 ^ 28) B s.steps (λ i. slice_index right i) t y d q w asked (o.order k short) low b outer) ∙ m.zero,
+                (asked_by_outer grid_side B s.steps (λ i. slice_index right i) t y d q w asked (o.order k short) low b outer) ∙ m.zero,
           );
         }
 
@@ -60,12 +62,6 @@ tells_by B s d n answer h e = record {
   all = λ q b. ((λ yes. (h.outer q b).0 (zero_true n (sym e ∙ yes))), λ outer. e ∙ true_zero n ((h.outer q b).1 outer));
 }
 
-left_sided : Left ≡ On → ⊥
-left_sided e = cc
-
-right_sided : Right ≡ On → ⊥
-right_sided e = cc
-
 own_number : (B : List GridSegment) (numbers : List SideClasses) (i : ℕ) (s : GridSegment) (d : Side) → AreClassNumbers B numbers
     → i < length B → numbered B i ≡ s → (d ≡ On → ⊥) → IsOuterNumber B s d (number_at numbers i d)
 own_number B numbers i s d h hi e sided = subst (λ t. IsOuterNumber B t d (number_at numbers i d)) e (record {
@@ -79,9 +75,9 @@ pub own_sides : (B : List GridSegment) (numbers : List SideClasses) (i : ℕ) (s
     → AreOuterSides B s (record { left = n.left == 0; right = n.right == 0 })
 own_sides B numbers i s n h hi at e = record {
   left = tells_by B s Left n.left (n.left == 0)
-      (subst (λ (m : SideClasses). IsOuterNumber B s Left m.left) (sym read) (own_number B numbers i s Left h hi at left_sided)) refl;
+      (subst (λ (m : SideClasses). IsOuterNumber B s Left m.left) (sym read) (own_number B numbers i s Left h hi at left_off)) refl;
   right = tells_by B s Right n.right (n.right == 0)
-      (subst (λ (m : SideClasses). IsOuterNumber B s Right m.right) (sym read) (own_number B numbers i s Right h hi at right_sided)) refl;
+      (subst (λ (m : SideClasses). IsOuterNumber B s Right m.right) (sym read) (own_number B numbers i s Right h hi at right_off)) refl;
 }
   where
     read : n ≡ slice_index_or numbers i (record { left = 0; right = 0 })
@@ -91,8 +87,8 @@ own_sides B numbers i s n h hi at e = record {
 pub other_sides : (B T : List GridSegment) (numbers : List ℕ) (k : ℕ) (s : GridSegment) (n : ℕ) → AreOtherNumbers B T numbers
     → k < length T → numbered T k ≡ s → n ≡ slice_index_or numbers k n → AreOuterSides B s (record { left = n == 0; right = n == 0 })
 other_sides B T numbers k s n h short at e = record {
-  left = tells_by B s Left n (n == 0) (told Left left_sided) refl;
-  right = tells_by B s Right n (n == 0) (told Right right_sided) refl;
+  left = tells_by B s Left n (n == 0) (told Left left_off) refl;
+  right = tells_by B s Right n (n == 0) (told Right right_off) refl;
 }
   where
     read : n ≡ slice_index numbers k

@@ -1,10 +1,13 @@
 -- This file shows what the parts of a step may ask, and that together they lead the sweep behind the vertex.
-use Rattle.std.proofs.Common.{◌≡◌, ◌⊎◌, ℕ, zero, suc, ◌+◌, ◌^◌, ◌<◌, ◌≤◌, List, [], ◌∷◌, ◌++◌, length, take, drop, slice_index, ℤ, pos}
-use Rattle.std.proofs.Common.{◌<ℤ◌, refl, sym, ap, subst, ◌∙◌, arith, inl, inr}
+use Rattle.std.proofs.Common.{◌≡◌, ◌⊎◌, ℕ, zero, suc, ◌+◌, ◌<◌, ◌≤◌, List, [], ◌∷◌, ◌++◌, length, take, drop, slice_index}
+use Rattle.std.proofs.Common.{refl, sym, ap, subst, ◌∙◌, arith, inl, inr}
 use Rattle.std.proofs.lemmas.Int.{ints}
 use Rattle.std.proofs.lemmas.List.{take-append-drop}
-use Rattle.grid_base.specs.Point.{GridPoint, IsBefore}
+use Rattle.grid_base.specs.Grid.{grid_side, product_bound}
+use Rattle.grid_base.specs.Point.{GridPoint}
 use Rattle.grid_base.specs.Segment.{GridSegment}
+use Rattle.grid_base.proofs.Signs.{above_not_zero, three_ways}
+use Rattle.grid_base.proofs.Ends.{columns_in_order}
 use Rattle.plane_classes.proofs.Heights.{at_b}
 use Rattle.plane_cells.specs.Order.{at_point}
 use Rattle.plane_cells.specs.Steps.{In, Each, Pairs, label_over, HasRights}
@@ -23,39 +26,35 @@ use Rattle.plane_cells.proofs.Turning.{listed_end, listed_at, next_vertex, sorte
 use Rattle.plane_cells.proofs.StepOn.{IsFound, step_on, pairs_map, label_up_to}
 
 -- ---- the vertex is on the grid
-before_x : (p q : GridPoint) → IsBefore p q → p.x ≤ q.x
-before_x p q (inl h) = omega (arith, h)
-before_x p q (inr h) = omega (arith, h.0)
-
-fits : (p : GridPoint) → p.x < 2 ^ 28 → p.y < 2 ^ 28 → column_of p < 2 ^ 56
+fits : (p : GridPoint) → p.x < grid_side → p.y < grid_side → column_of p < product_bound
 fits p h k = omega (arith, h, k)
 
-pub vertex_fits : (B : List GridSegment) (V : List ℕ) (m : ℕ) → AreOfRealm B → AreVertices B V → m < length V → slice_index V m < 2 ^ 56
+pub vertex_fits : (B : List GridSegment) (V : List ℕ) (m : ℕ) → AreOfRealm B → AreVertices B V → m < length V → slice_index V m < product_bound
 vertex_fits B V m r vs l =
     let e = listed_end B (slice_index V m) (vs.only (slice_index V m) (listed_at V m l)) in
     let s = numbered B e.0 in
     let c = numbered_in B e.0 e.1 in
     let g = r.on_grid s c in
     elim e.2 [
-      | inl f ↦ subst (λ (n : ℕ). n < 2 ^ 56) (sym f)
-          (fits s.a (low s.a.x s.b.x (before_x s.a s.b ((r.on_grid s c).order)) g.end_column) g.row)
-      | inr f ↦ subst (λ (n : ℕ). n < 2 ^ 56) (sym f) (fits s.b g.end_column g.end_row)
+      | inl f ↦ subst (λ (n : ℕ). n < product_bound) (sym f)
+          (fits s.a (low s.a.x s.b.x (columns_in_order s.a s.b ((r.on_grid s c).order)) g.end_column) g.row)
+      | inr f ↦ subst (λ (n : ℕ). n < product_bound) (sym f) (fits s.b g.end_column g.end_row)
     ]
   where
-    low : (a b : ℕ) → a ≤ b → b < 2 ^ 28 → a < 2 ^ 28
+    low : (a b : ℕ) → a ≤ b → b < grid_side → a < grid_side
     low a b h k = omega (arith, h, k)
 
 -- ---- what the parts ask
 pub sorted_here : (B : List GridSegment) (V : List ℕ) (m : ℕ) (v : GridPoint) (status : List ℕ) (next : ℕ) (L : Links) (right : List ℕ) (T :
-    List GridSegment) (Y : List ℕ) → AreOfRealm B → AreVertices B V → m < length V → v.y < 2 ^ 28 → column_of v ≡ slice_index V m
+    List GridSegment) (Y : List ℕ) → AreOfRealm B → AreVertices B V → m < length V → v.y < grid_side → column_of v ≡ slice_index V m
     → IsSwept B (wall_before V m) status next L right T Y → IsSortedAt B v status
 sorted_here B V m v status next L right T Y r vs l low e s =
     let nv = next_vertex B V m v r vs l low e in
     sorted_at B (wall_before V m) status v nv.later
-    (slab_status (length B) (sheared_number B) (wall_before V m) (sheared_point (2 ^ 28) v) status s.here nv)
+    (slab_status (length B) (sheared_number B) (wall_before V m) (sheared_point grid_side v) status s.here nv)
 
 pub next_here : (B : List GridSegment) (V : List ℕ) (m : ℕ) (v : GridPoint) (status : List ℕ) (next : ℕ) (L : Links) (right : List ℕ) (T :
-    List GridSegment) (Y : List ℕ) → AreOfRealm B → AreVertices B V → m < length V → v.y < 2 ^ 28 → column_of v ≡ slice_index V m
+    List GridSegment) (Y : List ℕ) → AreOfRealm B → AreVertices B V → m < length V → v.y < grid_side → column_of v ≡ slice_index V m
     → IsSwept B (wall_before V m) status next L right T Y → IsNext B v next
 next_here B V m v status next L right T Y r vs l low e s =
     let nv = next_vertex B V m v r vs l low e in
@@ -95,10 +94,7 @@ not_own : (B : List GridSegment) (i j : ℕ) → IsLeftward B i j → i ≡ j �
 not_own B i j h e =
     let k = subst (λ (n : ℕ). IsLeftward B i n) (sym e) h in
     let g = left_height B (numbered B i).b i k in
-    positive _ g (at_b (sheared_number B i) (at_point (sheared_number B i).b) (omega (arith, ints)) (omega (arith, ints)))
-  where
-    positive : (z : ℤ) → pos 0 <ℤ z → z ≡ pos 0 → ⊥
-    positive z h e = omega (arith, ints, h, e)
+    above_not_zero _ g (at_b (sheared_number B i) (at_point (sheared_number B i).b) (omega (arith, ints)) (omega (arith, ints)))
 
 pub fan_once : (B : List GridSegment) (v : GridPoint) (next : ℕ) (F : List ℕ) → IsFan B v next F → Pairs (λ i j. i ≡ j → ⊥) F
 fan_once B v next F f = pairs_map (IsLeftward B) (λ i j. i ≡ j → ⊥) F (λ i j h. not_own B i j h) f.fan.leftward
@@ -136,7 +132,7 @@ first_dropped (suc e) (i ∷ l) h = let r = first_dropped e l h in (omega (arith
 
 in_or : (i : ℕ) (A : List ℕ) → In i A ⊎ (In i A → ⊥)
 in_or i [] = inr (λ m. m)
-in_or i (j ∷ A) = elim (three i j) [
+in_or i (j ∷ A) = elim (three_ways i j) [
   | inl h ↦ elim (in_or i A) [ inl m ↦ inl (inr m) | inr n ↦ inr (λ m. elim m [ inl e ↦ less_self i j h e | inr k ↦ n k ]) ]
   | inr o ↦ elim o [
     | inl e ↦ inl (inl e)
@@ -144,9 +140,6 @@ in_or i (j ∷ A) = elim (three i j) [
   ]
 ]
   where
-    three : (m n : ℕ) → (m < n) ⊎ ((m ≡ n) ⊎ (n < m))
-    three m n = grind arith
-
     less_self : (m n : ℕ) → m < n → m ≡ n → ⊥
     less_self m n h e = omega (arith, h, e)
 
@@ -163,7 +156,7 @@ rights_up_to f n d (i ∷ A) h a r = (subst (λ (x : ℕ). x ≤ n) (sym r.0) h,
 -- ---- behind the vertex
 pub passed : (B : List GridSegment) (V : List ℕ) (index : ℕ) (v : GridPoint) (status : List ℕ) (next : ℕ) (L : Links) (right right' : List
     ℕ) (m e : ℕ) (F : List ℕ) (under over other : ℕ) (status' : List ℕ) (L' : Links) (next' : ℕ) (T : List GridSegment) (Y : List ℕ)
-    → AreOfRealm B → AreVertices B V → index < length V → v.y < 2 ^ 28 → column_of v ≡ slice_index V index
+    → AreOfRealm B → AreVertices B V → index < length V → v.y < grid_side → column_of v ≡ slice_index V index
     → IsSwept B (wall_before V index) status next L right T Y → ((k : ℕ) → k < length Y → column_of (numbered T k).a < slice_index V index)
     → ((k : ℕ) → length Y ≤ k → k < length T → slice_index V index ≤ column_of (numbered T k).a)
     → Each (IsLeftOf B v) (take m status) → Each (λ i. IsLeftOf B v i → ⊥) (drop m status)

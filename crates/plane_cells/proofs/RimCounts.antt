@@ -6,7 +6,7 @@ use Rattle.std.proofs.lemmas.List.Kept.{AllPairs-cons}
 use Rattle.std.proofs.lemmas.List.{take_more, length-take-le}
 use Rattle.grid_base.specs.Segment.{GridSegment, IsSegmentBefore}
 use Rattle.grid_base.proofs.Elements.{Contains-here, Contains-later, Contains-cases, same_place}
-use Rattle.plane_classes.proofs.Parities.{xor, par, xor_assoc, xor_comm}
+use Rattle.plane_classes.proofs.Parities.{xor, par, xor_swap}
 use Rattle.plane_cells.specs.Numbered.{nowhere, numbered}
 use Rattle.plane_cells.specs.Rims.{is_rim, rims}
 use Rattle.plane_cells.specs.declared.classes.SideClasses.{SideClasses}
@@ -14,12 +14,9 @@ use Rattle.plane_cells.proofs.Parts.{segment_read}
 use Rattle.plane_cells.proofs.StatusCounts.{par_below}
 
 -- ---- the first number apart
-swap : (a b c : Bool) → xor a (xor b c) ≡ xor b (xor a c)
-swap a b c = sym (xor_assoc a b c) ∙ ap (λ (d : Bool). xor d c) (xor_comm a b) ∙ xor_assoc b a c
-
 pub below_first : (g : ℕ → Bool) (n : ℕ) → par_below g (suc n) ≡ xor (g 0) (par_below (λ i. g (suc i)) n)
 below_first g zero = refl
-below_first g (suc n) = ap (λ (b : Bool). xor (g (suc n)) b) (below_first g n) ∙ swap (g (suc n)) (g 0) (par_below (λ i. g (suc i)) n)
+below_first g (suc n) = ap (λ (b : Bool). xor (g (suc n)) b) (below_first g n) ∙ xor_swap (g (suc n)) (g 0) (par_below (λ i. g (suc i)) n)
 
 -- ---- the rims
 -- of the two numbers of segment i, whether just one is 0
@@ -54,10 +51,10 @@ rims_part (s ∷ B) (n ∷ numbers) t c = elim (in_picked s (rims B numbers) (is
   | inr m ↦ Contains-later s B t (rims_part B numbers t m)
 ]
 
-rest_ascends : (s : GridSegment) (B : List GridSegment) → AllPairs IsSegmentBefore (s ∷ B) → AllPairs IsSegmentBefore B
+pub rest_ascends : (s : GridSegment) (B : List GridSegment) → AllPairs IsSegmentBefore (s ∷ B) → AllPairs IsSegmentBefore B
 rest_ascends s B up i j d less within = up (suc i) (suc j) d (omega (arith, less)) (omega (arith, within))
 
-first_before : (s : GridSegment) (B : List GridSegment) (t : GridSegment) → AllPairs IsSegmentBefore (s ∷ B) → Contains B t
+pub first_before : (s : GridSegment) (B : List GridSegment) (t : GridSegment) → AllPairs IsSegmentBefore (s ∷ B) → Contains B t
     → IsSegmentBefore s t
 first_before s B t up c = subst (IsSegmentBefore s) c.2 (up 0 (suc c.0) t (omega arith) (omega (arith, c.1)))
 

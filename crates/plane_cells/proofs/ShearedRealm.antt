@@ -1,23 +1,25 @@
 -- This file shows that the segments of a realm are in the position of a sweep when the plane is sheared.
-use Rattle.std.proofs.Common.{◌≡◌, ◌⊎◌, ℕ, zero, suc, ◌+◌, ◌*◌, ◌^◌, ◌<◌, List, [], ◌∷◌, map, length, ℤ, pos, negsuc, ◌-ℤ◌, ◌+ℤ◌, ◌*ℤ◌}
+use Rattle.std.proofs.Common.{◌≡◌, ◌⊎◌, ℕ, zero, suc, ◌+◌, ◌*◌, ◌<◌, List, [], ◌∷◌, map, length, ℤ, pos, negsuc, ◌-ℤ◌, ◌+ℤ◌, ◌*ℤ◌}
 use Rattle.std.proofs.Common.{refl, sym, ap, subst, ◌∙◌, arith, inl, inr}
 use Rattle.std.specs.Prelude.{Contains}
 use Rattle.std.proofs.lemmas.Int.{ints}
 use borrow.Author.Differences.{up, down}
 use Rattle.std.proofs.lemmas.List.Elements.{Contains-append_cases, Contains-append_left, Contains-append_right}
+use Rattle.grid_base.specs.Grid.{grid_side}
 use Rattle.grid_base.specs.Point.{GridPoint, IsBefore}
 use Rattle.grid_base.specs.Segment.{GridSegment}
 use Rattle.grid_base.specs.Segment.{IsEnd}
 use Rattle.grid_base.proofs.Turns.{times, times_le}
 use Rattle.grid_base.specs.Plane.{Place, Holds, IsAtPoint, blend}
+use Rattle.grid_base.proofs.Signs.{on_by_zero}
 use Rattle.plane_classes.proofs.Blends.{weighed, height_blend, spans_blend}
-use Rattle.plane_classes.proofs.Ways.{held_by_line, zero_by, on_by_zero}
+use Rattle.plane_classes.proofs.Ways.{held_by_line, zero_by}
 use Rattle.plane_classes.proofs.PastOthers.{one_of}
 use Rattle.plane_classes.proofs.AtSegment.{itself}
 use Rattle.plane_classes.specs.Shear.{sheared_place}
 use Rattle.plane_classes.proofs.Shears.{times_difference, columns_in_order, held_before_shear, same_record, contains_map}
 use Rattle.plane_classes.proofs.Unsheared.{unsheared_place, sheared_in}
-use Rattle.plane_cells.specs.Walks.{Position}
+use Rattle.plane_cells.proofs.Walks.{Position}
 use Rattle.plane_classes.specs.Shear.{sheared_point, sheared}
 use Rattle.plane_cells.specs.Numbered.{numbered}
 use Rattle.plane_cells.specs.Sheared.{AreOfRealm}
@@ -137,7 +139,7 @@ within n B r i h =
     let b = r.below (numbered B i) (numbered_in B i h) in
     let t = times_le (suc (numbered B i).b.x) n 0 n b.1 (omega arith) in omega (arith, b.2)
 
-pub realm_below : (B : List GridSegment) → AreOfRealm B → IsRealmBelow (2 ^ 28) B
+pub realm_below : (B : List GridSegment) → AreOfRealm B → IsRealmBelow grid_side B
 realm_below B r = record {
   some = omega arith;
   order = λ s m. (r.on_grid s m).order;

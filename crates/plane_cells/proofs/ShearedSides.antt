@@ -7,6 +7,7 @@ use Rattle.grid_base.specs.Segment.{GridSegment}
 use Rattle.grid_base.specs.Sides.{Side, side_of}
 use Rattle.grid_base.proofs.Turns.{times}
 use Rattle.grid_base.specs.Plane.{Place, side_number_at, side_at, HoldsInside, IsAtPoint, IsFree, blend, IsBeside}
+use Rattle.grid_base.proofs.Signs.{left_by_sign, right_by_sign}
 use Rattle.plane_classes.specs.Classes.{AreInOneClass, IsLeftOfAll, IsOuter}
 use Rattle.plane_cells.proofs.Sided.{IsSlanted}
 use Rattle.plane_classes.proofs.Ways.{AreInOrder}
@@ -16,14 +17,14 @@ use Rattle.plane_classes.proofs.Outer.{outside, outside_is_left, left_is_free, o
 use Rattle.plane_classes.specs.Shear.{sheared_place}
 use Rattle.plane_classes.proofs.Shears.{height_sheared, shear_blend, free_sheared, class_sheared}
 use Rattle.plane_classes.proofs.Unsheared.{AreBelow, held_after_shear, class_unsheared}
-use Rattle.plane_cells.specs.Steps.{Step, links, HaveRights, side_label}
+use Rattle.plane_cells.specs.Steps.{Step, links, HaveRights}
 use Rattle.linked_parts.specs.Parts.{AreLinked}
 use Rattle.plane_cells.specs.Walks.{None, Walk}
 use Rattle.plane_classes.specs.Shear.{sheared_point, sheared}
 use Rattle.plane_cells.specs.Numbered.{numbered}
-use Rattle.plane_cells.proofs.Vertical.{left_by, right_by}
 use Rattle.plane_cells.proofs.Numbered.{IsSweep, sides_of_one_class, labels_of_sides, outer_side, label_of_outer}
 use Rattle.plane_cells.proofs.ShearedRealm.{IsRealmBelow, position, within, numbered_in}
+use Rattle.plane_cells.proofs.Beside.{side_label}
 
 -- ---- sides
 pub up_scaled : (n : ℕ) (z : ℤ) → 0 < n → pos 0 <ℤ z → pos 0 <ℤ (pos n *ℤ z)
@@ -37,8 +38,8 @@ down_scaled n (negsuc m) h k = let t = times 0 n 0 (suc m) h (omega arith) in om
 
 side_scaled : (n : ℕ) (z : ℤ) → 0 < n → side_of (pos n *ℤ z) ≡ side_of z
 side_scaled n (pos zero) h = let e : pos n *ℤ pos 0 ≡ pos 0 = omega (arith, ints) in ap side_of e
-side_scaled n (pos (suc m)) h = left_by _ (up_scaled n (pos (suc m)) h (omega (arith, ints)))
-side_scaled n (negsuc m) h = right_by _ (down_scaled n (negsuc m) h (omega (arith, ints)))
+side_scaled n (pos (suc m)) h = left_by_sign _ (up_scaled n (pos (suc m)) h (omega (arith, ints)))
+side_scaled n (negsuc m) h = right_by_sign _ (down_scaled n (negsuc m) h (omega (arith, ints)))
 
 pub side_sheared : (n : ℕ) (s : GridSegment) (q : Place) → 0 < n → side_at (sheared n s) (sheared_place n q) ≡ side_at s q
 side_sheared n s q h = ap side_of (height_sheared n s q) ∙ side_scaled n (side_number_at s q) h

@@ -1,8 +1,9 @@
 -- This file shows that the segments of which just one side is outer are the border of all that isn't outer.
-use Rattle.std.proofs.Common.{◌≡◌, ◌⊎◌, ◌↔◌, ℕ, zero, suc, ◌+◌, ◌*◌, ◌^◌, ◌%◌, ◌<◌, ◌≤◌, ◌==◌, Bool, true, false, not, ◌&&◌, cond}
+use Rattle.std.proofs.Common.{◌≡◌, ◌⊎◌, ◌↔◌, ℕ, zero, suc, ◌+◌, ◌*◌, ◌%◌, ◌<◌, ◌≤◌, ◌==◌, Bool, true, false, not, ◌&&◌, cond}
 use Rattle.std.proofs.Common.{if◌then◌else◌, List, [], map, length, slice_index, slice_index_or, count_by, refl, sym, ap, subst, ◌∙◌}
 use Rattle.std.proofs.Common.{arith, inl, inr}
 use Rattle.std.proofs.lemmas.List.Elements.{All-contains}
+use Rattle.grid_base.specs.Grid.{grid_side}
 use Rattle.grid_base.specs.Point.{GridPoint, is_point}
 use Rattle.grid_base.specs.Segment.{GridSegment, IsEnd}
 use Rattle.grid_base.specs.Plane.{Place, IsFree}
@@ -10,6 +11,7 @@ use Rattle.grid_base.specs.Odd.{Odd}
 use Rattle.grid_base.specs.Border.{is_end, IsEvenBorder}
 use Rattle.grid_base.proofs.Orders.{is_point-same, is_point-itself}
 use Rattle.grid_base.proofs.Ends.{same_or_not}
+use Rattle.grid_base.proofs.Booleans.{is_false}
 use Rattle.plane_classes.specs.Classes.{IsOuter}
 use Rattle.plane_classes.specs.Shear.{sheared_point, sheared, sheared_place}
 use Rattle.plane_classes.proofs.Parities.{xor, par, xor_middle, and_none, ends_with, HasPairedEnds, par_same}
@@ -33,20 +35,12 @@ use Rattle.plane_cells.proofs.ShearedSides.{below_of, outer_sheared, outer_unshe
 use Rattle.plane_cells.proofs.ShearedSides as shear
 use Rattle.plane_cells.proofs.Numbering.{IsLabelled, AreLinkedLabels, linked_labels, sweep_of}
 use Rattle.plane_cells.proofs.ColumnChanges.{Respects, divides}
-use Rattle.plane_cells.proofs.StatusCounts.{par_below, both, none_below}
+use Rattle.plane_cells.proofs.StatusCounts.{par_below, both, none_below, below_alike}
 use Rattle.plane_cells.proofs.ColumnParity.{HasParity, parity_of_place}
 use Rattle.plane_cells.proofs.EveryEnd.{AreTests, even_end}
 use Rattle.plane_cells.proofs.RimCounts.{rim_at, rims_counted, rims_part}
 
 -- ---- tests and parities
-is_false : (b : Bool) → (b ≡ true → ⊥) → b ≡ false
-is_false true h = absurd (h refl)
-is_false false h = refl
-
-below_alike : (g h : ℕ → Bool) (n : ℕ) → ((i : ℕ) → i < n → g i ≡ h i) → par_below g n ≡ par_below h n
-below_alike g h zero e = refl
-below_alike g h (suc n) e = both _ _ _ _ (e n (omega arith)) (below_alike g h n (λ i l. e i (omega (arith, l))))
-
 below_split : (d g h : ℕ → Bool) (n : ℕ)
     → par_below (λ i. d i && xor (g i) (h i)) n ≡ xor (par_below (λ i. d i && g i) n) (par_below (λ i. d i && h i) n)
 below_split d g h zero = refl
@@ -138,7 +132,7 @@ pub interior_of : (B : List GridSegment) (L : Links) (right labels : List ℕ) (
 interior_of B L right labels numbers T Y h have = record { even = even; places = places }
   where
     n : ℕ
-    n = 2 ^ 28
+    n = grid_side
 
     C : List GridSegment
     C = rims B numbers

@@ -7,6 +7,7 @@ use Rattle.grid_base.specs.Segment.{GridSegment}
 use Rattle.grid_base.specs.Sides.{On, side_of}
 use Rattle.grid_base.proofs.Turns.{times, times_le}
 use Rattle.grid_base.specs.Plane.{Place, side_number_at, Spans, Holds, IsFree, IsFreeWay, blend}
+use Rattle.grid_base.proofs.Signs.{not_both}
 use Rattle.plane_classes.proofs.Blends.{weighed, height_blend, blend_turned}
 use Rattle.plane_classes.proofs.Ways.{held_by_line, zero_by}
 use Rattle.plane_classes.proofs.Multiples.{held_scaled}
@@ -16,7 +17,6 @@ use Rattle.plane_cells.proofs.Labels.{IsOff, IsAlike, IsSeen}
 use Rattle.plane_cells.proofs.Walks.{Position, Bound, None, Wall, IfWall, IsFrom, IsTo, IsAcross, Lies, Across, Ahead, Past, IsStatus}
 use Rattle.plane_cells.proofs.AtVertices.{slab_spans}
 use Rattle.plane_classes.proofs.OverTests.{le_from}
-use Rattle.plane_cells.proofs.Lower.{no_two}
 use Rattle.plane_classes.proofs.AlongSegment.{some_weight}
 
 -- strictly within the slab
@@ -86,10 +86,10 @@ meets_none B n seg lo hi status p g i j k P across f from to past short alike hj
     (each_at (IsSeen seg p) status k (seen_in_slab B n seg lo hi status p P across f from to) m).off
     (each_at (IsAlike seg p g) status k alike m) (sym (height_blend (seg k) i j p g) ∙ zero_by _ h.line)
 meets_none B n seg lo None status p g i j k P across f from to past short alike hj l (Ahead m) h = absurd m
-meets_none B n seg lo (Wall e) status p g i j k P across f from to past short alike hj l (Ahead m) h = no_two _ _
+meets_none B n seg lo (Wall e) status p g i j k P across f from to past short alike hj l (Ahead m) h = not_both _ _
     (before_wall (seg k).a.x e i j p.w g.w p.x g.x hj m to short) h.across.from
 meets_none B n seg None hi status p g i j k P across f from to past short alike hj l (Past m) h = absurd m
-meets_none B n seg (Wall c) hi status p g i j k P across f from to past short alike hj l (Past m) h = no_two _ _
+meets_none B n seg (Wall c) hi status p g i j k P across f from to past short alike hj l (Past m) h = not_both _ _
     (behind_wall (seg k).b.x c i j p.w g.w p.x g.x hj m from past) h.across.to
 
 pub slab_way : (B : List GridSegment) (n : ℕ) (seg : ℕ → GridSegment) (lo hi : Bound) (status : List ℕ) (p g : Place) → Position B n seg

@@ -8,11 +8,12 @@ use Rattle.grid_base.specs.Sides.{Side, Left, Right, side_of}
 use Rattle.grid_base.specs.Point.{IsBefore}
 use Rattle.grid_base.proofs.Turns.{times}
 use Rattle.grid_base.specs.Plane.{Place, side_number_at, side_at, Spans, Holds, HoldsInside, IsFree, blend, IsBeside}
+use Rattle.grid_base.proofs.Signs.{on_by_zero, left_by_sign, right_by_sign}
 use Rattle.plane_cells.proofs.Sided.{IsSlanted}
-use Rattle.plane_classes.proofs.Ways.{AreInOrder, on_by_zero}
+use Rattle.plane_classes.proofs.Ways.{AreInOrder}
 use Rattle.plane_classes.proofs.Blends.{weighed, height_blend}
 use Rattle.plane_classes.proofs.Unsheared.{unsheared_place, AreBelow, held_after_shear, sheared_in, again}
-use Rattle.plane_cells.proofs.Vertical.{zenith, nadir, height_zenith, height_nadir, left_by, right_by, foot, column_real, column_after}
+use Rattle.plane_cells.proofs.Vertical.{zenith, nadir, height_zenith, height_nadir, foot, column_real, column_after}
 use Rattle.plane_cells.proofs.Vertical.{column_before, column_spans, held_at}
 use Rattle.plane_classes.specs.Shear.{sheared}
 use Rattle.plane_cells.proofs.ShearedRealm.{held_unsheared, at_sheared, back_and_there}
@@ -124,7 +125,7 @@ some_beside B D s d h (inl e) =
       blend (D + 1) 1 m.place zenith,
       subst (λ (k : Side). IsBeside B s k (blend (D + 1) 1 m.place zenith)) (sym e)
           (beside_far B (D + 1) zenith s m.place Left far_up (lone_up B D s h)
-          (left_by _ (subst (λ (z : ℤ). pos 0 <ℤ z) (sym (height_blend s (D + 1) 1 m.place zenith))
+          (left_by_sign _ (subst (λ (z : ℤ). pos 0 <ℤ z) (sym (height_blend s (D + 1) 1 m.place zenith))
           (up_side (D + 1) (side_number_at s m.place) (side_number_at s zenith) m.zero
           (omega (arith, ints, h.slanted, height_zenith s)))))),
     )
@@ -133,7 +134,7 @@ some_beside B D s d h (inr e) =
       blend (D + 1) 1 m.place nadir,
       subst (λ (k : Side). IsBeside B s k (blend (D + 1) 1 m.place nadir)) (sym e)
           (beside_far B (D + 1) nadir s m.place Right far_down (lone_down B D s h)
-          (right_by _ (subst (λ (z : ℤ). z <ℤ pos 0) (sym (height_blend s (D + 1) 1 m.place nadir))
+          (right_by_sign _ (subst (λ (z : ℤ). z <ℤ pos 0) (sym (height_blend s (D + 1) 1 m.place nadir))
           (down_side (D + 1) (side_number_at s m.place) (side_number_at s nadir) m.zero
           (omega (arith, ints, h.slanted, height_nadir s)))))),
     )
@@ -149,8 +150,8 @@ held_once n s q o l hn h = record {
 
 scaled_side : (n : ℕ) (z y : ℤ) → 0 < n → side_of (weighed 0 n y z) ≡ side_of z
 scaled_side n (pos zero) y h = on_by_zero _ (omega (arith, ints))
-scaled_side n (pos (suc m)) y h = let t = times 0 n 0 (suc m) h (omega arith) in left_by _ (omega (arith, ints))
-scaled_side n (negsuc m) y h = let t = times 0 n 0 (suc m) h (omega arith) in right_by _ (omega (arith, ints))
+scaled_side n (pos (suc m)) y h = let t = times 0 n 0 (suc m) h (omega arith) in left_by_sign _ (omega (arith, ints))
+scaled_side n (negsuc m) y h = let t = times 0 n 0 (suc m) h (omega arith) in right_by_sign _ (omega (arith, ints))
 
 side_unsheared : (n : ℕ) (s : GridSegment) (q : Place) → 0 < n → side_at s (unsheared_place n q) ≡ side_at (sheared n s) q
 side_unsheared n s q hn =

@@ -1,7 +1,7 @@
 -- This file shows that a test that only segments of the status pass is passed as often there as among all numbers.
 use Rattle.std.proofs.Common.{◌≡◌, ◌⊎◌, ℕ, zero, suc, ◌<◌, Bool, true, false, List, [], ◌∷◌, refl, sym, ap, ◌∙◌, arith, inl, inr}
 use Rattle.std.specs.Prelude.{◌==◌}
-use Rattle.plane_classes.proofs.Parities.{xor, par}
+use Rattle.plane_classes.proofs.Parities.{xor, par, xor_swap}
 use Rattle.plane_cells.specs.Steps.{In, Each, Pairs}
 use Rattle.plane_cells.proofs.Lists.{same_or}
 
@@ -18,10 +18,10 @@ unless false b = b
 abbrev pub except : ℕ → (ℕ → Bool) → ℕ → Bool
 except k g i = unless (i == k) (g i)
 
-same_yes : (k : ℕ) → (k == k) ≡ true
+pub same_yes : (k : ℕ) → (k == k) ≡ true
 same_yes k = grind arith
 
-same_no : (i k : ℕ) → (i ≡ k → ⊥) → (i == k) ≡ false
+pub same_no : (i k : ℕ) → (i ≡ k → ⊥) → (i == k) ≡ false
 same_no i k h = grind arith
 
 pub except_own : (k : ℕ) (g : ℕ → Bool) → except k g k ≡ false
@@ -36,13 +36,10 @@ less_self m n h e = omega (arith, h, e)
 pub both : (a b c d : Bool) → a ≡ c → b ≡ d → xor a b ≡ xor c d
 both a b c d e f = cc
 
-swap : (a b c : Bool) → xor a (xor b c) ≡ xor b (xor a c)
-swap true true c = refl
-swap true false true = refl
-swap true false false = refl
-swap false true true = refl
-swap false true false = refl
-swap false false c = refl
+-- tests that agree below n are passed alike there
+pub below_alike : (g h : ℕ → Bool) (n : ℕ) → ((i : ℕ) → i < n → g i ≡ h i) → par_below g n ≡ par_below h n
+below_alike g h zero e = refl
+below_alike g h (suc n) e = both _ _ _ _ (e n (omega arith)) (below_alike g h n (λ i l. e i (omega (arith, l))))
 
 below_same : (k n : ℕ) (g : ℕ → Bool) → ((i : ℕ) → i < n → i ≡ k → ⊥) → par_below (except k g) n ≡ par_below g n
 below_same k zero g h = refl
@@ -59,7 +56,7 @@ taken_out k (suc n) g h = elim (one_of k n h) [
       (sym (both (except k g n) (par_below (except k g) n) false (par_below g n) (ap (except k g) (sym e) ∙ except_own k g)
       (below_same k n g (λ i l f. less_self i n l (f ∙ e)))))
   | inr l ↦ both (g n) (par_below g n) (g n) (xor (g k) (par_below (except k g) n)) refl (taken_out k n g l)
-      ∙ swap (g n) (g k) (par_below (except k g) n)
+      ∙ xor_swap (g n) (g k) (par_below (except k g) n)
       ∙ both (g k) (xor (g n) (par_below (except k g) n)) (g k) (xor (except k g n) (par_below (except k g) n)) refl
       (both (g n) (par_below (except k g) n) (except k g n) (par_below (except k g) n)
       (sym (except_other k g n (λ e. less_self k n l (sym e)))) refl)

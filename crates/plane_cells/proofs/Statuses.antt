@@ -5,7 +5,8 @@ use Rattle.grid_base.specs.Segment.{GridSegment}
 use Rattle.plane_cells.specs.Steps.{In, Each, Pairs}
 use Rattle.plane_cells.proofs.Lists.{each_joined, each_left, each_right}
 use Rattle.plane_cells.proofs.Walks.{Bound, None, Wall, IfWall, HasWall, IsAcross, Lies, Across, Ahead, Past, IsStatus}
-pub use Rattle.plane_cells.specs.Walks.{IsHere, IsNextVertex, IsTurn}
+pub use Rattle.plane_cells.specs.Walks.{IsHere}
+pub use Rattle.plane_cells.proofs.Walks.{IsNextVertex, IsTurn}
 
 -- ---- pairs of a list in two parts
 abbrev pub Crosswise : (ℕ → ℕ → Type 0) → List ℕ → List ℕ → Type 0

@@ -1,8 +1,9 @@
 -- This file shows that what the code finds at a vertex is a step of the sweep.
-use Rattle.std.proofs.Common.{◌≡◌, ◌⊎◌, ℕ, suc, ◌+◌, ◌*◌, ◌^◌, ◌<◌, ◌≤◌, List, [], ◌∷◌, ◌++◌, length, slice_index, ℤ, pos, ◌<ℤ◌, ◌≤ℤ◌}
+use Rattle.std.proofs.Common.{◌≡◌, ◌⊎◌, ℕ, suc, ◌+◌, ◌*◌, ◌<◌, ◌≤◌, List, [], ◌∷◌, ◌++◌, length, slice_index, ℤ, pos, ◌<ℤ◌, ◌≤ℤ◌}
 use Rattle.std.proofs.Common.{sym, ap, subst, ◌∙◌, arith, inl, inr}
 use Rattle.std.proofs.lemmas.Int.{ints}
 use Rattle.std.proofs.lemmas.List.Elements.{All-push}
+use Rattle.grid_base.specs.Grid.{grid_side}
 use Rattle.grid_base.specs.Point.{GridPoint}
 use Rattle.grid_base.specs.Segment.{GridSegment}
 use Rattle.grid_base.specs.Plane.{side_number_at}
@@ -13,7 +14,8 @@ use Rattle.plane_classes.specs.Shear.{sheared_point}
 use Rattle.plane_cells.specs.Numbered.{numbered}
 use Rattle.plane_cells.specs.Sheared.{sheared_number, AreOfRealm}
 use Rattle.plane_cells.specs.Scan.{column_of, IsLeftOf, IsLeftward, IsFan}
-use Rattle.plane_cells.specs.Walks.{Bound, None, Wall, IfWall, HasWall, IsAcross, IsStatus, IsNextVertex, IsTurn, WalkTo}
+use Rattle.plane_cells.specs.Walks.{Bound, None, Wall, IfWall, HasWall, IsAcross, IsStatus, WalkTo}
+use Rattle.plane_cells.proofs.Walks.{IsNextVertex, IsTurn}
 use Rattle.plane_cells.specs.Walks.{BeginBefore}
 use Rattle.grid_base.proofs.Turns.{times_le}
 use Rattle.plane_cells.specs.Swept.{IsSwept, AreAsked}
@@ -54,19 +56,19 @@ pub record IsFound (B : List GridSegment) (v : GridPoint) (next : ℕ) (A E C F 
   pub fan : IsFan B v next F
 
 abbrev pub step_at : GridPoint → List ℕ → List ℕ → List ℕ → List ℕ → Step
-step_at v A E C F = record { vertex = sheared_point (2 ^ 28) v; below = A; ends = E; begins = F; above = C }
+step_at v A E C F = record { vertex = sheared_point grid_side v; below = A; ends = E; begins = F; above = C }
 
-sheared_same : (p v : GridPoint) → p ≡ v → sheared_point (2 ^ 28) p ≡ sheared_point (2 ^ 28) v
-sheared_same p v e = ap (λ (u : GridPoint). sheared_point (2 ^ 28) u) e
+sheared_same : (p v : GridPoint) → p ≡ v → sheared_point grid_side p ≡ sheared_point grid_side v
+sheared_same p v e = ap (λ (u : GridPoint). sheared_point grid_side u) e
 
-not_end : (B : List GridSegment) (v : GridPoint) (i : ℕ) → AreOfRealm B → v.y < 2 ^ 28 → i < length B → ((numbered B i).b ≡ v → ⊥)
-    → (sheared_number B i).b ≡ sheared_point (2 ^ 28) v → ⊥
+not_end : (B : List GridSegment) (v : GridPoint) (i : ℕ) → AreOfRealm B → v.y < grid_side → i < length B → ((numbered B i).b ≡ v → ⊥)
+    → (sheared_number B i).b ≡ sheared_point grid_side v → ⊥
 not_end B v i r low h d e = d
-    (one_point (2 ^ 28) (numbered B i).b v (r.on_grid (numbered B i) (numbered_in B i h)).end_row low (ap (λ (p : GridPoint). p.x) e))
+    (one_point grid_side (numbered B i).b v (r.on_grid (numbered B i) (numbered_in B i h)).end_row low (ap (λ (p : GridPoint). p.x) e))
 
-begin_of : (B : List GridSegment) (v : GridPoint) (i : ℕ) → AreOfRealm B → v.y < 2 ^ 28 → i < length B
-    → (sheared_number B i).a ≡ sheared_point (2 ^ 28) v → (numbered B i).a ≡ v
-begin_of B v i r low h e = one_point (2 ^ 28) (numbered B i).a v (r.on_grid (numbered B i) (numbered_in B i h)).row low
+begin_of : (B : List GridSegment) (v : GridPoint) (i : ℕ) → AreOfRealm B → v.y < grid_side → i < length B
+    → (sheared_number B i).a ≡ sheared_point grid_side v → (numbered B i).a ≡ v
+begin_of B v i r low h e = one_point grid_side (numbered B i).a v (r.on_grid (numbered B i) (numbered_in B i h)).row low
     (ap (λ (p : GridPoint). p.x) e)
 
 pub pairs_map : (R Q : ℕ → ℕ → Type 0) (l : List ℕ) → ((i j : ℕ) → R i j → Q i j) → Pairs R l → Pairs Q l
@@ -74,12 +76,12 @@ pairs_map R Q [] f s = tt
 pairs_map R Q (i ∷ l) f s = (each_map (R i) (Q i) l (λ j h. f i j h) s.0, pairs_map R Q l f s.1)
 
 pub turn_at : (B : List GridSegment) (lo : Bound) (status : List ℕ) (v : GridPoint) (next : ℕ) (A E C F : List ℕ) → AreOfRealm B
-    → v.y < 2 ^ 28 → IsNextVertex (length B) (sheared_number B) lo (sheared_point (2 ^ 28) v)
+    → v.y < grid_side → IsNextVertex (length B) (sheared_number B) lo (sheared_point grid_side v)
     → IsStatus (length B) (sheared_number B) lo (Wall (column_of v)) status → status ≡ A ++ (E ++ C) → IsFound B v next A E C F
     → IsTurn (length B) (sheared_number B) (step_at v A E C F)
 turn_at B lo status v next A E C F r low nv st e found =
-    let P = position (2 ^ 28) B (realm_below B r) in
-    let u = sheared_point (2 ^ 28) v in
+    let P = position grid_side B (realm_below B r) in
+    let u = sheared_point grid_side v in
     let across = subst (Each (IsAcross (length B) (sheared_number B) lo (Wall u.x))) e st.across in
     let across_c = each_right (IsAcross (length B) (sheared_number B) lo (Wall u.x)) E C
     (each_right (IsAcross (length B) (sheared_number B) lo (Wall u.x)) A (E ++ C) across) in
@@ -144,8 +146,8 @@ asked_on B steps lo status k T Y w h late a = record {
 
 -- the sweep has come behind the vertex
 pub step_on : (B : List GridSegment) (lo : Bound) (status : List ℕ) (v : GridPoint) (next : ℕ) (L : Links) (right right' : List ℕ) (A E C
-    F : List ℕ) (T : List GridSegment) (Y : List ℕ) → AreOfRealm B → v.y < 2 ^ 28 → IsNextVertex (length B) (sheared_number B) lo
-    (sheared_point (2 ^ 28) v)
+    F : List ℕ) (T : List GridSegment) (Y : List ℕ) → AreOfRealm B → v.y < grid_side → IsNextVertex (length B) (sheared_number B) lo
+    (sheared_point grid_side v)
     → IsSwept B lo status next L right T Y → ((k : ℕ) → k < length Y → column_of (numbered T k).a < column_of v)
     → ((k : ℕ) → length Y ≤ k → k < length T → column_of v ≤ column_of (numbered T k).a) → status ≡ A ++ (E ++ C) → IsFound B v next A E C F
     → HasRights (λ i. slice_index right' i) (label_over 0 A) F → ((i : ℕ) → i < next → slice_index right' i ≡ slice_index right i)
@@ -154,7 +156,7 @@ pub step_on : (B : List GridSegment) (lo : Bound) (status : List ℕ) (v : GridP
     Y
 step_on B lo status v next L right right' A E C F T Y r low nv s early_asked late e found rights kept size bounded =
     let k = step_at v A E C F in
-    let P = position (2 ^ 28) B (realm_below B r) in
+    let P = position grid_side B (realm_below B r) in
     let st = slab_status (length B) (sheared_number B) lo k.vertex status s.here nv in
     let t = turn_at B lo status v next A E C F r low nv st e found in
     let numbers = subst (Each (λ i. i < length B)) e s.here.number in

@@ -1,28 +1,31 @@
 -- This file shows that one step of the sweep leads on.
-use Rattle.std.proofs.Common.{◌≡◌, ◌⊎◌, ℕ, zero, suc, ◌+◌, ◌-◌, ◌^◌, ◌<◌, ◌≤◌, List, [], ◌∷◌, length, get_or, slice_index, pos, ◌<ℤ◌, refl}
+use Rattle.std.proofs.Common.{◌≡◌, ◌⊎◌, ℕ, zero, suc, ◌+◌, ◌-◌, ◌<◌, ◌≤◌, List, [], ◌∷◌, length, get_or, slice_index, pos, ◌<ℤ◌, refl}
 use Rattle.std.proofs.Common.{sym, ap, subst, ◌∙◌, arith, inl, inr}
 use Rattle.std.specs.Prelude.{Contains}
 use Rattle.std.specs.List.Sorted.{IsStrictlyIncreasing}
 use Rattle.std.proofs.lemmas.Int.{ints}
+use Rattle.grid_base.specs.Grid.{grid_side}
 use Rattle.grid_base.specs.Point.{GridPoint}
 use Rattle.grid_base.specs.Segment.{GridSegment}
 use Rattle.grid_base.specs.Segment.{IsEnd}
 use Rattle.grid_base.specs.Plane.{side_number_at, side_at, Spans}
+use Rattle.grid_base.proofs.Signs.{left_by_sign, natural_order}
 use Rattle.plane_cells.specs.Order.{at_point, IsFurtherDown}
 use Rattle.plane_cells.specs.Steps.{Each, Pairs}
 use Rattle.plane_classes.specs.Shear.{sheared_point}
 use Rattle.plane_cells.specs.Numbered.{numbered}
 use Rattle.plane_cells.specs.Sheared.{sheared_number, AreOfRealm}
 use Rattle.plane_cells.specs.Scan.{column_of, end_columns, IsLeftOf, IsSortedAt}
-use Rattle.plane_cells.specs.Walks.{Bound, None, Wall, IfWall, HasWall, IsAcross, IsStatus, IsNextVertex}
+use Rattle.plane_cells.specs.Walks.{Bound, None, Wall, IfWall, HasWall, IsAcross, IsStatus}
+use Rattle.plane_cells.proofs.Walks.{IsNextVertex}
 use Rattle.plane_cells.specs.Swept.{AreVertices, wall_before}
-use Rattle.plane_cells.proofs.Vertical.{left_by, left_sign}
+use Rattle.plane_cells.proofs.Vertical.{left_sign}
 use Rattle.plane_cells.proofs.AlongSegments.{left_of_lower}
 use Rattle.plane_cells.proofs.Lists.{each_map, each_both}
 use Rattle.plane_cells.proofs.ShearedRealm.{numbered_in, one_point}
 use Rattle.plane_cells.proofs.Angles.{left_sheared, left_unsheared}
 
-pub some : 0 < 2 ^ 28
+pub some : 0 < grid_side
 some = omega arith
 
 -- ---- vertices
@@ -88,13 +91,10 @@ rises V k m h l n = let e : k + (m - k) ≡ m = omega (arith, l) in subst (λ (j
 -- a listed column is that of a vertex up to number m, or from there on
 place_of : (V : List ℕ) (c m : ℕ) → IsStrictlyIncreasing V → m < length V → Contains V c
     → HasWall (λ w. c ≤ w) (wall_before V m) ⊎ (slice_index V m ≤ c)
-place_of V c m h l k = go m l (le_or m k.0)
+place_of V c m h l k = go m l (natural_order m k.0)
   where
     read : slice_index V k.0 ≡ c
     read = read_any V k.0 0 c k.1 ∙ k.2
-
-    le_or : (m n : ℕ) → (m ≤ n) ⊎ (n < m)
-    le_or m n = grind arith
 
     go : (m : ℕ) → m < length V → (m ≤ k.0) ⊎ (k.0 < m) → HasWall (λ w. c ≤ w) (wall_before V m) ⊎ (slice_index V m ≤ c)
     go m n (inl a) = inr (omega (arith, rises V m k.0 h a k.1, read))
@@ -110,22 +110,22 @@ pub listed_at : (V : List ℕ) (m : ℕ) → m < length V → Contains V (slice_
 listed_at V m h = (m, h, read_any V m (slice_index V m) 0 h)
 
 -- an end with the column of v is v
-end_at : (B : List GridSegment) (v : GridPoint) (c : ℕ) → AreOfRealm B → v.y < 2 ^ 28 → column_of v ≡ c → IsColumn B c
-    → (i : ℕ) × (i < length B) × IsEnd (sheared_point (2 ^ 28) v) (sheared_number B i)
+end_at : (B : List GridSegment) (v : GridPoint) (c : ℕ) → AreOfRealm B → v.y < grid_side → column_of v ≡ c → IsColumn B c
+    → (i : ℕ) × (i < length B) × IsEnd (sheared_point grid_side v) (sheared_number B i)
 end_at B v c r low e k = (
   k.0,
   k.1,
   elim k.2 [
-    | inl f ↦ inl (ap (λ (p : GridPoint). sheared_point (2 ^ 28) p)
-        (one_point (2 ^ 28) v (numbered B k.0).a low (r.on_grid (numbered B k.0) (numbered_in B k.0 k.1)).row (e ∙ f)))
-    | inr f ↦ inr (ap (λ (p : GridPoint). sheared_point (2 ^ 28) p)
-        (one_point (2 ^ 28) v (numbered B k.0).b low (r.on_grid (numbered B k.0) (numbered_in B k.0 k.1)).end_row (e ∙ f)))
+    | inl f ↦ inl (ap (λ (p : GridPoint). sheared_point grid_side p)
+        (one_point grid_side v (numbered B k.0).a low (r.on_grid (numbered B k.0) (numbered_in B k.0 k.1)).row (e ∙ f)))
+    | inr f ↦ inr (ap (λ (p : GridPoint). sheared_point grid_side p)
+        (one_point grid_side v (numbered B k.0).b low (r.on_grid (numbered B k.0) (numbered_in B k.0 k.1)).end_row (e ∙ f)))
   ],
 )
 
-pub next_vertex : (B : List GridSegment) (V : List ℕ) (m : ℕ) (v : GridPoint) → AreOfRealm B → AreVertices B V → m < length V → v.y < 2 ^ 28
+pub next_vertex : (B : List GridSegment) (V : List ℕ) (m : ℕ) (v : GridPoint) → AreOfRealm B → AreVertices B V → m < length V → v.y < grid_side
     → column_of v ≡ slice_index V m
-    → IsNextVertex (length B) (sheared_number B) (wall_before V m) (sheared_point (2 ^ 28) v)
+    → IsNextVertex (length B) (sheared_number B) (wall_before V m) (sheared_point grid_side v)
 next_vertex B V m v r vs l low e = record {
   vertex = end_at B v (slice_index V m) r low e (listed_end B (slice_index V m) (vs.only (slice_index V m) (listed_at V m l)));
   later = subst (λ (c : ℕ). IfWall (λ w. w < c) (wall_before V m)) (sym e) (wall_later V m vs.ascending l);
@@ -139,12 +139,12 @@ next_vertex B V m v r vs l low e = record {
 
 -- ---- the status is sorted at the vertex
 pub left_height : (B : List GridSegment) (v : GridPoint) (i : ℕ) → IsLeftOf B v i
-    → pos 0 <ℤ side_number_at (sheared_number B i) (at_point (sheared_point (2 ^ 28) v))
-left_height B v i h = left_sheared (2 ^ 28) (numbered B i) v some h
+    → pos 0 <ℤ side_number_at (sheared_number B i) (at_point (sheared_point grid_side v))
+left_height B v i h = left_sheared grid_side (numbered B i) v some h
 
 pub height_left : (B : List GridSegment) (v : GridPoint) (i : ℕ)
-    → pos 0 <ℤ side_number_at (sheared_number B i) (at_point (sheared_point (2 ^ 28) v)) → IsLeftOf B v i
-height_left B v i h = left_unsheared (2 ^ 28) (numbered B i) v some h
+    → pos 0 <ℤ side_number_at (sheared_number B i) (at_point (sheared_point grid_side v)) → IsLeftOf B v i
+height_left B v i h = left_unsheared grid_side (numbered B i) v some h
 
 pub vertex_spans : (n : ℕ) (seg : ℕ → GridSegment) (lo : Bound) (v : GridPoint) (i : ℕ) → IfWall (λ c. c < v.x) lo
     → IsAcross n seg lo (Wall v.x) i → Spans (seg i) (at_point v)
@@ -160,11 +160,11 @@ pairs_map R Q P (i ∷ l) f h s = (each_both P (R i) (Q i) l (λ j a b. f i j h.
 pub sorted_at : (B : List GridSegment) (lo : Bound) (status : List ℕ) (v : GridPoint) → IfWall (λ c. c < column_of v) lo
     → IsStatus (length B) (sheared_number B) lo (Wall (column_of v)) status → IsSortedAt B v status
 sorted_at B lo status v l st =
-    let u = sheared_point (2 ^ 28) v in
+    let u = sheared_point grid_side v in
     pairs_map (IsFurtherDown (sheared_number B)) (λ i j. IsLeftOf B v j → IsLeftOf B v i)
     (λ i. Spans (sheared_number B i) (at_point u)) status
     (λ i j a b f h. height_left B v i
     (left_sign _ (left_of_lower (side_at (sheared_number B j) (at_point u)) (side_at (sheared_number B i) (at_point u))
-    (f.1 (at_point u) (omega arith) a b) (left_by _ (left_height B v j h)))))
+    (f.1 (at_point u) (omega arith) a b) (left_by_sign _ (left_height B v j h)))))
     (each_map (IsAcross (length B) (sheared_number B) lo (Wall u.x)) (λ i. Spans (sheared_number B i) (at_point u)) status
     (λ i a. vertex_spans (length B) (sheared_number B) lo u i l a) st.across) st.sorted

@@ -5,13 +5,14 @@ use Rattle.std.proofs.lemmas.Int.{ints}
 use Rattle.grid_base.specs.Point.{GridPoint}
 use Rattle.grid_base.specs.Segment.{GridSegment}
 use Rattle.grid_base.specs.Segment.{IsEnd}
-use Rattle.grid_base.proofs.Signs.{sign}
+use Rattle.grid_base.proofs.Signs.{sign, right_by_sign}
 use Rattle.grid_base.specs.Plane.{side_number_at, side_at, Spans}
 use Rattle.plane_classes.proofs.Heights.{at_a, at_b}
 use Rattle.plane_cells.specs.Order.{at_point, IsFurtherDown}
 use Rattle.plane_cells.specs.Steps.{Each, Pairs}
-use Rattle.plane_cells.specs.Walks.{Position, Bound, None, Wall, IfWall, IsAcross}
-use Rattle.plane_cells.proofs.Vertical.{right_by, right_sign, held_at}
+use Rattle.plane_cells.specs.Walks.{Bound, None, Wall, IfWall, IsAcross}
+use Rattle.plane_cells.proofs.Walks.{Position}
+use Rattle.plane_cells.proofs.Vertical.{right_sign, held_at}
 use Rattle.plane_cells.proofs.AlongSegments.{right_of_upper}
 use Rattle.plane_cells.proofs.Lists.{same_or, each_both}
 use Rattle.plane_cells.proofs.Turning.{vertex_spans}
@@ -67,7 +68,7 @@ all_above B n seg lo v (j ∷ C) P u l a s d stop = (
   each_both (IsAcross n seg lo (Wall v.x)) (IsFurtherDown seg j) (λ i. side_number_at (seg i) (at_point v) <ℤ pos 0) C
       (λ k b f. right_sign _
       (right_of_upper (side_at (seg k) (at_point v)) (side_at (seg j) (at_point v))
-      (f.1 (at_point v) (omega arith) (vertex_spans n seg lo v j l a.0) (vertex_spans n seg lo v k l b)) (right_by _ first))) a.1
+      (f.1 (at_point v) (omega arith) (vertex_spans n seg lo v j l a.0) (vertex_spans n seg lo v k l b)) (right_by_sign _ first))) a.1
       s.0,
 )
   where

@@ -1,17 +1,17 @@
 -- This file shows how a place moves up and down in its column.
-use Rattle.std.proofs.Common.{◌≡◌, ℕ, zero, suc, ◌+◌, ◌-◌, ◌*◌, ◌<◌, ℤ, pos, negsuc, ◌-ℤ◌, ◌*ℤ◌, ◌<ℤ◌, ◌≤ℤ◌, refl, sym, ap, subst, ◌∙◌}
+use Rattle.std.proofs.Common.{◌≡◌, ℕ, zero, suc, ◌+◌, ◌-◌, ◌*◌, ◌<◌, ℤ, pos, negsuc, ◌-ℤ◌, ◌*ℤ◌, ◌<ℤ◌, ◌≤ℤ◌, sym, ap, subst, ◌∙◌}
 use Rattle.std.proofs.Common.{arith, inl, inr}
 use Rattle.std.proofs.lemmas.Int.{ints}
 use borrow.Author.Differences.{up, down}
 use Rattle.grid_base.specs.Segment.{GridSegment}
 use Rattle.grid_base.specs.Sides.{Left, Right, side_of}
 use Rattle.grid_base.proofs.Turns.{times, times_le}
-use Rattle.grid_base.proofs.Signs.{order}
+use Rattle.grid_base.proofs.Signs.{order, on_by_zero, left_by_sign, right_by_sign}
 use Rattle.grid_base.specs.Plane.{Place, side_number_at, side_at, Spans, Holds, blend}
 use Rattle.plane_classes.proofs.Heights.{height_is}
 use Rattle.plane_classes.proofs.Shears.{times_difference}
 use Rattle.plane_classes.proofs.Blends.{weighed, height_blend}
-use Rattle.plane_classes.proofs.Ways.{on_by_zero, held_by_line}
+use Rattle.plane_classes.proofs.Ways.{held_by_line}
 
 -- the places that are infinitely far up and down
 abbrev pub zenith : Place
@@ -37,16 +37,6 @@ right_sign (pos zero) e = cc
 right_sign (pos (suc n)) e = cc
 right_sign (negsuc n) e = omega (arith, ints)
 
-pub left_by : (z : ℤ) → pos 0 <ℤ z → side_of z ≡ Left
-left_by (pos zero) h = absurd (omega (arith, ints))
-left_by (pos (suc n)) h = refl
-left_by (negsuc n) h = absurd (omega (arith, ints))
-
-pub right_by : (z : ℤ) → z <ℤ pos 0 → side_of z ≡ Right
-right_by (pos zero) h = absurd (omega (arith, ints))
-right_by (pos (suc n)) h = absurd (omega (arith, ints))
-right_by (negsuc n) h = refl
-
 -- ---- above a place, and below it
 up_sum : (i j d : ℕ) (h z : ℤ) → 0 < j → 0 < d → pos 0 ≤ℤ h → z ≡ pos d → pos 0 <ℤ weighed i j h z
 up_sum i j d (pos n) z hj hd k e = let t = times 0 j 0 d hj hd in rw e (omega (arith, ints))
@@ -59,7 +49,7 @@ dx_up s o = height_zenith s ∙ omega (arith, ints, o)
 pub raised_left : (s : GridSegment) (i j : ℕ) (m : Place) → s.a.x < s.b.x → 0 < j → pos 0 ≤ℤ side_number_at s m
     → side_at s (blend i j m zenith) ≡ Left
 raised_left s i j m o hj h =
-    left_by _ (subst (λ (z : ℤ). pos 0 <ℤ z) (sym (height_blend s i j m zenith))
+    left_by_sign _ (subst (λ (z : ℤ). pos 0 <ℤ z) (sym (height_blend s i j m zenith))
     (up_sum i j (s.b.x - s.a.x) (side_number_at s m) (side_number_at s zenith) hj (omega arith) h (dx_up s o)))
 
 small_sum : (i d : ℕ) (h z : ℤ) → d < i → h <ℤ pos 0 → z ≡ pos d → weighed i 1 h z <ℤ pos 0
@@ -70,7 +60,7 @@ small_sum i d (negsuc n) z l k e = rw e (omega (arith, ints))
 pub raised_right : (s : GridSegment) (i : ℕ) (m : Place) → s.a.x < s.b.x → s.b.x < i → side_number_at s m <ℤ pos 0
     → side_at s (blend i 1 m zenith) ≡ Right
 raised_right s i m o l h =
-    right_by _ (subst (λ (z : ℤ). z <ℤ pos 0) (sym (height_blend s i 1 m zenith))
+    right_by_sign _ (subst (λ (z : ℤ). z <ℤ pos 0) (sym (height_blend s i 1 m zenith))
     (small_sum i (s.b.x - s.a.x) (side_number_at s m) (side_number_at s zenith) (omega arith) h (dx_up s o)))
 
 -- f is in the column of c

@@ -1,5 +1,5 @@
 -- The labels of places, and of segments that aren't of the border. No public clause cites this file.
-use Rattle.std.specs.Prelude.{◌≡◌, ◌⊎◌, ℕ, suc, ◌*◌, ◌<◌, List, [], ◌∷◌, pos, ◌<ℤ◌, ◌≤ℤ◌}
+use Rattle.std.specs.Prelude.{◌≡◌, ◌⊎◌, ℕ, suc, ◌*◌, ◌<◌, List, [], ◌∷◌, pos, ◌≤ℤ◌}
 use Rattle.grid_base.specs.Segment.{GridSegment}
 use Rattle.grid_base.specs.Sides.{Side, Left, On, Right}
 use Rattle.grid_base.specs.Segment.{IsEnd}
@@ -31,9 +31,3 @@ pub record IsOther (n : ℕ) (seg : ℕ → GridSegment) (t : GridSegment) : Typ
   pub off : (i : ℕ) → i < n → (c : Place) → HoldsInside t c → Holds (seg i) c → ⊥
   pub begin : (i : ℕ) → i < n → Holds (seg i) (at_point t.a) → IsEnd t.a (seg i)
   pub fan : (i : ℕ) → i < n → (seg i).a ≡ t.a → side_number_at (seg i) (at_point t.b) ≡ pos 0 → ⊥
-
--- segment i is below t just behind the lesser end of t
-abbrev pub IsBelowBegin : (ℕ → GridSegment) → GridSegment → ℕ → Type 0
-IsBelowBegin seg t i =
-    (pos 0 <ℤ side_number_at (seg i) (at_point t.a)) ⊎
-    (((seg i).a ≡ t.a) × (pos 0 <ℤ side_number_at (seg i) (at_point t.b)))

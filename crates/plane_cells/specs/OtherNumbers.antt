@@ -1,6 +1,6 @@
 -- Numbers of labels, and the numbers of the classes in which segments lie that aren't of the border. No
 -- public clause cites this file.
-use Rattle.std.specs.Prelude.{◌≡◌, ◌≢◌, ◌↔◌, ℕ, ◌+◌, ◌<◌, List, length, slice_index, slice_index_or}
+use Rattle.std.specs.Prelude.{◌≡◌, ◌≢◌, ◌↔◌, ℕ, ◌+◌, ◌<◌, List, Contains, length, slice_index, slice_index_or}
 use Rattle.grid_base.specs.Segment.{GridSegment}
 use Rattle.grid_base.specs.Sides.{Side, On}
 use Rattle.grid_base.specs.Plane.{Place, IsBeside}
@@ -36,3 +36,22 @@ pub record HasNumbers (labels right : List ℕ) (numbers : List SideClasses) : T
 pub record AreRead (labels list numbers : List ℕ) : Type 0 where
   pub one_each : length numbers ≡ length list
   pub each : (k : ℕ) → k < length list → slice_index numbers k ≡ slice_index labels (slice_index list k)
+
+-- ---- lists in another order
+-- the lists have the same segments
+abbrev pub HaveSameSegments : List GridSegment → List GridSegment → Type 0
+HaveSameSegments list other = (s : GridSegment) → Contains list s ↔ Contains other s
+
+-- n are the numbers that s has in the list, in which it stands at some place
+pub record HasNumbersIn (list : List GridSegment) (numbers : List SideClasses) (s : GridSegment) (n : SideClasses) : Type 0 where
+  pub place : ℕ
+  pub within : place < length list
+  pub there : numbered list place ≡ s
+  pub same : n ≡ slice_index_or numbers place (record { left = 0; right = 0 })
+
+-- each segment of the other list has the numbers that it has in the list
+pub record AreNumbersOf (list : List GridSegment) (numbers : List SideClasses) (other : List GridSegment)
+    (found : List SideClasses) : Type 0 where
+  pub one_each : length found ≡ length other
+  pub each : (i : ℕ) → i < length other
+      → HasNumbersIn list numbers (numbered other i) (slice_index_or found i (record { left = 0; right = 0 }))

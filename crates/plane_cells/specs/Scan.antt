@@ -1,6 +1,7 @@
 -- What the parts of the sweep look for in lists of segment numbers. No public clause cites this file.
-use Rattle.std.specs.Prelude.{◌≡◌, ◌⊎◌, ℕ, ◌+◌, ◌*◌, ◌^◌, ◌<◌, ◌≤◌, List, [], ◌∷◌, ◌++◌, length, take, drop}
+use Rattle.std.specs.Prelude.{◌≡◌, ◌⊎◌, ℕ, ◌+◌, ◌*◌, ◌<◌, ◌≤◌, List, [], ◌∷◌, ◌++◌, length, take, drop}
 use Rattle.std.specs.Prelude.{pos, ◌<ℤ◌}
+use Rattle.grid_base.specs.Grid.{grid_side}
 use Rattle.grid_base.specs.Point.{GridPoint}
 use Rattle.grid_base.specs.Segment.{GridSegment}
 use Rattle.grid_base.specs.Sides.{turn}
@@ -9,7 +10,7 @@ use Rattle.plane_cells.specs.Numbered.{numbered}
 
 -- the column of a point in the sheared plane
 abbrev pub column_of : GridPoint → ℕ
-column_of p = 2 ^ 28 * p.x + p.y
+column_of p = grid_side * p.x + p.y
 
 -- p is on the left of segment number i
 abbrev pub IsLeftOf : List GridSegment → GridPoint → ℕ → Type 0

@@ -1,5 +1,6 @@
 -- The plane, sheared so that the order of points is the order of columns. No public clause cites this file.
-use Rattle.std.specs.Prelude.{◌≡◌, ℕ, ◌^◌, ◌<◌, List, Contains, length}
+use Rattle.std.specs.Prelude.{◌≡◌, ℕ, ◌<◌, List, Contains, length}
+use Rattle.grid_base.specs.Grid.{grid_side}
 use Rattle.grid_base.specs.Point.{GridPoint}
 use Rattle.grid_base.specs.Segment.{GridSegment}
 use Rattle.grid_base.specs.Segment.{IsEnd}
@@ -10,7 +11,7 @@ use Rattle.grid_base.specs.Plane.{Place, Holds, IsAtPoint}
 
 -- where segment number i of the list is in the sheared plane
 abbrev pub sheared_number : List GridSegment → ℕ → GridSegment
-sheared_number B i = sheared (2 ^ 28) (numbered B i)
+sheared_number B i = sheared grid_side (numbered B i)
 
 -- the segments are those of a realm, and none is listed twice
 pub record AreOfRealm (B : List GridSegment) : Type 0 where

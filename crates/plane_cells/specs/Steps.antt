@@ -3,7 +3,6 @@
 use Rattle.std.specs.Prelude.{◌≡◌, ◌⊎◌, ℕ, suc, List, [], ◌∷◌, ◌++◌}
 use Rattle.grid_base.specs.Point.{GridPoint}
 use Rattle.linked_parts.specs.Parts.{Links}
-use Rattle.grid_base.specs.Sides.{Side, Left, On, Right}
 
 -- one vertex of the sweep: the numbers of the segments that pass below it, that end there, that begin there
 -- and that pass above it, each from below
@@ -61,9 +60,3 @@ HasRights right d (i ∷ l) = (right i ≡ d) × HasRights right (suc i) l
 abbrev pub HaveRights : (ℕ → ℕ) → List Step → Type 0
 HaveRights right [] = Unit {0}
 HaveRights right (k ∷ steps) = HasRights right (label_over 0 k.below) k.begins × HaveRights right steps
-
--- the label of the gap beside segment i
-abbrev pub side_label : (ℕ → ℕ) → ℕ → Side → ℕ
-side_label right i Left = suc i
-side_label right i On = suc i
-side_label right i Right = right i

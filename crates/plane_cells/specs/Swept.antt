@@ -1,7 +1,8 @@
 -- How far a sweep has come, and what it has found. No public clause cites this file.
-use Rattle.std.specs.Prelude.{◌≡◌, ℕ, zero, suc, ◌+◌, ◌*◌, ◌^◌, ◌<◌, ◌≤◌, List, [], ◌∷◌, Contains, length}
+use Rattle.std.specs.Prelude.{◌≡◌, ℕ, zero, suc, ◌+◌, ◌*◌, ◌<◌, ◌≤◌, List, [], ◌∷◌, Contains, length}
 use Rattle.std.specs.Prelude.{slice_index, pos, ◌≤ℤ◌}
 use Rattle.std.specs.List.Sorted.{IsStrictlyIncreasing}
+use Rattle.grid_base.specs.Grid.{grid_side, side_bound}
 use Rattle.grid_base.specs.Segment.{GridSegment}
 use Rattle.grid_base.specs.Point.{IsBefore}
 use Rattle.plane_cells.specs.Steps.{Step, links, HaveRights}
@@ -27,9 +28,9 @@ wall_before V (suc m) = Wall (slice_index V m)
 
 -- t isn't of B, and a place inside it, in the first column behind its lesser end, has the label y
 pub record IsAsked (B : List GridSegment) (steps : List Step) (t : GridSegment) (y : ℕ) : Type 0 where
-  pub other : IsOther (length B) (sheared_number B) (sheared (2 ^ 28) t)
+  pub other : IsOther (length B) (sheared_number B) (sheared grid_side t)
   pub place : Place
-  pub inside : HoldsInside (sheared (2 ^ 28) t) place
+  pub inside : HoldsInside (sheared grid_side t) place
   pub column : place.x ≤ℤ pos ((column_of t.a + 1) * place.w)
   pub has : HasLabel (sheared_number B) [] steps place y
 
@@ -43,7 +44,7 @@ pub record AreAsked (B : List GridSegment) (steps : List Step) (lo : Bound) (T :
 
 -- the column of vertex number m, or one behind all where there is none
 abbrev pub bound_at : List ℕ → ℕ → ℕ
-bound_at [] m = 2 ^ 57
+bound_at [] m = side_bound
 bound_at (v ∷ V) zero = v
 bound_at (v ∷ V) (suc m) = bound_at V m
 
@@ -52,8 +53,8 @@ bound_at (v ∷ V) (suc m) = bound_at V m
 pub record AreOthers (B T : List GridSegment) : Type 0 where
   pub ascending : AreAscending T
   pub order : (k : ℕ) → k < length T → IsBefore (numbered T k).a (numbered T k).b
-  pub on_grid : (k : ℕ) → k < length T → ((numbered T k).a.x < 2 ^ 28) × ((numbered T k).a.y < 2 ^ 28)
-  pub other : (k : ℕ) → k < length T → IsOther (length B) (sheared_number B) (sheared (2 ^ 28) (numbered T k))
+  pub on_grid : (k : ℕ) → k < length T → ((numbered T k).a.x < grid_side) × ((numbered T k).a.y < grid_side)
+  pub other : (k : ℕ) → k < length T → IsOther (length B) (sheared_number B) (sheared grid_side (numbered T k))
 
 -- the first m segments of T begin before the column c
 abbrev pub AreDue : List GridSegment → ℕ → ℕ → Type 0

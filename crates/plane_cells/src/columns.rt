@@ -1,29 +1,30 @@
 //! Columns of the sheared plane: the order of points as an order of numbers.
-ghost use Rattle.std.specs.Prelude.{◌≡◌, ℕ, ◌+◌, ◌*◌, ◌^◌, ◌<◌, ◌≤◌, Contains, IfOk};
+ghost use Rattle.std.specs.Prelude.{◌≡◌, ℕ, ◌+◌, ◌*◌, ◌<◌, ◌≤◌, Contains, IfOk};
 ghost use Rattle.std.specs.List.Sorted.{IsStrictlyIncreasing};
+ghost use Rattle.grid_base.specs.Grid.{grid_side, product_bound};
 ghost use Rattle.plane_cells.specs.Scan.{column_of, end_columns};
 
-use grid_base::{NoMemory, Point, Segment};
+use grid_base::{GRID_SIDE, NoMemory, Point, Segment};
 use std::alloc::Global;
 
 /// The column of `p` in the sheared plane.
 pub fn column(p: &Point) -> u64
     ensures column { result ≡ column_of p.now }
-    ensures below { result < 2 ^ 56 }
+    ensures below { result < product_bound }
 {
     let x = u64::from(p.x());
     let y = u64::from(p.y());
-    x * 268_435_456 + y
+    x * u64::from(GRID_SIDE) + y
 }
 
 /// The point with this column.
 pub fn point_at(column: u64) -> Point
-    requires { column < 2 ^ 56 }
+    requires { column < product_bound }
     ensures column { column_of result ≡ column }
-    ensures on_grid { result.y < 2 ^ 28 }
+    ensures on_grid { result.y < grid_side }
 {
-    let x = column / 268_435_456;
-    let y = column % 268_435_456;
+    let x = column / u64::from(GRID_SIDE);
+    let y = column % u64::from(GRID_SIDE);
     Point::at(x as u32, y as u32)
 }
 

@@ -1,5 +1,6 @@
 //! The segments that begin at a vertex, from below.
-ghost use Rattle.std.specs.Prelude.{◌≡◌, ℕ, ◌+◌, ◌<◌, ◌≤◌, ◌^◌, length, IfOk};
+ghost use Rattle.std.specs.Prelude.{◌≡◌, ℕ, ◌+◌, ◌<◌, ◌≤◌, length, IfOk};
+ghost use Rattle.grid_base.specs.Grid.{grid_side};
 ghost use Rattle.plane_cells.specs.Steps.{In, Each, Pairs};
 ghost use Rattle.plane_cells.specs.Numbered.{numbered};
 ghost use Rattle.plane_cells.specs.Sheared.{AreOfRealm};
@@ -19,7 +20,7 @@ pub fn fan(
     requires realm { AreOfRealm border.now }
     requires ascending { AreAscending border.now }
     requires next { IsNext border.now v.now next }
-    requires on_grid { v.now.y < 2 ^ 28 }
+    requires on_grid { v.now.y < grid_side }
     ensures { IfOk result (λ f. IsFan border.now v.now next f.items) }
 {
     let mut fan = Vec::new(alloc);

@@ -12,8 +12,6 @@ mod outer;
 mod splice;
 mod status;
 mod sweep;
-#[cfg(test)]
-mod tests;
 
 pub use classes::{SideClasses, side_classes};
 pub use interiors::interior;

@@ -1,9 +1,11 @@
-//! Segments in ascending lists.
+//! Segments in ascending lists, and lists in any order made such.
 ghost use Rattle.std.specs.Prelude.{◌≡◌, ◌↔◌, ◌<◌, IsTrue, IfOk, length, AllPairs, Contains};
 ghost use Rattle.grid_base.specs.Segment.{GridSegment, IsSegmentBefore};
 ghost use Rattle.plane_cells.specs.Numbered.{numbered};
+ghost use Rattle.plane_cells.specs.OtherNumbers.{HaveSameSegments};
 
 use grid_base::{NoMemory, Segment};
+use segment_lists::ascending_segments;
 use std::alloc::Global;
 
 // Whether the list has the segment.
@@ -24,6 +26,16 @@ pub(crate) fn number_of(list: &[Segment], s: &Segment) -> usize
     match list.binary_search(s) {
         Ok(i) | Err(i) => i,
     }
+}
+
+// The segments of the list, ascending and each once.
+pub(crate) fn in_order(alloc: Global, list: &[Segment]) -> Result<Vec<Segment>, NoMemory>
+    ensures ascending { IfOk result (λ v. AllPairs IsSegmentBefore v.items) }
+    ensures members { IfOk result (λ v. HaveSameSegments v.items list.now) }
+{
+    let mut copy = Vec::new(alloc);
+    copy.extend_from_slice(list)?;
+    Ok(ascending_segments(copy))
 }
 
 // The segments of the list that the other one hasn't.

@@ -8,31 +8,32 @@ ghost use Rattle.plane_cells.specs.ClassNumbers.{AreClassNumbers};
 ghost use Rattle.plane_cells.specs.OtherNumbers.{AreOtherNumbers};
 ghost use Rattle.plane_cells.specs.OuterSides.{AreOuterSides};
 
-use crate::listing::{has, number_of, without};
+use crate::listing::{has, in_order, number_of, without};
 use crate::numbers::{Numbers, find_numbers};
 use grid_base::{NoMemory, Segment, Sides};
 use segment_lists::each_is_on_grid;
 use std::alloc::Global;
 
 /// For each segment of the list, in order, whether what lies beside it on its left, and on its right, is in
-/// the outer class of the border. Segments of the list may be segments of the border.
+/// the outer class of the border. Segments of the list may be segments of the border; both may be in any order,
+/// and a segment that the list has twice has the same answer both times.
 pub fn outer_sides(
     alloc: Global,
     border: &[Segment],
     list: &[Segment],
 ) -> Result<Vec<Sides>, NoMemory>
     requires noded { AreNoded (border.now ++ list.now) }
-    requires ascending { AllPairs IsSegmentBefore border.now }
-    requires list_ascending { AllPairs IsSegmentBefore list.now }
     ensures { IfOk result (λ v. AllZip (AreOuterSides border.now) list.now v.items) }
 {
-    each_is_on_grid(border);
-    each_is_on_grid(list);
-    let others = without(alloc, list, border)?;
-    let numbers = find_numbers(alloc, border, &others)?;
+    let known = in_order(alloc, border)?;
+    let asked = in_order(alloc, list)?;
+    each_is_on_grid(&known);
+    each_is_on_grid(&asked);
+    let others = without(alloc, &asked, &known)?;
+    let numbers = find_numbers(alloc, &known, &others)?;
     let mut answers = Vec::new(alloc);
     for s in list {
-        let sides = outer_sides_of(border, &others, &numbers, s);
+        let sides = outer_sides_of(&known, &others, &numbers, s);
         answers.push(sides)?;
     }
     Ok(answers)

@@ -11,8 +11,11 @@ use crate::columns::{column, point_at, vertices};
 use crate::fans::fan;
 use crate::splice::replace_run;
 use crate::status::{count_below, count_ends, count_under, label};
-use grid_base::{NoMemory, Segment};
+use grid_base::{GRID_BITS, NoMemory, Segment};
 use std::alloc::Global;
+
+// A column behind all: each is below the square of the number of columns of the grid, and this is twice that.
+const BEHIND_ALL: u64 = 1 << (2 * GRID_BITS + 1);
 
 // What a sweep has found: which labels stand for one class, the label under each segment, and that of each
 // segment that was asked for.
@@ -124,7 +127,7 @@ fn bound(vertices: &[u64], index: usize) -> u64
     if index < vertices.len() {
         vertices[index]
     } else {
-        144_115_188_075_855_872
+        BEHIND_ALL
     }
 }
 

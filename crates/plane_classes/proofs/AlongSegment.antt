@@ -1,6 +1,6 @@
 -- This file shows that all places inside a segment have as many segments above them, up to an even number.
 use Rattle.std.proofs.Common.{◌≡◌, ℕ, zero, suc, ◌+◌, ◌*◌, ◌<◌, Bool, false, ◌&&◌, List, [], ◌∷◌}
-use Rattle.std.proofs.Common.{ℤ, pos, ◌*ℤ◌, ◌<ℤ◌, ◌≤ℤ◌, refl, sym, ap, subst, ◌∙◌, arith, inl, inr}
+use Rattle.std.proofs.Common.{ℤ, pos, ◌*ℤ◌, ◌<ℤ◌, refl, sym, ap, subst, ◌∙◌, arith, inl, inr}
 use Rattle.std.specs.Prelude.{Contains}
 use Rattle.std.proofs.lemmas.Int.{ints}
 use borrow.Author.Differences.{up, down}
@@ -11,10 +11,11 @@ use Rattle.grid_base.proofs.Turns.{times, times_le}
 use Rattle.grid_base.specs.Plane.{Place, side_at, Holds, HoldsInside, blend}
 use Rattle.plane_classes.specs.Classes.{IsWall, IsWallBetween, TouchOneCell}
 use Rattle.grid_base.proofs.Orders.{is_segment}
+use Rattle.grid_base.proofs.Signs.{on_by_zero, not_both}
 use Rattle.plane_classes.proofs.OverTests.{is_over}
 use Rattle.plane_classes.proofs.Parities.{xor, par, ends_with, HasPairedEnds, xor_none, par_xor, par_same, even_ends, and_none}
 use Rattle.plane_classes.proofs.Heights.{IsLeftOf}
-use Rattle.plane_classes.proofs.Ways.{AreInOrder, zero_by, on_by_zero, held_by_line}
+use Rattle.plane_classes.proofs.Ways.{AreInOrder, zero_by, held_by_line}
 use Rattle.plane_classes.proofs.Blends.{height_blend, weighed, spans_blend}
 use Rattle.plane_classes.proofs.OverTests.{stands, Less, Same, More, three, over_no_right, stands_no_left, stands_no_right, le_of}
 use Rattle.plane_classes.proofs.OverTests.{le_from}
@@ -58,13 +59,10 @@ line_blend s i j m n h k = on_by_zero _ (height_blend s i j m n ∙ sum_zero _ _
 -- the lesser end of a vertical s is strictly below m
 upright_low : (s : GridSegment) (m : Place) → s.a.x ≡ s.b.x → s.a.y < s.b.y → HoldsInside s m → pos (s.a.y * m.w) <ℤ m.y
 upright_low s m e o h = elim (three m.y (pos (s.a.y * m.w))) [
-  | Less n ↦ absurd (no_two m.y _ n (upright_up s m e o h).0)
+  | Less n ↦ absurd (not_both m.y _ n (upright_up s m e o h).0)
   | Same n ↦ absurd (h.not_a (upright_column s m e h, n))
   | More n ↦ n
 ]
-  where
-    no_two : (a b : ℤ) → a <ℤ b → b ≤ℤ a → ⊥
-    no_two a b h k = omega (arith, ints)
 
 pub some_weight : (i j v w : ℕ) → 0 < i + j → 0 < v → 0 < w → 0 < i * v + j * w
 some_weight zero j v w some first second = let t = times 0 j 0 w (omega arith) second in omega arith

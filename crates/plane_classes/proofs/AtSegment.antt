@@ -9,7 +9,7 @@ use Rattle.grid_base.specs.Point.{GridPoint}
 use Rattle.grid_base.specs.Segment.{GridSegment}
 use Rattle.grid_base.specs.Sides.{Side, On}
 use Rattle.grid_base.proofs.Turns.{times}
-use Rattle.grid_base.proofs.Signs.{order}
+use Rattle.grid_base.proofs.Signs.{order, on_by_zero}
 use Rattle.grid_base.specs.Plane.{Place, side_at, Holds, HoldsInside, IsFree}
 use Rattle.grid_base.specs.Odd.{is_right}
 use Rattle.grid_base.proofs.Orders.{is_segment, is_segment-same}
@@ -18,7 +18,7 @@ use Rattle.plane_classes.proofs.PastOthers.{IsClear, NoWall, touch_past}
 use Rattle.plane_classes.proofs.Parities.{xor, par, ends_with, xor_comm, xor_right_none, even_ends, HasPairedEnds, par_xor, par_same}
 use Rattle.grid_base.proofs.Orders.{is_point-itself}
 use Rattle.plane_classes.proofs.Heights.{IsLeftOf, at_vertical}
-use Rattle.plane_classes.proofs.Ways.{AreInOrder, on_by_zero}
+use Rattle.plane_classes.proofs.Ways.{AreInOrder}
 use Rattle.plane_classes.proofs.Blends.{blend_one}
 use Rattle.plane_classes.proofs.ClassLemmas.{touch_back}
 use Rattle.plane_classes.proofs.OverTests.{stands, Less, Same, More, three}

@@ -4,11 +4,12 @@ use Rattle.std.proofs.Common.{◌∷◌, ℤ, pos, negsuc, ◌<ℤ◌, refl, sym
 use Rattle.std.specs.Prelude.{Contains}
 use Rattle.std.proofs.lemmas.Int.{ints}
 use Rattle.grid_base.specs.Segment.{GridSegment}
-use Rattle.grid_base.specs.Sides.{Side, Left, On, Right, side_of}
+use Rattle.grid_base.specs.Sides.{Side, On, side_of}
 use Rattle.grid_base.proofs.Turns.{times}
 use Rattle.grid_base.specs.Plane.{Place, side_number_at, side_at, Holds, IsFree, blend, IsFreeWay, IsBeside}
 use Rattle.plane_classes.specs.Classes.{IsWallBetween, AreInOneClass}
 use Rattle.grid_base.proofs.Orders.{is_segment}
+use Rattle.grid_base.proofs.Signs.{left_by_sign, right_by_sign}
 use Rattle.plane_classes.proofs.OverTests.{is_over}
 use Rattle.plane_classes.proofs.Parities.{xor, par, HasPairedEnds}
 use Rattle.plane_classes.proofs.Ways.{AreInOrder, zero_by}
@@ -33,16 +34,6 @@ clear_way B q m a b h clear c d k = subst (IsFree B) (sym (blend_first a b c d q
 clear_rest : (B : List GridSegment) (q m : Place) (a b : ℕ) → 0 < a → IsClear B q m → IsClear B (blend a b q m) m
 clear_rest B q m a b h clear i j k = let t = times 0 i 0 a k h in subst (IsFree B) (sym (blend_last a b i j q m)) (clear (i * a)
     (i * b + j) (omega arith))
-
-left_by_sign : (z : ℤ) → pos 0 <ℤ z → side_of z ≡ Left
-left_by_sign (pos zero) k = absurd (omega (arith, ints))
-left_by_sign (pos (suc n)) k = refl
-left_by_sign (negsuc n) k = absurd (omega (arith, ints))
-
-right_by_sign : (z : ℤ) → z <ℤ pos 0 → side_of z ≡ Right
-right_by_sign (pos zero) k = absurd (omega (arith, ints))
-right_by_sign (pos (suc n)) k = absurd (omega (arith, ints))
-right_by_sign (negsuc n) k = refl
 
 -- the side stays
 side_scaled : (a b : ℕ) (z y : ℤ) → 0 < a → y ≡ pos 0 → side_of (weighed a b z y) ≡ side_of z

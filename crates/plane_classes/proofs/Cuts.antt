@@ -1,12 +1,12 @@
 -- This file shows that a free straight way stays in one class, by cutting it at the walls.
 use Rattle.std.proofs.Common.{◌≡◌, ◌⊎◌, ℕ, ◌+◌, ◌-◌, ◌*◌, ◌<◌, ◌≤◌, List, [], ◌∷◌}
-use Rattle.std.proofs.Common.{ℤ, pos, ◌+ℤ◌, ◌*ℤ◌, ◌<ℤ◌, ◌≤ℤ◌, sym, ap, subst, arith, inl, inr}
+use Rattle.std.proofs.Common.{ℤ, pos, ◌+ℤ◌, ◌*ℤ◌, ◌<ℤ◌, sym, ap, subst, arith, inl, inr}
 use Rattle.std.specs.Prelude.{Contains}
 use Rattle.std.proofs.lemmas.Int.{ints}
 use Rattle.std.proofs.lemmas.List.Elements.{Contains-append_cases, Contains-push_cases}
 use borrow.Author.Differences.{up, down}
 use Rattle.grid_base.specs.Segment.{GridSegment}
-use Rattle.grid_base.proofs.Signs.{order}
+use Rattle.grid_base.proofs.Signs.{order, not_both}
 use Rattle.grid_base.specs.Plane.{Place, blend, IsFreeWay}
 use Rattle.plane_classes.specs.Classes.{IsWall, IsWallBetween, Joins, AreInOneClass, WaysLead}
 use Rattle.plane_classes.proofs.ClassLemmas.{one_class_joined, one_class_by_touch, one_class_back}
@@ -112,9 +112,6 @@ pub data Cut (e : ℕ) (p q : Place) : Type 0 where
   Onward : p.x <ℤ pos (e * p.w) → pos (e * q.w) <ℤ q.x → Cut e p q
   Back : q.x <ℤ pos (e * q.w) → pos (e * p.w) <ℤ p.x → Cut e p q
   No : (IsWallBetween e p q → ⊥) → Cut e p q
-
-not_both : (a b : ℤ) → a <ℤ b → b ≤ℤ a → ⊥
-not_both a b h k = omega (arith, ints)
 
 pub side_of_wall : (e : ℕ) (p q : Place) → Cut e p q
 side_of_wall e p q = elim (order (pos (e * p.w)) p.x) [

@@ -6,9 +6,9 @@ use borrow.Author.Differences.{up, down}
 use Rattle.grid_base.specs.Segment.{GridSegment}
 use Rattle.grid_base.specs.Plane.{Place, side_number_at, Holds, IsFree, blend, IsFreeWay}
 use Rattle.grid_base.proofs.Turns.{times}
-use Rattle.grid_base.proofs.Signs.{order}
+use Rattle.grid_base.proofs.Signs.{order, on_by_zero}
 use Rattle.plane_classes.proofs.Blends.{height_blend, weighed, one_place}
-use Rattle.plane_classes.proofs.Ways.{zero_by, on_by_zero}
+use Rattle.plane_classes.proofs.Ways.{zero_by}
 
 zero_scaled : (j : ℕ) (y z : ℤ) → 0 < j → weighed 0 j y z ≡ pos 0 → z ≡ pos 0
 zero_scaled j y (pos zero) h e = refl

@@ -12,7 +12,8 @@ use Rattle.plane_classes.proofs.FewerSegments.{IsPart, free_of_part, one_cycle}
 use Rattle.plane_classes.proofs.AlongSegment.{IsAlone}
 use Rattle.plane_classes.proofs.TwoSides.{is_odd_in, two_sides}
 
-beside_part : (C B : List GridSegment) (s : GridSegment) (d : Side) (q : Place) → IsPart C B → IsBeside B s d q → IsBeside C s d q
+-- what lies beside a segment does so for fewer segments too
+pub beside_part : (C B : List GridSegment) (s : GridSegment) (d : Side) (q : Place) → IsPart C B → IsBeside B s d q → IsBeside C s d q
 beside_part C B s d q h b = record {
   side = b.side;
   goal = b.goal;

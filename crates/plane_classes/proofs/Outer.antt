@@ -1,5 +1,5 @@
 -- This file shows that what lies left of all segments is one class, the outer one, and has no segment above it.
-use Rattle.std.proofs.Common.{◌≡◌, ℕ, ◌+◌, ◌*◌, ◌<◌, Bool, true, false, List, [], ◌∷◌, Contains, ℤ, pos, negsuc, ◌<ℤ◌, ◌≤ℤ◌}
+use Rattle.std.proofs.Common.{◌≡◌, ℕ, ◌+◌, ◌*◌, ◌<◌, false, List, [], ◌∷◌, Contains, pos, negsuc, ◌<ℤ◌}
 use Rattle.std.proofs.Common.{refl, sym, ap₂, ◌∙◌, arith}
 use Rattle.std.proofs.lemmas.Int.{ints}
 use Rattle.grid_base.specs.Segment.{GridSegment}
@@ -7,6 +7,8 @@ use Rattle.grid_base.specs.Plane.{Place, IsFree, blend, IsFreeWay}
 use Rattle.grid_base.specs.Odd.{Odd}
 use Rattle.grid_base.specs.Border.{IsEvenBorder}
 use Rattle.grid_base.proofs.Elements.{Contains-here, Contains-later}
+use Rattle.grid_base.proofs.Signs.{not_both}
+use Rattle.grid_base.proofs.Booleans.{true_not_false}
 use Rattle.plane_classes.specs.Classes.{AreInOneClass, IsLeftOfAll, IsOuter}
 use Rattle.plane_classes.proofs.Parities.{xor, par}
 use Rattle.plane_classes.proofs.Ways.{AreInOrder}
@@ -18,9 +20,6 @@ use Rattle.plane_classes.proofs.Counts.{odd_is, even_is}
 use Rattle.plane_classes.proofs.AlongSegment.{some_weight, blend_less}
 
 -- ---- places left of all
-not_both : (a b : ℤ) → a <ℤ b → b ≤ℤ a → ⊥
-not_both a b h k = omega (arith, ints)
-
 pub left_is_free : (B : List GridSegment) (p : Place) → IsLeftOfAll B p → IsFree B p
 left_is_free B p left = record {
   real = left.real;
@@ -63,9 +62,6 @@ none_above [] p none = refl
 none_above (s ∷ B) p none =
     ap₂ xor (none s (Contains-here s B)) (none_above B p (λ t there. none t (Contains-later s B t there)))
 
-apart : {b : Bool} → b ≡ true → b ≡ false → ⊥
-apart h k = cc
-
 pub outer_is_even : (B : List GridSegment) → AreInOrder B → IsEvenBorder B → (p : Place) → IsOuter B p → Odd B p → ⊥
-outer_is_even B o e p (v, v_left, to_p) odd = apart (odd_is B p odd)
+outer_is_even B o e p (v, v_left, to_p) odd = true_not_false (odd_is B p odd)
     (sym (kept_in_one_class B o (even_is B o e) v p to_p) ∙ none_above B v (λ s there. over_no_left v s (v_left.left s there)))

@@ -5,8 +5,8 @@ use Rattle.std.specs.Prelude.{int_le, int_lt, Contains}
 use Rattle.std.proofs.lemmas.Int.{ints}
 use Rattle.grid_base.specs.Point.{GridPoint}
 use Rattle.grid_base.specs.Segment.{GridSegment}
-use Rattle.grid_base.specs.Sides.{On, side_of}
-use Rattle.grid_base.proofs.Signs.{order}
+use Rattle.grid_base.specs.Sides.{side_of}
+use Rattle.grid_base.proofs.Signs.{order, on_by_zero}
 use Rattle.grid_base.specs.Plane.{Place, IsAmong, side_at, IsFree}
 use Rattle.grid_base.specs.Odd.{is_right, is_strictly_above}
 use Rattle.plane_classes.proofs.Parities.{xor}
@@ -101,9 +101,6 @@ four_none a b c d h k l m = cc
 pub four : (a b c d e f g h : Bool) → a ≡ e → b ≡ f → c ≡ g → d ≡ h → xor e f ≡ xor g h → xor a b ≡ xor c d
 four a b c d e f g h i j k l m = cc
 
-on_line : (z : ℤ) → z ≡ pos 0 → side_of z ≡ On
-on_line z h = rw h refl
-
 among_from : (y : ℤ) (m n : ℕ) → y ≡ pos m → IsAmong (pos m) (pos n) y
 among_from y m n d = elim (order (pos m) (pos n)) [
   | inl h ↦ inl (omega (arith, ints), omega (arith, ints))
@@ -132,7 +129,7 @@ not_at_a B q s f m o c d =
     let t = scaled s.a.x s.b.x q.w o in
     f.apart s m (record {
       real = f.real;
-      line = on_line _ (at_a s q c d);
+      line = on_by_zero _ (at_a s q c d);
       across = record {
         from = omega (arith, ints);
         to =
@@ -147,7 +144,7 @@ not_at_b B q s f m o c d =
     let t = scaled s.a.x s.b.x q.w o in
     f.apart s m (record {
       real = f.real;
-      line = on_line _ (at_b s q c d);
+      line = on_by_zero _ (at_b s q c d);
       across = record {
         from = omega (arith, ints);
         to =
@@ -163,7 +160,7 @@ not_between B q s f m e c h k =
     let t = ap (λ (x : ℕ). x * q.w) e in
     f.apart s m (record {
       real = f.real;
-      line = on_line _ (at_vertical s q e c);
+      line = on_by_zero _ (at_vertical s q e c);
       across = record {
         from =
             omega (arith, ints);

@@ -8,7 +8,7 @@ use Rattle.grid_base.specs.Point.{GridPoint}
 use Rattle.grid_base.specs.Segment.{GridSegment}
 use Rattle.grid_base.specs.Sides.{Side, Left, On, Right, side_of}
 use Rattle.grid_base.proofs.Turns.{times_le}
-use Rattle.grid_base.proofs.Signs.{order}
+use Rattle.grid_base.proofs.Signs.{order, not_both, above_not_zero, below_not_zero}
 use Rattle.grid_base.specs.Plane.{Place, side_at, HoldsInside, IsFree}
 use Rattle.grid_base.specs.Odd.{is_right}
 use Rattle.plane_classes.specs.Classes.{IsWallBetween}
@@ -27,23 +27,14 @@ is_left Left = true
 is_left On = false
 is_left Right = false
 
-no_two : (a b : ℤ) → a <ℤ b → b ≤ℤ a → ⊥
-no_two a b h k = omega (arith, ints)
-
-not_zero : (z : ℤ) → z <ℤ pos 0 → z ≡ pos 0 → ⊥
-not_zero z h e = omega (arith, ints)
-
-not_zero' : (z : ℤ) → pos 0 <ℤ z → z ≡ pos 0 → ⊥
-not_zero' z h e = omega (arith, ints)
-
 -- m is strictly within the columns of a slanted s
 pub within_a : (s : GridSegment) (m : Place) → s.a.x < s.b.x → HoldsInside s m → pos (s.a.x * m.w) <ℤ m.x
 within_a s m o h = elim (three m.x (pos (s.a.x * m.w))) [
-  | Less k ↦ absurd (no_two m.x _ k h.held.across.from)
+  | Less k ↦ absurd (not_both m.x _ k h.held.across.from)
   | Same k ↦ elim (three m.y (pos (s.a.y * m.w))) [
-    | Less n ↦ absurd (not_zero _ (under_a s m o k n) (zero_by _ h.held.line))
+    | Less n ↦ absurd (below_not_zero _ (under_a s m o k n) (zero_by _ h.held.line))
     | Same n ↦ absurd (h.not_a (k, n))
-    | More n ↦ absurd (not_zero' _ (over_a s m o k n) (zero_by _ h.held.line))
+    | More n ↦ absurd (above_not_zero _ (over_a s m o k n) (zero_by _ h.held.line))
   ]
   | More k ↦ k
 ]
@@ -52,11 +43,11 @@ pub within_b : (s : GridSegment) (m : Place) → s.a.x < s.b.x → HoldsInside s
 within_b s m o h = elim (three m.x (pos (s.b.x * m.w))) [
   | Less k ↦ k
   | Same k ↦ elim (three m.y (pos (s.b.y * m.w))) [
-    | Less n ↦ absurd (not_zero _ (under_b s m o k n) (zero_by _ h.held.line))
+    | Less n ↦ absurd (below_not_zero _ (under_b s m o k n) (zero_by _ h.held.line))
     | Same n ↦ absurd (h.not_b (k, n))
-    | More n ↦ absurd (not_zero' _ (over_b s m o k n) (zero_by _ h.held.line))
+    | More n ↦ absurd (above_not_zero _ (over_b s m o k n) (zero_by _ h.held.line))
   ]
-  | More k ↦ absurd (no_two _ m.x k h.held.across.to)
+  | More k ↦ absurd (not_both _ m.x k h.held.across.to)
 ]
 
 on_is_not_over : (s : GridSegment) (m : Place) → HoldsInside s m → is_right (side_at s m) ≡ false
@@ -133,7 +124,7 @@ slanted_right B s r m d c o h e free real clear l =
           (stands_no_right r s.b k)
       | Same k ↦ sum_end _ _ _ _ _ (over_no_right r s (le_of _ _ (sym k))) (over_m s m o h) (stands_no_left r s.a right_of_a)
           (stands_within r s.b k ∙ sym (test_b B r s free c o k) ∙ ap is_right e)
-      | More k ↦ absurd (no_two _ r.x k to_b)
+      | More k ↦ absurd (not_both _ r.x k to_b)
     ]
 
 -- a vertical s has its greater end over m, and its lesser one not
@@ -151,7 +142,7 @@ upright_up s m e o h = elim h.held.up [
     not_at_end k = elim (three m.y (pos (s.b.y * m.w))) [
       | Less n ↦ n
       | Same n ↦ absurd (h.not_b (upright_column s m e h ∙ ap (λ (x : ℕ). pos (x * m.w)) e, n))
-      | More n ↦ absurd (no_two _ m.y n k)
+      | More n ↦ absurd (not_both _ m.y n k)
     ]
 
 left_yes : (z : ℤ) → pos 0 <ℤ z → is_left (side_of z) ≡ true

@@ -7,12 +7,12 @@ use borrow.Author.Differences.{up, down}
 use Rattle.grid_base.specs.Point.{GridPoint, IsBefore}
 use Rattle.grid_base.specs.Segment.{GridSegment}
 use Rattle.grid_base.proofs.Turns.{times, times_le}
-use Rattle.grid_base.proofs.Signs.{order}
+use Rattle.grid_base.proofs.Signs.{order, on_by_zero, above_not_zero, below_not_zero}
 use Rattle.grid_base.specs.Plane.{Place, IsAmong, side_number_at, Spans, Holds, IsFree, blend, IsFreeWay}
 use Rattle.plane_classes.proofs.Heights.{height_is, height_place, high, low}
 use Rattle.plane_classes.specs.Classes.{Joins, AreInOneClass}
 use Rattle.plane_classes.proofs.Blends.{weighed, coord}
-use Rattle.plane_classes.proofs.Ways.{AreInOrder, zero_by, on_by_zero}
+use Rattle.plane_classes.proofs.Ways.{AreInOrder, zero_by}
 use Rattle.plane_classes.proofs.ClassLemmas.{one_class_joined}
 use Rattle.plane_classes.proofs.Cuts.{one_class_by_way}
 use Rattle.plane_classes.specs.Shear.{sheared_point, sheared, sheared_place}
@@ -127,19 +127,13 @@ within_columns n s q (inl o) hn z h k = record {
 within_columns n s q (inr o) hn z h k =
     let t = ap (λ (x : ℕ). x * q.w) o.0 in
     record {
-      from = elim (order (pos (s.a.x * q.w)) q.x) [ inl l ↦ l | inr l ↦ absurd (above_zero _ (upright_left s q o.0 o.1 l) z) ];
+      from = elim (order (pos (s.a.x * q.w)) q.x) [ inl l ↦ l | inr l ↦ absurd (above_not_zero _ (upright_left s q o.0 o.1 l) z) ];
       to = elim (order q.x (pos (s.b.x * q.w))) [
         | inl l ↦ l
-        | inr l ↦ absurd (below_zero _ (upright_right s q o.0 o.1
+        | inr l ↦ absurd (below_not_zero _ (upright_right s q o.0 o.1
             (omega (arith, ints))) z)
       ];
     }
-  where
-    above_zero : (z : ℤ) → pos 0 <ℤ z → z ≡ pos 0 → ⊥
-    above_zero z h e = omega (arith, ints)
-
-    below_zero : (z : ℤ) → z <ℤ pos 0 → z ≡ pos 0 → ⊥
-    below_zero z h e = omega (arith, ints)
 
 -- a place that a sheared segment holds was held
 pub held_before_shear : (n : ℕ) (s : GridSegment) (q : Place) → IsBefore s.a s.b → 0 < n → Holds (sheared n s) (sheared_place n q)

@@ -8,8 +8,9 @@ use Rattle.grid_base.specs.Plane.{Place, IsBeside}
 use Rattle.grid_base.specs.Odd.{Odd}
 use Rattle.grid_base.specs.Border.{IsEvenBorder}
 use Rattle.grid_base.proofs.Orders.{is_segment, is_segment-same, is_segment-itself}
-use Rattle.grid_base.proofs.Ends.{not_before_itself}
+use Rattle.grid_base.proofs.Ends.{segment_before_itself}
 use Rattle.grid_base.proofs.Elements.{Contains-here, Contains-later, Contains-cases, Contains-nil}
+use Rattle.grid_base.proofs.Booleans.{true_not_false}
 use Rattle.plane_classes.specs.Classes.{AreInOneClass, AreAcross}
 use Rattle.plane_classes.proofs.Parities.{xor, par}
 use Rattle.plane_classes.proofs.Ways.{AreInOrder}
@@ -31,12 +32,6 @@ one_side_parity B s d p q o e so alone off h g =
     )
 
 -- ---- how often a segment comes in an ascending list
-segment_before_itself : (s : GridSegment) → IsSegmentBefore s s → ⊥
-segment_before_itself s before = ⊎_elim
-    (λ lesser. not_before_itself s.a s.a refl lesser)
-    (λ greater. not_before_itself s.b s.b refl greater.1)
-    before
-
 after_first : (t : GridSegment) (B : List GridSegment) (u : GridSegment) → AllPairs IsSegmentBefore (t ∷ B) → Contains B u
     → IsSegmentBefore t u
 after_first t B u ascending there =
@@ -86,14 +81,11 @@ pub one_is_odd : (B : List GridSegment) (s : GridSegment) (p q : Place) → AreI
 one_is_odd B s p q o e so alone there left right = by (par (is_over p) B) (par (is_over q) B) refl refl
     (two_sides B s p q o (even_is B o e) so alone left right ∙ there)
   where
-    apart : {b : Bool} → b ≡ true → b ≡ false → ⊥
-    apart h k = cc
-
     by : (a b : Bool) → par (is_over p) B ≡ a → par (is_over q) B ≡ b → xor (par (is_over p) B) (par (is_over q) B) ≡ true
         → Odd B p ↔ (Odd B q → ⊥)
     by true true h k differ = cc
-    by true false h k differ = (λ odd other. absurd (apart (odd_is B q other) k), λ none. is_odd B p h)
-    by false true h k differ = (λ odd other. absurd (apart (odd_is B p odd) h), λ none. absurd (none (is_odd B q k)))
+    by true false h k differ = (λ odd other. absurd (true_not_false (odd_is B q other) k), λ none. is_odd B p h)
+    by false true h k differ = (λ odd other. absurd (true_not_false (odd_is B p odd) h), λ none. absurd (none (is_odd B q k)))
     by false false h k differ = cc
 
 -- ---- one cycle

@@ -7,6 +7,7 @@ use Rattle.grid_base.specs.Sides.{Side, Left, On, Right}
 use Rattle.grid_base.specs.Plane.{Place, IsBeside}
 use Rattle.grid_base.specs.Odd.{is_right}
 use Rattle.grid_base.proofs.Orders.{is_segment}
+use Rattle.grid_base.proofs.Signs.{left_off, right_off}
 use Rattle.plane_classes.proofs.OverTests.{is_over}
 use Rattle.plane_classes.proofs.Parities.{xor, par, HasPairedEnds, xor_right_none}
 use Rattle.plane_classes.proofs.Ways.{AreInOrder}
@@ -78,17 +79,11 @@ pub two_sides : (B : List GridSegment) (s : GridSegment) (p q : Place) → AreIn
 two_sides B s p q o v so alone h g =
     let c = counted s Left so in
     let k = counted s Right so in
-    let e = parity_at B s Left p c.0 h o v c.1 (λ x. not_on_left x) h.inside.held.real
+    let e = parity_at B s Left p c.0 h o v c.1 (λ x. left_off x) h.inside.held.real
     (λ t m u. alone t h.goal m u h.inside) in
-    let f = parity_at B s Right q k.0 g o v k.1 (λ x. not_on_right x) g.inside.held.real
+    let f = parity_at B s Right q k.0 g o v k.1 (λ x. right_off x) g.inside.held.real
     (λ t m u. alone t g.goal m u g.inside) in
     let a = parity_along B s h.goal g.goal o v so alone h.inside.held.real
     g.inside.held.real h.inside g.inside in
     xor_out _ (par (is_over g.goal) B) _ _ _ (ap (λ (z : Bool). xor (par (is_over p) B) z) (sym a) ∙ e) f
     ∙ counts_once B s c.0 k.0 c.1 k.1
-  where
-    not_on_left : Left ≡ On → ⊥
-    not_on_left x = cc
-
-    not_on_right : Right ≡ On → ⊥
-    not_on_right x = cc

@@ -7,12 +7,12 @@ use borrow.Author.Differences.{up, down}
 use Rattle.grid_base.specs.Point.{IsBefore}
 use Rattle.grid_base.specs.Segment.{GridSegment}
 use Rattle.grid_base.proofs.Turns.{times, times_le}
-use Rattle.grid_base.proofs.Signs.{order}
+use Rattle.grid_base.proofs.Signs.{order, on_by_zero}
 use Rattle.grid_base.specs.Plane.{Place, IsAmong, side_number_at, Spans, Holds, IsFree, blend, IsFreeWay}
 use Rattle.plane_classes.specs.Classes.{Joins, AreInOneClass}
 use Rattle.plane_classes.proofs.Heights.{height_is}
 use Rattle.plane_classes.proofs.Blends.{weighed, coord, blend_first}
-use Rattle.plane_classes.proofs.Ways.{AreInOrder, zero_by, on_by_zero}
+use Rattle.plane_classes.proofs.Ways.{AreInOrder, zero_by}
 use Rattle.plane_classes.proofs.ClassLemmas.{one_class_joined, one_class_back}
 use Rattle.plane_classes.proofs.Cuts.{one_class_by_way}
 use Rattle.plane_classes.proofs.Multiples.{held_scaled}

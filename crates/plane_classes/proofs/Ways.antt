@@ -8,7 +8,7 @@ use Rattle.grid_base.specs.Point.{IsBefore}
 use Rattle.grid_base.specs.Segment.{GridSegment}
 use Rattle.grid_base.specs.Sides.{On, side_of}
 use Rattle.grid_base.proofs.Turns.{times, times_le}
-use Rattle.grid_base.proofs.Signs.{order}
+use Rattle.grid_base.proofs.Signs.{order, on_by_zero}
 use Rattle.grid_base.specs.Plane.{Place, side_number_at, side_at, Spans, Holds, IsFree, blend, IsFreeWay}
 use Rattle.plane_classes.proofs.Heights.{height_is, at_vertical}
 use Rattle.plane_classes.proofs.Blends.{weighed, height_blend, spans_blend, sum_turned, some_first, some_last, blend_first, blend_last}
@@ -86,9 +86,6 @@ signs (pos (suc m)) (negsuc n) = Apart (suc n) (suc m) (omega arith) (apart_down
 signs (negsuc m) (pos zero) = Zero (inr refl)
 signs (negsuc m) (pos (suc n)) = Apart (suc n) (suc m) (omega arith) (apart_up m n)
 signs (negsuc m) (negsuc n) = Alike refl
-
-pub on_by_zero : (z : ℤ) → z ≡ pos 0 → side_of z ≡ On
-on_by_zero z h = rw h refl
 
 blend_left : (a b : ℕ) → 0 < a → 0 < a + b
 blend_left a b h = omega arith

@@ -1,6 +1,7 @@
 //! Laws of classes. A class is made of cells that are joined over walls. By these laws walls don't matter:
 //! straight ways alone decide what is in one class.
-ghost use Rattle.std.specs.Prelude.{◌≢◌, ◌↔◌, ◌<◌, ◌^◌, ◌∷◌, List, All, AllPairs, Contains, map};
+ghost use Rattle.std.specs.Prelude.{◌≢◌, ◌↔◌, ◌<◌, ◌∷◌, List, All, AllPairs, Contains, map};
+ghost use Rattle.grid_base.specs.Grid.{grid_side};
 ghost use Rattle.grid_base.specs.Point.{IsBefore};
 ghost use Rattle.grid_base.specs.Segment.{GridSegment, IsSegmentBefore};
 ghost use Rattle.grid_base.specs.Sides.{Side, Left, On, Right};
@@ -30,12 +31,12 @@ pub fn fewer_segments_part_less(list: &[Segment], fewer: &[Segment])
     ensures { (p q : Place) → AreInOneClass list.now p q → AreInOneClass fewer.now p q }
 {}
 
-/// The shear that sets columns 2^28 apart takes classes to classes: two free places are in one class exactly
-/// where their images are in one class of the sheared segments.
+/// The shear that sets columns `grid_side` apart takes classes to classes: two free places are in one class
+/// exactly where their images are in one class of the sheared segments.
 pub fn shear_keeps_classes(list: &[Segment])
     ensures { (p q : Place) → IsFree list.now p → IsFree list.now q → AreInOneClass list.now p q
-        ↔ AreInOneClass (map (sheared (2 ^ 28)) list.now)
-        (sheared_place (2 ^ 28) p) (sheared_place (2 ^ 28) q) }
+        ↔ AreInOneClass (map (sheared grid_side) list.now)
+        (sheared_place grid_side p) (sheared_place grid_side q) }
 {
     each_is_in_range(list);
 }
@@ -102,7 +103,7 @@ pub fn even_parts_are_whole(list: &[Segment], part: &[Segment], s: &Segment, t: 
 pub fn shear_keeps_parity(border: &[Segment])
     requires even { IsEvenBorder border.now }
     ensures { (q : Place) → IsFree border.now q → Odd border.now q
-        ↔ Odd (map (sheared (2 ^ 28)) border.now) (sheared_place (2 ^ 28) q) }
+        ↔ Odd (map (sheared grid_side) border.now) (sheared_place grid_side q) }
 {
     each_is_in_range(border);
 }
@@ -125,7 +126,7 @@ pub fn outer_class_is_even(border: &[Segment])
 // Each segment has its lesser end first, and that is on the grid, as the types say.
 fn each_is_in_range(list: &[Segment])
     ensures ordered { All (λ s. IsBefore s.a s.b) list.now }
-    ensures low { All (λ s. s.a.y < 2 ^ 28) list.now }
+    ensures low { All (λ s. s.a.y < grid_side) list.now }
 {
     for s in list {
         let lesser = s.a();

@@ -4,7 +4,7 @@ ghost use Rattle.std.specs.Process.{exit_status};
 ghost use Rattle.outside_world.specs.GoesOn.{GoesOn};
 ghost use Rattle.realm_store.specs.Damages.{IsDamaged};
 ghost use Rattle.realm_pages.specs.declared.damage.Damage.{Damage};
-ghost use Rattle.command_words.specs.Written.{IsWritten, IsNoCommand};
+ghost use Rattle.command_words.specs.Written.{AreWordsOf, IsNoCommand};
 ghost use Rattle.command_words.specs.declared.word.Word.{Word};
 ghost use Rattle.rose_shell.specs.Faults.{HasCause};
 ghost use Rattle.rose_shell.specs.Telling.{HasDone};
@@ -34,7 +34,7 @@ pub fn perform<R: Threads + Sync, W: Outside>(
         → (result ≡ Status.Usage) ⊎ (result ≡ Status.NoMemory)) }
     ensures untouched { IfOk words
         (λ known. IsNoCommand (map string_bytes known.items) → world.new ≡ world.old) }
-    ensures told { IfOk words (λ known. (command : Word) → IsWritten (map string_bytes known.items) command
+    ensures told { IfOk words (λ known. (command : Word) → AreWordsOf (map string_bytes known.items) command
         → W.tells world.new → HasDone command (W.view world.old) (W.view world.new) result) }
     ensures faults { HasCause ⟦<W as Outside>⟧ world.old world.new result }
     ensures damaged { (d : Damage) → result ≡ Status.Damaged d → W.tells world.new

@@ -4,8 +4,6 @@
 
 mod file_world;
 mod real_file;
-#[cfg(test)]
-mod tests;
 mod words;
 
 pub use file_world::{FileWorld, letter_of};

@@ -3,13 +3,16 @@ use std::alloc::Global;
 use std::env;
 use std::io::ErrorKind;
 use std::rt::Env;
+use thiserror::Error;
 
 /// Why the words aren't known.
-#[derive(Clone, Copy, Debug, PartialEq, Eq)]
+#[derive(Clone, Copy, Debug, PartialEq, Eq, Error)]
 pub enum WordsError {
     /// A word isn't text in UTF-8.
+    #[error("a word isn't text in UTF-8")]
     NotText,
     /// Memory ran out.
+    #[error("no memory")]
     NoMemory,
 }
 

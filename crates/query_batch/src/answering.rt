@@ -55,12 +55,12 @@ fn answer_job<G: Gate>(
     ensures { IfOk result (λ reply. TellsLine state.now.state line.now reply) }
 {
     gate.enter(job);
-    let reply = answer_line(alloc, state, line);
+    let reply = answer_in_batch(alloc, state, line);
     gate.leave(job);
     reply
 }
 
-fn answer_line(alloc: Global, state: &Engine, line: &Option<Line>) -> Result<Reply, NoMemory>
+fn answer_in_batch(alloc: Global, state: &Engine, line: &Option<Line>) -> Result<Reply, NoMemory>
     requires ready { state.now.spent ≡ false }
     ensures { IfOk result (λ reply. TellsLine state.now.state line.now reply) }
 {

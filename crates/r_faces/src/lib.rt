@@ -9,8 +9,6 @@ mod number;
 mod ordering;
 mod parts;
 mod rims;
-#[cfg(test)]
-mod tests;
 mod turning;
 
 pub use face::Face;

@@ -4,7 +4,7 @@ use Rattle.std.proofs.lemmas.List.Elements.{All-cons, All-nil}
 use Rattle.grid_base.specs.Point.{GridPoint, InBox}
 use Rattle.grid_base.specs.Segment.{GridSegment}
 use Rattle.grid_base.proofs.Turns.{in_order}
-use Rattle.hook_chain.specs.Chains.{AllLinks, Leads}
+use Rattle.hook_chain.specs.Chains.{AllLinks, RunsFrom}
 use Rattle.hook_chain.specs.ValidChain.{IsMonotone}
 use Rattle.realm_drawing.specs.Courses.{IsCourse}
 use Rattle.realm_drawing.proofs.Progress.{IsPast, past, past_first, begins}
@@ -46,7 +46,7 @@ boxed o v from to =
     ]
 
 -- so the rest of the way is in it
-rest_in_box : (o : GridSegment) (a v : GridPoint) (points : List GridPoint) → IsPast o v → Leads a o.b (v ∷ points)
+rest_in_box : (o : GridSegment) (a v : GridPoint) (points : List GridPoint) → IsPast o v → RunsFrom a o.b (v ∷ points)
     → AllLinks (IsMonotone o.a o.b) (v ∷ points) → IsShort o v × All (InBox o.a o.b) (v ∷ points)
 rest_in_box o a v [] from leads links =
     let to = short_last o v leads.1 in
@@ -56,7 +56,7 @@ rest_in_box o a v (w ∷ points) from leads links =
     let to = short o v w rest.0 links.0 in
     (to, All-cons (InBox o.a o.b) v (w ∷ points) (boxed o v from to) rest.1)
 
-points_in_box : (o : GridSegment) (points : List GridPoint) → Leads o.a o.b points → AllLinks (IsMonotone o.a o.b) points
+points_in_box : (o : GridSegment) (points : List GridPoint) → RunsFrom o.a o.b points → AllLinks (IsMonotone o.a o.b) points
     → All (InBox o.a o.b) points
 points_in_box o [] leads links = absurd leads
 points_in_box o (v ∷ points) leads links =
@@ -85,6 +85,6 @@ links_between o (v ∷ w ∷ points) boxed links = (
   links_between o (w ∷ points) (λ k d within. boxed (suc k) d (omega arith)) links.1,
 )
 
-pub links_in_chain : (o : GridSegment) (points : List GridPoint) → Leads o.a o.b points
+pub links_in_chain : (o : GridSegment) (points : List GridPoint) → RunsFrom o.a o.b points
     → AllLinks (IsMonotone o.a o.b) points → AllLinks (IsInChain o) points
 links_in_chain o points leads links = links_between o points (points_in_box o points leads links) links

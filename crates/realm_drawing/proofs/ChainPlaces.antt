@@ -8,7 +8,7 @@ use Rattle.grid_base.specs.SideOf.{IsChainPlace, as_rational}
 use Rattle.grid_base.proofs.Turns.{leftward, rightward, on_is, on_by}
 use Rattle.grid_base.proofs.Signs.{three_ways}
 use Rattle.grid_base.proofs.Ends.{place_is_on}
-use Rattle.hook_chain.specs.Chains.{Leads}
+use Rattle.hook_chain.specs.Chains.{RunsFrom}
 use Rattle.hook_chain.proofs.Exchange.{way}
 use Rattle.hook_chain.proofs.Upright.{place_a}
 use Rattle.hook_chain.proofs.CloseNear.{on_place}
@@ -95,7 +95,7 @@ link_has_place v w chain x range = elim (three_ways v.x w.x) [
         record { place = found.place; is = inl found.is; column = found.column }
 
 -- a chain from v to e has a place in each column from that of v to that of e
-pub chain_has_place : (v e : GridPoint) (chain : List GridPoint) (x : ℕ) → Leads v e chain → v.x ≢ e.x → IsFromTo v.x e.x x
+pub chain_has_place : (v e : GridPoint) (chain : List GridPoint) (x : ℕ) → RunsFrom v e chain → v.x ≢ e.x → IsFromTo v.x e.x x
     → HasChainPlace chain x
 chain_has_place v e [] x leads apart range = absurd leads
 chain_has_place v e (p ∷ []) x leads apart range =
@@ -112,8 +112,8 @@ chain_has_place v e (p ∷ q ∷ chain) x leads apart range =
     ]
 
 -- ---- rows for columns
-pub exchanged_leads : (v e : GridPoint) (chain : List GridPoint) → Leads v e chain
-    → Leads (exchanged_point v) (exchanged_point e) (map exchanged_point chain)
+pub exchanged_leads : (v e : GridPoint) (chain : List GridPoint) → RunsFrom v e chain
+    → RunsFrom (exchanged_point v) (exchanged_point e) (map exchanged_point chain)
 exchanged_leads v e [] leads = leads
 exchanged_leads v e (p ∷ []) leads = (ap exchanged_point leads.0, ap exchanged_point leads.1)
 exchanged_leads v e (p ∷ q ∷ chain) leads = (ap exchanged_point leads.0, exchanged_leads q e (q ∷ chain) leads.1)

@@ -6,7 +6,7 @@ use Rattle.grid_base.specs.Point.{GridPoint, IsBefore, is_before}
 use Rattle.grid_base.specs.Segment.{GridSegment, segment_of}
 use Rattle.grid_base.proofs.Ends.{not_before_itself}
 use Rattle.grid_base.proofs.Orders.{segment_between}
-use Rattle.hook_chain.specs.Chains.{Leads}
+use Rattle.hook_chain.specs.Chains.{RunsFrom}
 use Rattle.realm_drawing.specs.Courses.{IsFromEndToEnd}
 use Rattle.realm_drawing.proofs.LinkPlaces.{reads}
 
@@ -24,15 +24,15 @@ one_on v w points = omega arith
 
 -- a list leads from its first point to its last
 pub leads_by_ends : (points : List GridPoint) (d : GridPoint) → 0 < length points
-    → Leads (get_or points 0 d) (get_or points (length points - 1) d) points
+    → RunsFrom (get_or points 0 d) (get_or points (length points - 1) d) points
 leads_by_ends [] d some = absurd (omega arith)
 leads_by_ends (v ∷ []) d some = (refl, refl)
 leads_by_ends (v ∷ w ∷ points) d some =
     let rest = leads_by_ends (w ∷ points) d (omega arith) in
-    (refl, subst (λ (n : ℕ). Leads w (get_or (v ∷ w ∷ points) n d) (w ∷ points)) (sym (one_on v w points)) rest)
+    (refl, subst (λ (n : ℕ). RunsFrom w (get_or (v ∷ w ∷ points) n d) (w ∷ points)) (sym (one_on v w points)) rest)
 
 -- and from nowhere else
-pub ends_by_leads : (a b : GridPoint) (points : List GridPoint) (d : GridPoint) → Leads a b points
+pub ends_by_leads : (a b : GridPoint) (points : List GridPoint) (d : GridPoint) → RunsFrom a b points
     → (a ≡ get_or points 0 d) × (b ≡ get_or points (length points - 1) d)
 ends_by_leads a b [] d leads = absurd leads
 ends_by_leads a b (v ∷ []) d leads = (sym leads.0, sym leads.1)
@@ -52,8 +52,8 @@ from_end_to_end points first last (Some s) some at_first at_last before none end
     subst (IsFromEndToEnd points) (sym (ends ∙ segment_in_order first last before))
     (record {
       ordered = before;
-      leads = subst (λ (a : GridPoint). Leads a last points) (sym at_first)
-          (subst (λ (b : GridPoint). Leads (get_or points 0 first) b points)
+      leads = subst (λ (a : GridPoint). RunsFrom a last points) (sym at_first)
+          (subst (λ (b : GridPoint). RunsFrom (get_or points 0 first) b points)
           (sym (reads points (length points - 1) last (omega arith) at_last first))
           (leads_by_ends points first some));
     })

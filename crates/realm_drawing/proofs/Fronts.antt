@@ -3,7 +3,7 @@ use Rattle.std.proofs.Common.{◌≡◌, ℕ, ◌<◌, ◌≤◌, ◌-◌, zero,
 use Rattle.std.proofs.Common.{reverse, refl, sym, ap, ◌∙◌, arith}
 use Rattle.std.proofs.lemmas.List.{reverse-append}
 use Rattle.grid_base.specs.Point.{GridPoint}
-use Rattle.hook_chain.specs.Chains.{Leads}
+use Rattle.hook_chain.specs.Chains.{RunsFrom}
 use Rattle.hook_chain.specs.Redrawing.{front}
 use Rattle.hook_chain.proofs.Paths.{front_pushed}
 
@@ -16,12 +16,12 @@ front-take (p ∷ q ∷ path) zero all = absurd (omega arith)
 front-take (p ∷ q ∷ path) (suc n) all = ap (λ (rest : List GridPoint). p ∷ rest) (front-take (q ∷ path) n (omega arith))
 
 -- a path that leads somewhere has a point
-pub some_point : (a b : GridPoint) (path : List GridPoint) → Leads a b path → 0 < length path
+pub some_point : (a b : GridPoint) (path : List GridPoint) → RunsFrom a b path → 0 < length path
 some_point a b [] leads = absurd leads
 some_point a b (p ∷ path) leads = omega arith
 
 -- its first point is the last on the way back
-pub front-reverse : (a b : GridPoint) (path : List GridPoint) → Leads a b path
+pub front-reverse : (a b : GridPoint) (path : List GridPoint) → RunsFrom a b path
     → front (reverse path) ≡ reverse (take (length path - 1) (drop 1 path))
 front-reverse a b [] leads = absurd leads
 front-reverse a b (p ∷ path) leads =

@@ -22,7 +22,7 @@ use Rattle.segment_envelope.proofs.MeetPoints.{meet_point_near}
 use Rattle.segment_envelope.proofs.Sizes.{on_line_is_near}
 use Rattle.hook_chain.specs.Redrawing.{redraw, round_corner, cut_at}
 use Rattle.hook_chain.proofs.Existence.{has_hook}
-use Rattle.realm_drawing.specs.Steps.{Permitted}
+use Rattle.hook_chain.specs.Steps.{Permitted}
 use Rattle.realm_drawing.specs.Mending.{IsPermitted, IsMending, HasParts, MendsCrossing}
 
 -- ---- the step that mends a crossing

@@ -6,7 +6,7 @@ use Rattle.grid_base.specs.Drawing.{IsLink, HasLink}
 use Rattle.grid_base.proofs.Ends.{not_before_itself}
 use Rattle.grid_base.proofs.Elements.{Contains-cases, Contains-nil}
 use Rattle.component_registry.proofs.Lookups.{this_point_or_other}
-use Rattle.hook_chain.specs.Chains.{Leads}
+use Rattle.hook_chain.specs.Chains.{RunsFrom}
 use Rattle.realm_drawing.proofs.Elements.{Contains-head}
 use Rattle.realm_drawing.proofs.PathLinks.{segment_of-between}
 
@@ -49,7 +49,7 @@ abbrev IsAlone : GridPoint → GridPoint → List GridPoint → GridPoint → Ty
 IsAlone a b path p = ((a ≡ p) × (b ≡ p)) ⊎ ((s : GridSegment) × IsLinkEnd path p s)
 
 -- a path stays at p, or a link of it leads to p or away
-alone_or_at_link : (a b : GridPoint) (path : List GridPoint) (p : GridPoint) → Leads a b path → Contains path p
+alone_or_at_link : (a b : GridPoint) (path : List GridPoint) (p : GridPoint) → RunsFrom a b path → Contains path p
     → IsAlone a b path p
 alone_or_at_link a b [] p leads there = absurd leads
 alone_or_at_link a b (v ∷ []) p leads there = elim (Contains-cases v [] p there) [
@@ -74,7 +74,7 @@ alone_or_at_link a b (v ∷ w ∷ path) p leads there = elim (Contains-cases v (
 ]
 
 -- a path to another point doesn't stay
-pub vertex_is_link_end : (a b : GridPoint) (path : List GridPoint) (p : GridPoint) → IsBefore a b → Leads a b path
+pub vertex_is_link_end : (a b : GridPoint) (path : List GridPoint) (p : GridPoint) → IsBefore a b → RunsFrom a b path
     → Contains path p → (s : GridSegment) × IsLinkEnd path p s
 vertex_is_link_end a b path p ordered leads there = elim (alone_or_at_link a b path p leads there) [
   | inl alone ↦ absurd (not_before_itself a b (alone.0 ∙ sym alone.1) ordered)

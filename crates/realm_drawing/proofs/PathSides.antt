@@ -8,7 +8,7 @@ use Rattle.grid_base.specs.Sides.{Side, Left, On, Right, opposite, side}
 use Rattle.grid_base.specs.Crossing.{IsOn, IsParted}
 use Rattle.grid_base.specs.Drawing.{IsLink, HasLink}
 use Rattle.grid_base.proofs.Orders.{is_point-same}
-use Rattle.hook_chain.specs.Chains.{Leads}
+use Rattle.hook_chain.specs.Chains.{RunsFrom}
 use Rattle.hook_chain.specs.Hook.{Hook, InTriangle}
 use Rattle.hook_chain.specs.Redrawing.{round_corner}
 use Rattle.hook_chain.proofs.HookLaw.{a_is_on, b_is_on}
@@ -99,16 +99,16 @@ round_beside u z first last = by_tests (is_point u.a (point_at z.x (z.y + 1))) (
     by_tests false at_b = (a_beside u (side u.a u.b z), (inl first.line, (inr refl, from_last at_b)))
 
 -- and leads from end to end
-pub round_leads : (u : GridSegment) (z : GridPoint) → Leads u.a u.b (round_corner u z)
+pub round_leads : (u : GridSegment) (z : GridPoint) → RunsFrom u.a u.b (round_corner u z)
 round_leads u z = by_tests (is_point u.a (point_at z.x (z.y + 1))) (is_point u.b (point_at (z.x + 1) z.y)) refl refl
   where
     from_last : (at_b : Bool) → is_point u.b (point_at (z.x + 1) z.y) ≡ at_b
-        → Leads (point_at (z.x + 1) z.y) u.b (point_at (z.x + 1) z.y ∷ [] ++ (if at_b then [] else u.b ∷ []))
+        → RunsFrom (point_at (z.x + 1) z.y) u.b (point_at (z.x + 1) z.y ∷ [] ++ (if at_b then [] else u.b ∷ []))
     from_last true is = (refl, sym (is_point-same u.b (point_at (z.x + 1) z.y) is))
     from_last false is = (refl, (refl, refl))
 
     by_tests : (at_a at_b : Bool) → is_point u.a (point_at z.x (z.y + 1)) ≡ at_a
-        → is_point u.b (point_at (z.x + 1) z.y) ≡ at_b → Leads u.a u.b
+        → is_point u.b (point_at (z.x + 1) z.y) ≡ at_b → RunsFrom u.a u.b
         ((if at_a then [] else u.a ∷ []) ++ point_at z.x (z.y + 1) ∷ z ∷ point_at (z.x + 1) z.y ∷ []
         ++ (if at_b then [] else u.b ∷ []))
     by_tests true at_b is_a is_b = (sym (is_point-same u.a (point_at z.x (z.y + 1)) is_a), (refl, from_last at_b is_b))

@@ -10,7 +10,7 @@ use Rattle.std.proofs.lemmas.List.Kept.{AllPairs-cons}
 use Rattle.grid_base.specs.Point.{GridPoint, point_at}
 use Rattle.grid_base.specs.Segment.{GridSegment}
 use Rattle.grid_base.proofs.Turns.{in_order}
-use Rattle.hook_chain.specs.Chains.{AllLinks, Leads}
+use Rattle.hook_chain.specs.Chains.{AllLinks, RunsFrom}
 use Rattle.hook_chain.specs.ValidChain.{IsMonotone, ValidChain}
 use Rattle.realm_drawing.specs.Chains.{IsSomeChain}
 use Rattle.realm_drawing.specs.Measure.{links_in, most_links}
@@ -77,12 +77,12 @@ past_first o v same =
     record { right = omega arith; above = λ rising. omega arith; below = λ falling. omega arith }
 
 -- the chain begins with a
-pub begins : (a b v : GridPoint) (chain : List GridPoint) → Leads a b (v ∷ chain) → v ≡ a
+pub begins : (a b v : GridPoint) (chain : List GridPoint) → RunsFrom a b (v ∷ chain) → v ≡ a
 begins a b v [] leads = leads.0
 begins a b v (w ∷ chain) leads = leads.0
 
 -- each link comes farther, so there are no more of them than there is way
-way_of_links : (o : GridSegment) (a v : GridPoint) (chain : List GridPoint) → IsPast o v → Leads a o.b (v ∷ chain)
+way_of_links : (o : GridSegment) (a v : GridPoint) (chain : List GridPoint) → IsPast o v → RunsFrom a o.b (v ∷ chain)
     → AllLinks (IsMonotone o.a o.b) (v ∷ chain) → length chain + progress o.a v ≤ progress o.a o.b
 way_of_links o a v [] here leads links = let there = ap (progress o.a) leads.1 in omega arith
 way_of_links o a v (w ∷ chain) here leads links =

@@ -4,7 +4,7 @@ use Rattle.std.proofs.Common.{refl, sym, ap₂, subst, inl, inr}
 use Rattle.grid_base.specs.Point.{GridPoint, IsBefore}
 use Rattle.grid_base.specs.Segment.{GridSegment}
 use Rattle.grid_base.specs.Drawing.{IsLink, HasLink}
-use Rattle.hook_chain.specs.Chains.{Leads}
+use Rattle.hook_chain.specs.Chains.{RunsFrom}
 use Rattle.hook_chain.specs.Redrawing.{front, redrawn}
 use Rattle.realm_drawing.proofs.JoinedLinks.{BeginsWith, path_begins, first_link}
 use Rattle.realm_drawing.proofs.JoinedLinks.{joined_links, leads_back_by_reverse, reversed_links}
@@ -21,7 +21,7 @@ record Stands (t : GridSegment) (path : List GridPoint) (v w : GridPoint) (list 
       ⊎ ((IsLink t v w → ⊥) × (HasLink (list ++ rest) s ↔ (IsLink s v w ⊎ HasLink rest s)))
 
 path_stands : (t : GridSegment) (path : List GridPoint) (v w : GridPoint) (way rest : List GridPoint) → IsLink t v w
-    → Leads v w way → ((s : GridSegment) → HasLink way s ↔ HasLink path s) → BeginsWith w rest
+    → RunsFrom v w way → ((s : GridSegment) → HasLink way s ↔ HasLink path s) → BeginsWith w rest
     → Stands t path v w (front way) rest
 path_stands t path v w way rest link leads same begins = record {
   begins = path_begins v w way rest leads begins;
@@ -36,21 +36,21 @@ path_stands t path v w way rest link leads same begins = record {
       );
 }
 
-stands : (t : GridSegment) (path : List GridPoint) (v w : GridPoint) (rest : List GridPoint) → Leads t.a t.b path
+stands : (t : GridSegment) (path : List GridPoint) (v w : GridPoint) (rest : List GridPoint) → RunsFrom t.a t.b path
     → BeginsWith w rest → Stands t path v w (stretch t path v w) rest
 stands t path v w rest leads begins = by_case (stretch t path v w) (drawn t path v w)
   where
     by_case : (way : List GridPoint) → Drawn t path v w way → Stands t path v w way rest
     by_case way (Forth v_is w_is is) =
-        let leads_on : Leads v w path =
-        subst (λ p. Leads p w path) (sym v_is) (subst (λ q. Leads t.a q path) (sym w_is) leads) in
+        let leads_on : RunsFrom v w path =
+        subst (λ p. RunsFrom p w path) (sym v_is) (subst (λ q. RunsFrom t.a q path) (sym w_is) leads) in
         subst (λ (l : List GridPoint). Stands t path v w l rest) (sym is)
         (path_stands t path v w path rest (inl (v_is, w_is)) leads_on (λ s. (λ h. h, λ h. h)) begins)
     by_case way (Back not_forth v_is w_is is) =
         let back = reverse path in
-        let leads_on : Leads v w back =
-        subst (λ p. Leads p w back) (sym v_is)
-        (subst (λ q. Leads t.b q back) (sym w_is) (leads_back_by_reverse t.a t.b path leads)) in
+        let leads_on : RunsFrom v w back =
+        subst (λ p. RunsFrom p w back) (sym v_is)
+        (subst (λ q. RunsFrom t.b q back) (sym w_is) (leads_back_by_reverse t.a t.b path leads)) in
         subst (λ (l : List GridPoint). Stands t path v w l rest) (sym is)
         (path_stands t path v w back rest (inr (v_is, w_is)) leads_on (λ s. reversed_links s t.a t.b path leads) begins)
     by_case way (Other not_link is) =
@@ -58,7 +58,7 @@ stands t path v w rest leads begins = by_case (stretch t path v w) (drawn t path
         (record { begins = refl; links = λ s. inr (not_link, first_link s v w rest begins) })
 
 -- ---- the whole chain
-pub redrawn_begins : (t : GridSegment) (path : List GridPoint) (v : GridPoint) (chain : List GridPoint) → Leads t.a t.b path
+pub redrawn_begins : (t : GridSegment) (path : List GridPoint) (v : GridPoint) (chain : List GridPoint) → RunsFrom t.a t.b path
     → BeginsWith v (redrawn t path (v ∷ chain))
 redrawn_begins t path v [] leads = refl
 redrawn_begins t path v (w ∷ chain) leads =
@@ -66,7 +66,7 @@ redrawn_begins t path v (w ∷ chain) leads =
 
 -- the links of the redrawn chain
 pub redrawn_links : (t : GridSegment) (path chain : List GridPoint) (s : GridSegment) → IsBefore t.a t.b
-    → Leads t.a t.b path → IsBefore s.a s.b
+    → RunsFrom t.a t.b path → IsBefore s.a s.b
     → HasLink (redrawn t path chain) s ↔ ((HasLink chain s × (s ≢ t)) ⊎ (HasLink chain t × HasLink path s))
 redrawn_links t path [] s ordered leads s_ordered = (
   λ h. absurd h,

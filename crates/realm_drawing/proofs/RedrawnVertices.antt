@@ -4,7 +4,7 @@ use Rattle.std.proofs.lemmas.List.Elements.{Contains-append_right}
 use Rattle.grid_base.specs.Point.{GridPoint}
 use Rattle.grid_base.specs.Segment.{GridSegment}
 use Rattle.grid_base.proofs.Elements.{Contains-cases}
-use Rattle.hook_chain.specs.Chains.{Leads}
+use Rattle.hook_chain.specs.Chains.{RunsFrom}
 use Rattle.hook_chain.specs.Redrawing.{redrawn}
 use Rattle.realm_drawing.proofs.Elements.{Contains-head}
 use Rattle.realm_drawing.proofs.JoinedLinks.{BeginsWith}
@@ -16,7 +16,7 @@ first_is_there v [] begins = absurd begins
 first_is_there v (w ∷ list) begins = Contains-head w list v begins
 
 -- what stands for a link begins with its first point, so each vertex stays
-pub stays_in_redrawn : (t : GridSegment) (path chain : List GridPoint) (p : GridPoint) → Leads t.a t.b path → Contains chain p
+pub stays_in_redrawn : (t : GridSegment) (path chain : List GridPoint) (p : GridPoint) → RunsFrom t.a t.b path → Contains chain p
     → Contains (redrawn t path chain) p
 stays_in_redrawn t path [] p leads there = there
 stays_in_redrawn t path (v ∷ []) p leads there = there

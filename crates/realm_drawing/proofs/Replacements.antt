@@ -4,7 +4,7 @@ use Rattle.std.proofs.Common.{refl, ap, subst, sym, ◌∙◌, arith, inl, inr}
 use Rattle.grid_base.specs.Point.{GridPoint, IsBefore}
 use Rattle.grid_base.specs.Segment.{GridSegment}
 use Rattle.hook_chain.specs.Close.{Close}
-use Rattle.hook_chain.specs.Chains.{AllLinks, Leads}
+use Rattle.hook_chain.specs.Chains.{AllLinks, RunsFrom}
 use Rattle.hook_chain.specs.Redrawing.{front, redrawn}
 use Rattle.hook_chain.specs.ValidChain.{IsCloseChain, ValidChain}
 use Rattle.hook_chain.proofs.Exchange.{way}
@@ -77,7 +77,7 @@ unit_drawn o t path v w list ordered replaces unit (Other not_link is) = is
 -- ---- the chain
 -- link by link: a close link is drawn by the path or as it is, and the two of a corner as they are
 redrawn_goes : (o t : GridSegment) (path : List GridPoint) (v b : GridPoint) (chain : List GridPoint) → IsBefore t.a t.b
-    → Replaces o t path → AllLinks (IsInChain o) chain → Leads v b chain → IsCloseChain o chain
+    → Replaces o t path → AllLinks (IsInChain o) chain → RunsFrom v b chain → IsCloseChain o chain
     → GoesOn o v b (redrawn t path chain)
 redrawn_goes o t path v b [] ordered replaces inside leads close = absurd leads
 redrawn_goes o t path v b (p ∷ []) ordered replaces inside leads close = record { leads = leads; monotone = tt; close = tt }

@@ -13,7 +13,7 @@ use Rattle.grid_base.proofs.Balances.{factor_cancels}
 use Rattle.grid_rational.proofs.Crossings.{crossing_is_place}
 use Rattle.hook_chain.specs.Redrawing.{redraw, round_corner, cut_at}
 use Rattle.hook_chain.proofs.HookLaw.{one_hook}
-use Rattle.realm_drawing.specs.Steps.{Permitted}
+use Rattle.hook_chain.specs.Steps.{Permitted}
 use Rattle.realm_drawing.specs.Redraws.{redrawn_original_by}
 use Rattle.realm_drawing.proofs.Mendings.{permitted_mends, mending_is_violation}
 use Rattle.realm_drawing.proofs.StepPaths.{step_paths}

@@ -12,7 +12,7 @@ use Rattle.hook_chain.specs.Redrawing.{round_corner, cut_at}
 use Rattle.hook_chain.proofs.HookLaw.{a_is_on, b_is_on}
 use Rattle.realm_drawing.specs.declared.redrawing.Redrawing.{Redrawing}
 use Rattle.realm_drawing.specs.declared.redrawing.Redrawings.{Redrawings}
-use Rattle.realm_drawing.specs.Steps.{Permitted}
+use Rattle.hook_chain.specs.Steps.{Permitted}
 use Rattle.realm_drawing.specs.Mending.{IsMending, redrawn_drawing}
 use Rattle.realm_drawing.specs.Redraws.{AreRedrawings}
 use Rattle.realm_drawing.specs.StepShares.{AnyOf}

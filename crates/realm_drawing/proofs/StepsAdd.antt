@@ -9,11 +9,11 @@ use Rattle.grid_base.specs.Drawing.{Drawing, HasLink, IsPiece}
 use Rattle.grid_base.specs.declared.original.Original.{Original}
 use Rattle.grid_base.specs.declared.kinds.Step.{Step}
 use Rattle.grid_base.proofs.Orders.{IsBefore-asym}
-use Rattle.hook_chain.specs.Chains.{Leads}
+use Rattle.hook_chain.specs.Chains.{RunsFrom}
 use Rattle.hook_chain.specs.Redrawing.{redrawn}
 use Rattle.realm_drawing.specs.declared.redrawing.Redrawing.{Redrawing}
 use Rattle.realm_drawing.specs.declared.redrawing.Redrawings.{Redrawings}
-use Rattle.realm_drawing.specs.Steps.{Permitted}
+use Rattle.hook_chain.specs.Steps.{Permitted}
 use Rattle.realm_drawing.specs.Straight.{along}
 use Rattle.realm_drawing.specs.Chains.{AllValid, HasValidChain}
 use Rattle.realm_drawing.specs.Measure.{links_in, most_links, links_of, most_links_of, HasAsManyLinks, NoChainShorter}
@@ -32,7 +32,7 @@ use Rattle.realm_drawing.proofs.Sums.{sum_stays, sum_grows, sum_bound}
 two_ends : (q : Redrawing) → IsPathFor q → 2 ≤ length q.path
 two_ends q path = by_points q.path path.leads
   where
-    by_points : (points : List GridPoint) → Leads q.piece.a q.piece.b points → 2 ≤ length points
+    by_points : (points : List GridPoint) → RunsFrom q.piece.a q.piece.b points → 2 ≤ length points
     by_points [] leads = absurd leads
     by_points (p ∷ []) leads =
         let turned = subst (λ r. IsBefore r q.piece.b) (sym leads.0 ∙ leads.1) path.ordered in

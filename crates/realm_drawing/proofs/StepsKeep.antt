@@ -2,7 +2,7 @@
 use Rattle.std.proofs.Common.{subst, sym}
 use Rattle.grid_base.specs.Drawing.{Drawing}
 use Rattle.grid_base.specs.declared.kinds.Step.{Step}
-use Rattle.realm_drawing.specs.Steps.{Permitted}
+use Rattle.hook_chain.specs.Steps.{Permitted}
 use Rattle.realm_drawing.specs.Chains.{AllValid}
 use Rattle.realm_drawing.proofs.RedrawnOriginals.{redrawn_all_valid}
 use Rattle.realm_drawing.proofs.StepPaths.{step_paths}

@@ -5,7 +5,7 @@ use Rattle.grid_base.specs.Point.{GridPoint, IsFromTo}
 use Rattle.grid_base.specs.Segment.{GridSegment, is_flat, exchanged, exchanged_point}
 use Rattle.grid_base.specs.Places.{RationalPoint, IsPlace, InColumn}
 use Rattle.grid_base.specs.SideOf.{Lie, Above, At, Below, LiesTo, SideUp, IsChainPlace, as_rational, SideOfUp}
-use Rattle.hook_chain.specs.Chains.{Leads}
+use Rattle.hook_chain.specs.Chains.{RunsFrom}
 use Rattle.hook_chain.specs.Close.{IsCloseUp, Close}
 use Rattle.hook_chain.specs.ValidChain.{IsCorner, IsCloseChain, ValidChain}
 use Rattle.hook_chain.proofs.Exchange.{way, place_back}
@@ -100,7 +100,7 @@ side_by_places chain p Below some keeps = elim (chain_place_or_not chain p) [
 ]
 
 -- a chain from end to end of o that is close by columns passes no grid point
-unswept_up : (o : GridSegment) (chain : List GridPoint) → o.a.x ≢ o.b.x → Leads o.a o.b chain → IsCloseChainUp o chain
+unswept_up : (o : GridSegment) (chain : List GridPoint) → o.a.x ≢ o.b.x → RunsFrom o.a o.b chain → IsCloseChainUp o chain
     → (p : GridPoint) (lie : Lie) → IsFromTo o.a.x o.b.x p.x → SideUp o p lie → SideOfUp chain p At ⊎ SideOfUp chain p lie
 unswept_up o chain slanted leads close p lie range side =
     let r = place_in_column o p.x slanted range in

@@ -1,5 +1,3 @@
--- steps, each permitted where it stands, and the traces that settle a drawing
-pub mod Steps
 -- straight originals, and a drawing with one more
 pub mod Straight
 -- originals by rising id, and the chain that stands for one

@@ -7,7 +7,7 @@ use Rattle.grid_base.specs.Point.{GridPoint}
 use Rattle.grid_base.specs.Drawing.{Drawing, IsPoint, IsPiece}
 use Rattle.grid_base.specs.declared.kinds.Step.{Step}
 use Rattle.grid_base.specs.declared.kinds.Step.TheVariants.{Split, Meet, Corner}
-use Rattle.realm_drawing.specs.Steps.{Permitted}
+use Rattle.hook_chain.specs.Steps.{Permitted}
 use Rattle.realm_drawing.specs.Redraws.{redrawn_original_by, AreRedrawings, IsRedrawn}
 use Rattle.realm_drawing.specs.Draws.{IsPieceOf}
 use Rattle.realm_drawing.specs.declared.redrawing.Redrawings.{Redrawings}

@@ -4,7 +4,7 @@ use Rattle.grid_base.specs.Point.{GridPoint, IsBefore}
 use Rattle.grid_base.specs.Segment.{GridSegment}
 use Rattle.grid_base.specs.Drawing.{HasLink}
 use Rattle.grid_base.specs.declared.original.Original.{Original}
-use Rattle.hook_chain.specs.Chains.{Leads}
+use Rattle.hook_chain.specs.Chains.{RunsFrom}
 use Rattle.hook_chain.specs.Redrawing.{redrawn}
 use Rattle.hook_chain.specs.ValidChain.{ValidChain}
 use Rattle.realm_drawing.specs.declared.redrawing.Redrawing.{Redrawing}
@@ -23,11 +23,11 @@ redrawn_by step chain = redrawn_also step.second (redrawn step.first.piece step.
 abbrev pub redrawn_original_by : Redrawings → Original → Original
 redrawn_original_by step o = record o { chain = redrawn_by step o.chain }
 
--- the path may stand for the piece: it leads from its lesser end to its greater, and a chain that may stand for
--- its original still may with the path in it
+-- the path may stand for the piece: it leads from its lesser end to its greater, and a chain that may stand
+-- for its original still may with the path in it
 pub record IsPathFor (r : Redrawing) : Type 0 where
   pub ordered : IsBefore r.piece.a r.piece.b
-  pub leads : Leads r.piece.a r.piece.b r.path
+  pub leads : RunsFrom r.piece.a r.piece.b r.path
   pub keeps : (o : GridSegment) (chain : List GridPoint) → ValidChain o chain
       → ValidChain o (redrawn r.piece r.path chain)
 

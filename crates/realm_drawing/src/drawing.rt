@@ -7,7 +7,7 @@ ghost use Rattle.grid_base.specs.Segment.{GridSegment, IsSegmentBefore};
 ghost use Rattle.grid_base.specs.Crossing.{Inside};
 ghost use Rattle.grid_base.specs.Drawing.{Drawing as Drawn, IsPoint, IsPiece, HasViolation};
 ghost use Rattle.hook_chain.specs.ValidChain.{ValidChain};
-ghost use Rattle.realm_drawing.specs.Steps.{Permitted};
+ghost use Rattle.hook_chain.specs.Steps.{Permitted};
 ghost use Rattle.realm_drawing.specs.Straight.{placed, AllBelow};
 ghost use Rattle.realm_drawing.specs.Ids.{IsAscending, LacksId, IsChainOf};
 ghost use Rattle.realm_drawing.specs.Chains.{IsSomeChain, AllStand};

@@ -1,5 +1,5 @@
 //! The explicit points: a set in the order of points.
-ghost use Rattle.std.specs.Prelude.{◌≡◌, ◌⊎◌, ◌↔◌, ◌<◌, ◌≤◌, ◌^◌, min, max, IsTrue};
+ghost use Rattle.std.specs.Prelude.{◌≡◌, ◌⊎◌, ◌↔◌, ◌<◌, ◌≤◌, min, max, IsTrue};
 ghost use Rattle.std.specs.Prelude.{IfOk, OnErr, All, AllPairs, Contains, MatchOption, []};
 ghost use Rattle.grid_base.specs.Point.{GridPoint, InBox, IsBefore, point_at};
 ghost use Rattle.grid_base.specs.Crossing.{Inside};
@@ -106,16 +106,8 @@ fn corners_of(s: &Segment) -> (Point, Point)
     ensures ordered { s.now.a.x ≤ s.now.b.x }
 {
     let (a, b) = (s.a(), s.b());
-    (at(a.x(), a.y().min(b.y())), at(b.x(), a.y().max(b.y())))
-}
-
-// The point with these coordinates.
-pub(crate) fn at(x: u32, y: u32) -> Point
-    requires on_grid { (x < 2 ^ 28) × (y < 2 ^ 28) }
-    ensures { result ≡ point_at x y }
-{
-    match Point::new(u64::from(x), u64::from(y)) {
-        Ok(point) => point,
-        Err(_) => unreachable!(),
-    }
+    (
+        Point::at(a.x(), a.y().min(b.y())),
+        Point::at(b.x(), a.y().max(b.y())),
+    )
 }

@@ -5,7 +5,7 @@ ghost use Rattle.grid_base.specs.Segment.{GridSegment};
 ghost use Rattle.grid_base.specs.Drawing.{Drawing, HasViolation};
 ghost use Rattle.grid_base.specs.declared.kinds.Step.{Step};
 ghost use Rattle.hook_chain.specs.ValidChain.{ValidChain};
-ghost use Rattle.realm_drawing.specs.Steps.{Permitted};
+ghost use Rattle.hook_chain.specs.Steps.{Permitted};
 ghost use Rattle.realm_drawing.specs.Chains.{AllValid, StandsFor};
 ghost use Rattle.realm_drawing.specs.Measure.{links_of, most_links_of, NoChainShorter};
 

@@ -1,5 +1,5 @@
 //! Drawings: explicit points, and the segments that were given, the originals, with the chains that stand for them.
-//! Begin at `Drawing`, then read what a step does in `specs/Steps.antt`.
+//! Begin at `Drawing`, then read what a step does in `specs/Steps.antt` of hook_chain.
 #![tactic(auto)]
 
 mod courses;

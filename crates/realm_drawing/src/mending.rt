@@ -11,7 +11,6 @@ ghost use Rattle.hook_chain.specs.Hook.{Hook};
 ghost use Rattle.hook_chain.specs.Redrawing.{cut_at, round_corner};
 ghost use Rattle.realm_drawing.specs.Mending.{IsMending, IsRedrawingsOf, MendsCrossing};
 
-use crate::explicit::at;
 use crate::redrawing::{Redrawing, Redrawings};
 use grid_base::{Chain, NoMemory, Point, Segment, Step, in_side};
 use grid_rational::{Meet, meet_point};
@@ -192,8 +191,8 @@ fn round_path(alloc: Global, u: Segment, z: Point) -> Result<Chain, NoMemory>
     let (a, b) = (u.a(), u.b());
     // to read these shows that the corners are on the grid
     let _ = (b.x(), a.y());
-    let first = at(z.x(), z.y() + 1);
-    let last = at(z.x() + 1, z.y());
+    let first = Point::at(z.x(), z.y() + 1);
+    let last = Point::at(z.x() + 1, z.y());
     let mut list = Vec::new(alloc);
     if a != first {
         list.push(a)?;

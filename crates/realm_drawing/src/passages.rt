@@ -3,7 +3,7 @@
 ghost use Rattle.std.specs.Prelude.{◌≡◌, ◌≢◌, ◌<◌, ◌+◌, ◌-◌, ◌↔◌, ◌++◌, IsTrue, Some, MatchOption, IfOk, All};
 ghost use Rattle.std.specs.Prelude.{length, take, drop, reverse};
 ghost use Rattle.grid_base.specs.Drawing.{HasLink};
-ghost use Rattle.hook_chain.specs.Chains.{Leads};
+ghost use Rattle.hook_chain.specs.Chains.{RunsFrom};
 ghost use Rattle.hook_chain.specs.Redrawing.{redrawn};
 ghost use Rattle.realm_drawing.specs.Chains.{IsSomeChain};
 ghost use Rattle.realm_drawing.specs.Redraws.{Becomes};
@@ -29,7 +29,7 @@ pub(crate) fn with_path(
     redrawing: &Redrawing,
 ) -> Result<Option<Chain>, NoMemory>
     requires chain { IsSomeChain points.now }
-    requires leads { Leads redrawing.now.piece.a redrawing.now.piece.b redrawing.now.path }
+    requires leads { RunsFrom redrawing.now.piece.a redrawing.now.piece.b redrawing.now.path }
     ensures { IfOk result
         (Becomes points.now (redrawn redrawing.now.piece redrawing.now.path points.now)) }
 {
@@ -52,7 +52,8 @@ fn with_way(
     way: &[Point],
 ) -> Result<Option<Chain>, NoMemory>
     requires within { place < length points.now }
-    ensures { IfOk result (λ chain. chain ≡ Some (take place points.now ++ way.now ++ drop (place + 1) points.now)) }
+    ensures { IfOk result
+        (λ chain. chain ≡ Some (take place points.now ++ way.now ++ drop (place + 1) points.now)) }
 {
     let mut list = Vec::with_capacity(alloc, points.len().saturating_add(way.len()))?;
     list.extend_from_slice(&points[..place])?;

@@ -37,10 +37,6 @@ both {mid = mid} {new} (Ok y) one two = record {
 both (Err e) one two = record { asks = asks_then (asks_of one.leaves) (asks_of two.leaves); stable = tt }
 
 module _ {old mid new : View} {x : Unit {0}} (synced : Synced old mid (Ok x)) (asks : OnlyAsks mid new) where
-  -- all in all nothing else was done,
-  pub asks_all : OnlyAsks old new
-  asks_all = asks_then synced.asks asks
-
   -- each crash from then on leaves the files as they were read,
   pub opened : ((a : Moment) → mid.left_since mid.moment a → MayLeave mid a) → IsOpened old new
   opened only = record {

@@ -20,7 +20,5 @@ pub mod Boxes
 pub mod Found
 -- one count of the entries as asked
 pub mod Counts
--- the worked case of the tests
-pub mod WorkedCase
 -- what the guards of differences tell
 mod Guards

@@ -10,5 +10,3 @@ pub mod Branch
 pub mod Slots
 -- how the tree of an index stands by its map, for this crate's own proofs
 pub mod Kept
--- the worked case of the tests
-pub mod Worked

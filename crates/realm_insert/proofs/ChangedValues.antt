@@ -3,7 +3,6 @@ use Rattle.std.proofs.Common.{◌≡◌, ℕ, ◌+◌, ◌<◌, Bool, true, fals
 use Rattle.std.proofs.Common.{List, [], ◌∷◌, get_or, All, Contains, count_by}
 use Rattle.std.proofs.Common.{inr, refl, sym, ap, subst, arith}
 use Rattle.std.specs.Map.{values_of}
-use Rattle.std.proofs.lemmas.Bool.Decides.{nat_tests}
 use Rattle.std.proofs.lemmas.List.Elements.{All-nil, All-cons, All-head, All-tail}
 use Rattle.std.proofs.lemmas.List.Sums.{sum_by-cons}
 use Rattle.grid_base.specs.Point.{GridPoint, is_point}
@@ -12,6 +11,7 @@ use Rattle.grid_base.specs.Drawing.{Drawing}
 use Rattle.line_grammar.specs.declared.command.Change.{Change}
 use Rattle.line_grammar.specs.declared.command.Change.TheVariants.{Unpoint, Delete}
 use Rattle.realm_drawing.specs.Changed.{without_id}
+use Rattle.realm_drawing.proofs.Stretches.{apart_by_test}
 use Rattle.value_table.specs.Table.{NamedValues}
 use Rattle.value_table.specs.Value.{points_among, names_id, names_point}
 use Rattle.value_table.specs.declared.value.Value.{Value}
@@ -22,13 +22,6 @@ use Rattle.realm_insert.specs.Refusals.{TakesWhatIsUsed}
 use Rattle.realm_insert.specs.Values.{AreValuesOf}
 use Rattle.realm_insert.proofs.PreparedChanges.{placed_points}
 use Rattle.realm_insert.proofs.KeptValues.{not_listed, has_placed_all, has_moved, has_removed}
-
--- points that compare as two are two
-other_point : (p q : GridPoint) → is_point p q ≡ false → p ≡ q → ⊥
-other_point p q apart same =
-    let column = ap (λ (r : GridPoint). r.x) same in
-    let row = ap (λ (r : GridPoint). r.y) same in
-    grind (arith, nat_tests)
 
 -- ---- what is used by none
 -- where none is counted none passes
@@ -90,7 +83,7 @@ module _ (d : Drawing) (first : ℕ) (changed : Drawing) (values : NamedValues) 
               λ same.
                   let apart : is_point (grid_point p) q ≡ false =
                   not_listed (is_point (grid_point p)) (points_among v.parts) q (unnamed k entry within) there in
-                  other_point (grid_point p) q apart (sym same),
+                  apart_by_test (grid_point p) q apart (sym same),
             ))
             was.1,
       )

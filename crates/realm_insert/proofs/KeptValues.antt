@@ -20,7 +20,7 @@ use Rattle.grid_base.specs.declared.kinds.Step.{Step}
 use Rattle.grid_base.specs.declared.original.Original.{Original}
 use Rattle.realm_drawing.specs.Changed.{without_id}
 use Rattle.realm_drawing.specs.Redraws.{redrawn_by}
-use Rattle.realm_drawing.specs.Steps.{Permitted, Settles}
+use Rattle.hook_chain.specs.Steps.{Permitted, Settles}
 use Rattle.realm_drawing.specs.Straight.{straight, placed, along}
 use Rattle.realm_drawing.proofs.Elements.{Contains-map}
 use Rattle.realm_drawing.proofs.StepPaths.{step_paths}

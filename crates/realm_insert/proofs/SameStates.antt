@@ -13,7 +13,7 @@ use Rattle.value_table.specs.Table.{NamedValues}
 use Rattle.value_table.specs.declared.value.Value.{Value}
 use Rattle.value_table.specs.declared.value.Parts.TheVariants as parts
 use Rattle.realm_insert.specs.Changes.{IsChangedTo, ChangesTo, IsExplicitAfter, AreValuesAfter, Defines, IsPointsOf, IsValueOfFigure}
-use Rattle.realm_drawing.specs.Steps.{Settles}
+use Rattle.hook_chain.specs.Steps.{Settles}
 use Rattle.realm_insert.specs.Figures.{Figure}
 use Rattle.realm_insert.specs.Misfits.{Misfits, MisfitsAt}
 use Rattle.realm_insert.specs.Next.{Next}

@@ -4,7 +4,7 @@ use Rattle.grid_base.specs.Drawing.{Drawing, HasViolation}
 use Rattle.grid_base.specs.declared.kinds.Step.{Step}
 use Rattle.grid_base.specs.declared.kinds.Step.TheVariants.{Split, Meet, Corner}
 use Rattle.record_codec.specs.Traces.{IsOrdered}
-use Rattle.realm_drawing.specs.Steps.{Permitted, Settles}
+use Rattle.hook_chain.specs.Steps.{Permitted, Settles}
 use Rattle.realm_drawing.specs.Chains.{AllValid}
 use Rattle.realm_drawing.specs.Keyed.{KeyedDrawing, AreKeyed}
 use Rattle.realm_drawing.specs.Measure.{links_of, most_links_of}

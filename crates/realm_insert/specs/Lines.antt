@@ -1,6 +1,7 @@
 -- What a change asks for, as its line writes it: places, pairs of places to draw between, and names.
-use Rattle.std.specs.Prelude.{◌≢◌, ◌⊎◌, ◌≤◌, ◌<◌, ◌^◌, ℕ, List, [], ◌∷◌, ◌++◌, length, map, Any, Option, Some, None}
+use Rattle.std.specs.Prelude.{◌≢◌, ◌⊎◌, ◌≤◌, ◌<◌, ℕ, List, [], ◌∷◌, ◌++◌, length, map, Any, Option, Some, None}
 use Rattle.std.specs.List.{flat_map}
+use Rattle.grid_base.specs.Grid.{grid_side}
 use Rattle.grid_base.specs.Point.{GridPoint, point_at}
 use Rattle.grid_base.specs.Segment.{GridSegment, segment_of}
 use Rattle.line_grammar.specs.declared.command.At.{At}
@@ -9,9 +10,9 @@ use Rattle.line_grammar.specs.declared.command.Change.TheVariants.{Point, Unpoin
 use Rattle.line_grammar.specs.declared.command.Change.TheVariants.{Lines, Regions, Let}
 use Rattle.realm_insert.specs.declared.asked.Ends.{Ends}
 
--- a coordinate is 2^28 or more
+-- a coordinate is off the grid
 abbrev pub IsOffGrid : At → Type 0
-IsOffGrid p = (2 ^ 28 ≤ p.x) ⊎ (2 ^ 28 ≤ p.y)
+IsOffGrid p = (grid_side ≤ p.x) ⊎ (grid_side ≤ p.y)
 
 abbrev pub grid_point : At → GridPoint
 grid_point p = point_at p.x p.y

@@ -4,7 +4,7 @@ use Rattle.grid_base.specs.Drawing.{Drawing, HasViolation}
 use Rattle.grid_base.specs.declared.kinds.Step.{Step}
 use Rattle.line_grammar.specs.declared.command.Change.{Change}
 use Rattle.realm_drawing.specs.Mending.{IsPermitted}
-use Rattle.realm_drawing.specs.Steps.{Permitted}
+use Rattle.hook_chain.specs.Steps.{Permitted}
 use Rattle.realm_insert.specs.State.{State}
 use Rattle.realm_insert.specs.Changes.{ChangesTo}
 

@@ -5,7 +5,7 @@ use Rattle.grid_base.specs.Segment.{GridSegment}
 use Rattle.grid_base.specs.Drawing.{Drawing, HasViolation, IsPoint, IsPiece}
 use Rattle.grid_base.specs.declared.kinds.Step.{Step}
 use Rattle.line_grammar.specs.declared.command.Change.{Change}
-use Rattle.realm_drawing.specs.Steps.{Settles}
+use Rattle.hook_chain.specs.Steps.{Settles}
 use Rattle.realm_insert.specs.State.{State, kept_trace, latest}
 use Rattle.realm_insert.specs.Figures.{Figure, Draws}
 use Rattle.realm_insert.specs.Refusals.{IsAccepted}

@@ -9,7 +9,7 @@ use thiserror::Error;
 /// Why a change is refused, in the order in which the causes are asked for. The engine is unchanged then.
 #[derive(Clone, Copy, Debug, PartialEq, Eq, Error)]
 pub enum Refusal {
-    /// A coordinate is 2^28 or more.
+    /// A coordinate is off the grid.
     #[error("a coordinate is off the grid")]
     Range,
     /// A list is too short: one of `lines` takes two points, one of `regions` three.

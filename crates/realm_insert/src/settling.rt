@@ -6,7 +6,7 @@ ghost use Rattle.std.specs.Prelude.{◌≡◌, ◌<◌, ◌≤◌, ◌-◌, ◌+
 ghost use Rattle.std.specs.Prelude.{IfSome, IsNone, IsSomeAnd};
 ghost use Rattle.std.specs.List.{slice_get};
 ghost use Rattle.grid_base.specs.Drawing.{HasViolation};
-ghost use Rattle.realm_drawing.specs.Steps.{Permitted, Settles};
+ghost use Rattle.hook_chain.specs.Steps.{Permitted, Settles};
 ghost use Rattle.realm_drawing.specs.Chains.{AllValid};
 ghost use Rattle.realm_drawing.specs.Keyed.{AreKeyed};
 ghost use Rattle.realm_drawing.specs.Mending.{IsPermitted};

@@ -12,8 +12,6 @@ mod reading;
 mod records;
 mod scanning;
 mod shutting;
-#[cfg(test)]
-mod tests;
 
 pub use appending::{append, append_block};
 pub use block::Block;

@@ -38,10 +38,6 @@ same_part k part other fills also long same =
 abbrev pub room_of : List ℕ → List ℕ
 room_of page = take 4054 (drop 10 page)
 
-length_room : (k : ℕ) (part : List ℕ) → Fills part → length (room_of (page_of k part)) ≡ 4054
-length_room k part fills =
-    omega (arith, length-take 4054 (drop 10 (page_of k part)), length-drop 10 (page_of k part), length_page k part fills)
-
 part_in_room : (k : ℕ) (part : List ℕ) → Fills part → take (length part) (room_of (page_of k part)) ≡ part
 part_in_room k part fills = take-take (length part) 4054 (drop 10 (page_of k part)) fills.not_more ∙ part_in k part fills
 

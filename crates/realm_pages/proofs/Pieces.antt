@@ -20,10 +20,6 @@ page_of_piece whole piece before count k is lt =
     ∙ take-take 4096 more (drop (4096 * k) rest) (omega (arith, lt))
     ∙ ap (λ l. take 4096 l) (drop-drop (4096 * k) (4096 * (before + 1)) whole ∙ ap (λ m. drop m whole) place)
 
--- nothing is read yet
-pub holds_none : {file : List ℕ} {size : ℕ} → HoldsFirst file size 0 []
-holds_none {file} {size} = record { fills = omega arith; pages = λ k lt. absurd (omega (arith, lt)) }
-
 -- the page behind those that were taken is at fault
 pub fault_at : (file : FileName) (whole piece page bytes : List ℕ) (size before count k : ℕ) (damage : Damage)
     → IsPieceOf whole before count piece → k < count → page ≡ take 4096 (drop (4096 * k) piece)

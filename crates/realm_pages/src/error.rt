@@ -32,7 +32,7 @@ pub enum PagesError {
     #[error("disk fault")]
     Disk,
     /// The files are damaged.
-    #[error("the files are damaged")]
+    #[error("the files are damaged: {0}")]
     Damaged(Damage),
     /// Memory ran out.
     #[error("no memory")]

@@ -12,8 +12,6 @@ mod pages;
 mod prepared;
 mod reading;
 mod switching;
-#[cfg(test)]
-mod tests;
 
 pub use damage::Damage;
 pub use error::{PagesError, SwitchError};

@@ -1,7 +1,7 @@
 -- This file shows where a record leads that is made again.
-use Rattle.std.proofs.Common.{◌≡◌, ℕ, ◌+◌, ◌<◌, ◌≤◌, Bool, true, false, List, [], ◌∷◌, ◌++◌, length, take, drop, get_or}
+use Rattle.std.proofs.Common.{◌≡◌, ℕ, ◌+◌, ◌<◌, Bool, true, false, List, [], ◌∷◌, ◌++◌, length, take, drop, get_or}
 use Rattle.std.proofs.Common.{refl, sym, ◌∙◌, ap, subst, arith}
-use Rattle.std.proofs.lemmas.List.{take_more, drop_more, take-append-drop, take_all, append-nil, length-take-le}
+use Rattle.std.proofs.lemmas.List.{take_more, drop_more, take-append-drop, length-take-le}
 use Rattle.grid_base.specs.declared.kinds.Step.{Step}
 use Rattle.line_grammar.specs.declared.command.Change.{Change}
 use Rattle.record_codec.specs.declared.record.Record.{Record}
@@ -81,16 +81,3 @@ module _ (start : State) (records : List Record) (i : ℕ) where
     lead = lead;
     rest = subst (λ q. LeadsNowhere mid q) is nowhere;
   }
-
--- all lead on
-pub replayed_all : (start : State) (records : List Record) (i : ℕ) (engine : SpendableState) → length records ≤ i → engine.spent ≡ false
-    → LeadOn start (take i records) engine.state → Replayed start records (length records) engine
-replayed_all start records i engine past ready lead = record {
-  before = records;
-  left = [];
-  in_order = sym (append-nil records);
-  count_is = refl;
-  reached = engine.state;
-  lead = subst (λ l. LeadOn start l engine.state) (take_all i records past) lead;
-  rest = (ready, refl);
-}

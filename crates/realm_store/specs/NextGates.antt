@@ -1,4 +1,4 @@
--- The gate behind which the next record is to be written.
+-- The gate behind which the next record is to be written. No public clause cites this file.
 use Rattle.std.specs.Prelude.{◌≡◌, Bool, true, false, [], Option, Some, None}
 use Rattle.realm_files.specs.declared.place.Place.{Place}
 use Rattle.realm_files.specs.Stands.{numbered}

@@ -1,4 +1,4 @@
--- What is opened of the files when a store is started.
+-- What is opened of the files when a store is started. No public clause cites this file.
 use Rattle.std.specs.Prelude.{◌≡◌, ◌↔◌, ◌+◌, ◌<◌, ◌≤◌, ℕ, true, List, length, Some, Result, Err, IfOk}
 use Rattle.outside_world.specs.View.{View}
 use Rattle.record_codec.specs.declared.record.Record.{Record}

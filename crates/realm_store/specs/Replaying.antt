@@ -1,4 +1,5 @@
--- Records whose changes are made again one after another, wherever they stand.
+-- Records whose changes are made again one after another, wherever they stand. No public clause cites this
+-- file.
 use Rattle.std.specs.Prelude.{◌≡◌, ℕ, Bool, true, false, List, [], ◌∷◌, ◌++◌, length}
 use Rattle.line_grammar.specs.declared.command.Change.{Change}
 use Rattle.line_grammar.specs.Spelling.{change_text}

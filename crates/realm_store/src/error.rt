@@ -10,15 +10,19 @@ use outside_world::Failed;
 use realm_insert::Refusal;
 use realm_journal::{JournalError, ScanError};
 use realm_pages::{Damage, PagesError};
+use thiserror::Error;
 
 /// Why a store isn't started. Nothing was written.
-#[derive(Clone, Copy, Debug, PartialEq, Eq)]
+#[derive(Clone, Copy, Debug, PartialEq, Eq, Error)]
 pub enum StartError {
     /// The disk failed.
+    #[error("disk fault")]
     Disk,
     /// The files stand for no state.
+    #[error("the files are damaged: {0}")]
     Damaged(Damage),
     /// Memory ran out.
+    #[error("no memory")]
     NoMemory,
 }
 
@@ -62,13 +66,16 @@ impl From<PagesError> for StartError {
 }
 
 /// Why a change isn't committed.
-#[derive(Clone, Copy, Debug, PartialEq, Eq)]
+#[derive(Clone, Copy, Debug, PartialEq, Eq, Error)]
 pub enum CommitError {
     /// It is refused. The store and the files are unchanged.
+    #[error("refused: {0}")]
     Refused(Refusal),
     /// The disk failed: the files stand for the state before the change or after it. The store is spent.
+    #[error("disk fault")]
     Disk,
     /// Memory ran out before anything was written. The store is spent.
+    #[error("no memory")]
     NoMemory,
 }
 
@@ -89,13 +96,16 @@ impl From<JournalError> for CommitError {
 }
 
 /// Why no checkpoint is made. In each case the files stand for the state all the time.
-#[derive(Clone, Copy, Debug, PartialEq, Eq)]
+#[derive(Clone, Copy, Debug, PartialEq, Eq, Error)]
 pub enum CheckpointError {
     /// There is no greater generation. The store and the files are unchanged.
+    #[error("no greater generation is left")]
     Generations,
     /// The disk failed. The store is spent.
+    #[error("disk fault")]
     Disk,
     /// Memory ran out before anything was written. The store is spent.
+    #[error("no memory")]
     NoMemory,
 }
 

@@ -5,10 +5,6 @@
 mod areas;
 mod counting;
 mod distances;
-#[cfg(test)]
-mod regions_tests;
-#[cfg(test)]
-mod tests;
 mod widths;
 
 pub use areas::area2;

@@ -3,8 +3,6 @@
 
 mod laws;
 mod operating;
-#[cfg(test)]
-mod tests;
 
 pub use laws::one_result;
 pub use operating::{operate, operate_alone};

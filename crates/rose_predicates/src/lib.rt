@@ -8,8 +8,6 @@ mod members;
 mod of_lines;
 mod of_points;
 mod of_regions;
-#[cfg(test)]
-mod tests;
 
 pub use answering::{HoldsError, holds};
 pub use laws::equal_is_same;

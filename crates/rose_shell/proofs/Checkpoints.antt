@@ -3,7 +3,7 @@ use Rattle.std.proofs.Common.{◌≡◌, inl, inr, true, false, List, ℕ, refl,
 use Rattle.std.specs.Prelude.{◌≢◌, Ok, Err}
 use Rattle.outside_world.specs.View.{View}
 use Rattle.outside_world.proofs.Moments.{only_wider}
-use Rattle.line_grammar.specs.Spelling.{text_of}
+use Rattle.line_grammar.specs.Spelling.{command_text}
 use Rattle.line_grammar.specs.declared.command.Command.TheVariants as commands
 use Rattle.realm_files.specs.Writing.{generation_of, next_generation}
 use Rattle.realm_store.specs.Keeping.{Kept, SpendableKept, AllRest as FilesRest}
@@ -62,7 +62,7 @@ checkpoint_written renewed stays rest = record {
 -- and so they did where the disk failed meanwhile
 pub checkpoint_cut_off : {old new : View} {start end : SpendableKept} {after : Kept} → start.spent ≡ false
     → IsRenewed start.kept after → Stays old new start.kept.state
-    → Answered StoreTerms old new start end (text_of commands.Checkpoint) (Err Disk)
+    → Answered StoreTerms old new start end (command_text commands.Checkpoint) (Err Disk)
 checkpoint_cut_off {after = after} ready renewed stays = record {
   takes = stays.takes;
   given = stays.given;

@@ -1,6 +1,6 @@
 -- This file shows what a batch is answered whose number is out of range.
 use Rattle.std.proofs.Common.{◌≡◌, ℕ, ◌≤◌, List, false, length, refl, sym, subst, ap}
-use Rattle.line_grammar.specs.Spelling.{text_of}
+use Rattle.line_grammar.specs.Spelling.{command_text}
 use Rattle.line_grammar.specs.Spellable.{IsSpellable}
 use Rattle.line_grammar.specs.declared.command.Command.{Command}
 use Rattle.line_grammar.specs.declared.command.Command.TheVariants as commands
@@ -13,11 +13,11 @@ use Rattle.rose_shell.specs.Answers.{AnswersCommand, Unspent}
 
 -- the line begins no batch, so the number is out of range
 pub out_of_range : (command : Command) (size : ℕ) → command ≡ commands.Batch size → IsSpellable command
-    → length (text_of command) ≤ longest_line → OpensNone (text_of command) → IsInRange size → ⊥
+    → length (command_text command) ≤ longest_line → OpensNone (command_text command) → IsInRange size → ⊥
 out_of_range command size is spellable short none range =
     none size record {
       short = short;
-      says = (subst (λ (c : Command). IsSpellable c) is spellable, ap (λ (c : Command). text_of c) is);
+      says = (subst (λ (c : Command). IsSpellable c) is spellable, ap (λ (c : Command). command_text c) is);
       in_range = range;
     }
 

@@ -4,7 +4,7 @@
 ghost use Rattle.std.specs.Prelude.{◌≡◌, ◌≢◌, ◌≤◌, length, true, false, Err, IfOk, IsErrOf, MatchResult};
 ghost use Rattle.outside_world.specs.Counts.{Rose};
 ghost use Rattle.outside_world.specs.GoesOn.{GoesOn};
-ghost use Rattle.line_grammar.specs.Spelling.{text_of, change_text};
+ghost use Rattle.line_grammar.specs.Spelling.{command_text, change_text};
 ghost use Rattle.line_grammar.specs.declared.command.Command.TheVariants.{Checkpoint as TheCheckpoint};
 ghost use Rattle.line_grammar.specs.Spellable.{IsSpellable, IsSpellableChange};
 ghost use Rattle.realm_store.specs.Keeping.{AllRest};
@@ -83,8 +83,8 @@ fn execute<R: Threads + Sync, W: Outside>(
 ) -> Result<Reply, Stop>
     requires ready { store.old.spent ≡ false }
     requires spellable { IsSpellable command.now }
-    requires short { length (text_of command.now) ≤ longest_line }
-    requires opens_none { OpensNone (text_of command.now) }
+    requires short { length (command_text command.now) ≤ longest_line }
+    requires opens_none { OpensNone (command_text command.now) }
     requires rest { W.tells world.old → AllRest store.old.kept (W.view world.old) }
     ensures answer { IfOk result (λ reply. Unspent (AnswersCommand command.now) store.old reply store.new) }
     ensures disk_fault { IsErrOf result Stop.Disk
@@ -92,7 +92,7 @@ fn execute<R: Threads + Sync, W: Outside>(
     ensures spent { IsErrOf result Stop.Disk → store.new.spent ≡ true }
     ensures goes_on { GoesOn ⟦<W as Outside>⟧ world.old world.new }
     ensures told { W.tells world.new → Answered StoreTerms (W.view world.old) (W.view world.new)
-        store.old store.new (text_of command.now) result }
+        store.old store.new (command_text command.now) result }
 {
     match command {
         Command::Change(change) => answer_change(rt, alloc, store, world, change),
@@ -144,7 +144,7 @@ fn answer_checkpoint<W: Outside>(
     ensures spent { IsErrOf result Stop.Disk → store.new.spent ≡ true }
     ensures goes_on { GoesOn ⟦<W as Outside>⟧ world.old world.new }
     ensures told { W.tells world.new → Answered StoreTerms (W.view world.old) (W.view world.new)
-        store.old store.new (text_of TheCheckpoint) result }
+        store.old store.new (command_text TheCheckpoint) result }
 {
     let reply = match accept_checkpoint(alloc) {
         Ok(reply) => reply,

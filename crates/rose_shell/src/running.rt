@@ -2,7 +2,7 @@
 ghost use Rattle.std.specs.Prelude.{◌≡◌, ◌≢◌, ◌≤◌, ◌^◌, ◌⊎◌, ℕ, true, false, length, map, string_bytes};
 ghost use Rattle.outside_world.specs.Counts.{Rose};
 ghost use Rattle.outside_world.specs.GoesOn.{GoesOn};
-ghost use Rattle.command_words.specs.Written.{IsWritten, IsNoCommand, IsAllowed};
+ghost use Rattle.command_words.specs.Written.{AreWordsOf, IsNoCommand, IsAllowed};
 ghost use Rattle.command_words.specs.declared.word.Word.{Word as Command};
 ghost use Rattle.command_words.specs.declared.word.Word.TheVariants.{Gen};
 ghost use Rattle.realm_insert.specs.State.{State};
@@ -45,14 +45,14 @@ pub fn run<R: Threads + Sync, W: Outside>(
     ensures faults { HasCause ⟦<W as Outside>⟧ world.old world.new result }
     ensures damaged { (d : Damage) → result ≡ Status.Damaged d → W.tells world.new
         → IsDamaged d (W.view world.old).reads }
-    ensures told { (command : Command) → IsWritten (map string_bytes words.now) command
+    ensures told { (command : Command) → AreWordsOf (map string_bytes words.now) command
         → W.tells world.new → HasDone command (W.view world.old) (W.view world.new) result }
     // `gen` makes no call on a file: each may raise the count.
-    ensures no_file { (lines start : ℕ) → IsWritten (map string_bytes words.now) (Gen lines start)
+    ensures no_file { (lines start : ℕ) → AreWordsOf (map string_bytes words.now) (Gen lines start)
         → W.disk_faults world.new ≡ W.disk_faults world.old }
     // Where no call fails, the files stand for a state and the input ends within the budget, as far as the command
     // asks for them, nothing but memory can be wanting.
-    ensures complete { (command : Command) → IsWritten (map string_bytes words.now) command
+    ensures complete { (command : Command) → AreWordsOf (map string_bytes words.now) command
         → W.tells world.new
         → ¬ (Rose (W.source_faults world.old) (W.source_faults world.new))
         → ¬ (Rose (W.sink_faults world.old) (W.sink_faults world.new))

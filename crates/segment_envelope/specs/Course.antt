@@ -1,6 +1,7 @@
 -- A segment along its own axis, by columns where it is flat and by rows where it is steep. No public
 -- clause cites this file.
-use Rattle.std.specs.Prelude.{◌≡◌, ◌⊎◌, ℕ, ◌+◌, ◌-◌, ◌*◌, ◌<◌, ◌≤◌, ◌^◌}
+use Rattle.std.specs.Prelude.{◌≡◌, ◌⊎◌, ℕ, ◌+◌, ◌-◌, ◌*◌, ◌<◌, ◌≤◌}
+use Rattle.grid_base.specs.Grid.{grid_side}
 use Rattle.grid_base.specs.Segment.{GridSegment}
 use Rattle.segment_envelope.specs.ColumnPair.{at_column}
 use Rattle.segment_envelope.specs.declared.columns.Course.{Course}
@@ -11,12 +12,12 @@ IsCourseOf s c =
     ((at_column s c.from c.first ≡ s.a) × (at_column s c.to c.last ≡ s.b))
     ⊎ ((at_column s c.from c.first ≡ s.b) × (at_column s c.to c.last ≡ s.a))
 
--- c leads to a greater column, and all its numbers are below 2^28
+-- c leads to a greater column, and all its numbers are on the grid
 pub record IsOnGrid (c : Course) : Type 0 where
   pub forward : c.from < c.to
-  pub to : c.to < 2 ^ 28
-  pub first : c.first < 2 ^ 28
-  pub last : c.last < 2 ^ 28
+  pub to : c.to < grid_side
+  pub first : c.first < grid_side
+  pub last : c.last < grid_side
 
 -- how many columns c runs across
 abbrev pub run : Course → ℕ

@@ -1,6 +1,7 @@
 //! The near points of one column, in constant time: where the segment is in that column, rounded down
 //! and rounded up. Where it is steep, rows stand for columns and columns for rows.
-ghost use Rattle.std.specs.Prelude.{◌≡◌, ◌↔◌, ◌*◌, ◌<◌, ◌≤◌, ◌^◌, IfSome, IsNone};
+ghost use Rattle.std.specs.Prelude.{◌≡◌, ◌↔◌, ◌*◌, ◌<◌, ◌≤◌, IfSome, IsNone};
+ghost use Rattle.grid_base.specs.Grid.{grid_side};
 ghost use Rattle.grid_base.specs.Point.{IsBefore};
 ghost use Rattle.segment_envelope.specs.ColumnPair.{IsBeyond, IsColumnPair, AreNextTo};
 ghost use Rattle.segment_envelope.specs.Course.{IsCourseOf, IsOnGrid, AreRoundings, run, weighted};
@@ -81,7 +82,7 @@ fn weighted_mean(course: &Course, k: u32) -> u64
     requires from { course.now.from ≤ k }
     requires to { k ≤ course.now.to }
     ensures mean { result ≡ weighted course.now k }
-    ensures below { result < 2 ^ 28 * run course.now }
+    ensures below { result < grid_side * run course.now }
 {
     let before = u64::from(course.first) * u64::from(course.to - k);
     let after = u64::from(course.last) * u64::from(k - course.from);

@@ -6,8 +6,6 @@
 mod columns;
 mod laws;
 mod nearness;
-#[cfg(test)]
-mod tests;
 
 pub use columns::column_pair;
 pub use laws::{meet_point_is_near, near_is_in_envelope, near_is_within_one, on_is_near};

@@ -1,6 +1,7 @@
 //! Grid points beside a segment: in its bounding box, and so close to its line that the side number
 //! stays below a bound.
-ghost use Rattle.std.specs.Prelude.{◌≡◌, ◌<◌, ◌^◌, ◌↔◌, IsTrue};
+ghost use Rattle.std.specs.Prelude.{◌≡◌, ◌<◌, ◌↔◌, IsTrue};
+ghost use Rattle.grid_base.specs.Grid.{grid_side};
 ghost use Rattle.grid_base.specs.Segment.{width, height};
 ghost use Rattle.segment_envelope.specs.Near.{Near};
 ghost use Rattle.segment_envelope.specs.Envelope.{Env};
@@ -29,7 +30,7 @@ pub fn in_envelope(s: &Segment, p: &Point) -> bool
 // How many columns `s` runs across.
 fn run_across(s: &Segment) -> u32
     ensures width { result ≡ width s.now }
-    ensures below { result < 2 ^ 28 }
+    ensures below { result < grid_side }
 {
     s.a().x().abs_diff(s.b().x())
 }
@@ -37,7 +38,7 @@ fn run_across(s: &Segment) -> u32
 // How many rows `s` runs up or down.
 fn run_up(s: &Segment) -> u32
     ensures height { result ≡ height s.now }
-    ensures below { result < 2 ^ 28 }
+    ensures below { result < grid_side }
 {
     s.a().y().abs_diff(s.b().y())
 }

@@ -5,8 +5,6 @@
 mod grid;
 mod listing;
 mod noded;
-#[cfg(test)]
-mod tests;
 
 pub use grid::each_is_on_grid;
 pub use listing::{ascending_segments, segment_with, segments_with};

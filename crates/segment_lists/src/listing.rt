@@ -7,7 +7,7 @@ use grid_base::{NoMemory, Point, Segment};
 use std::alloc::Global;
 
 /// The segment with these ends, in either order: the column and the row of the one, and those of the other. None
-/// where a coordinate is 2^28 or more, or where both ends are one point.
+/// where a coordinate is off the grid, or where both ends are one point.
 pub fn segment_with(ends: &[u64; 4]) -> Option<Segment>
     ensures none { IsSome result ↔ AreEnds ends.now }
     ensures some { IfSome result (λ s. s ≡ between_ends ends.now) }

@@ -11,7 +11,7 @@ use Rattle.grid_base.specs.Point.{GridPoint, IsBefore}
 use Rattle.grid_base.specs.Drawing.{Drawing}
 use Rattle.grid_base.specs.declared.original.Original.{Original}
 use Rattle.grid_base.proofs.Elements.{same_place}
-use Rattle.hook_chain.specs.Chains.{Leads}
+use Rattle.hook_chain.specs.Chains.{RunsFrom}
 use Rattle.hook_chain.specs.ValidChain.{ValidChain}
 use Rattle.realm_drawing.specs.Chains.{AllStand, StandsFor}
 use Rattle.realm_drawing.specs.Ids.{IsAscending, IsChainOf, LacksId}
@@ -56,15 +56,9 @@ ends_of_chain d id points is stand x y at_first at_last =
       ordered = one.valid.ends;
     }
 
-some_point : (a b : GridPoint) (chain : List GridPoint) → Leads a b chain → 0 < length chain
+some_point : (a b : GridPoint) (chain : List GridPoint) → RunsFrom a b chain → 0 < length chain
 some_point a b [] leads = absurd leads
 some_point a b (v ∷ chain) leads = omega arith
-
--- a chain has points
-pub has_points : (d : Drawing) (id : ℕ) (points : List GridPoint) → IsChainOf d id points → AllStand d → 0 < length points
-has_points d id points is stand =
-    let one = found d id points is stand in
-    some_point one.original.a one.original.b points one.valid.leads
 
 -- so an original is made again from its chain
 pub made_again : (d : Drawing) (id : ℕ) (points chain : List GridPoint) → IsChainOf d id points → AllStand d → (x y : GridPoint)

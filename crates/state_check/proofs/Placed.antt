@@ -10,7 +10,7 @@ use Rattle.grid_base.specs.Drawing.{Drawing}
 use Rattle.grid_base.specs.declared.original.Original.{Original}
 use Rattle.grid_base.proofs.Elements.{same_place}
 use Rattle.grid_base.proofs.Orders.{IsBefore-asym, segment_between}
-use Rattle.hook_chain.specs.Chains.{Leads}
+use Rattle.hook_chain.specs.Chains.{RunsFrom}
 use Rattle.hook_chain.specs.ValidChain.{ValidChain}
 use Rattle.realm_drawing.specs.Changed.{PlacesChain, with_chain}
 use Rattle.realm_drawing.specs.Chains.{HasValidChain}
@@ -34,7 +34,7 @@ placed_with_its_ends d e o from_to (s, valid, is) =
       subst (λ (t : GridSegment). ValidChain t o.chain) same valid,
     )
 
-some_point : (a b : GridPoint) (chain : List GridPoint) → Leads a b chain → 0 < length chain
+some_point : (a b : GridPoint) (chain : List GridPoint) → RunsFrom a b chain → 0 < length chain
 some_point a b [] leads = absurd leads
 some_point a b (v ∷ chain) leads = omega arith
 

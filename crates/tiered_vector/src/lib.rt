@@ -3,8 +3,6 @@
 #![tactic(auto)]
 
 mod blocks;
-#[cfg(test)]
-mod tests;
 mod vector;
 
 pub use vector::TieredVector;

@@ -9,7 +9,7 @@ use Rattle.grid_base.proofs.Ends.{place_is_on}
 use Rattle.grid_base.proofs.Lines.{line_is}
 use Rattle.grid_base.proofs.Orders.{is_point-same}
 use Rattle.grid_base.proofs.Turns.{in_order}
-use Rattle.hook_chain.specs.Chains.{AllLinks, Leads}
+use Rattle.hook_chain.specs.Chains.{AllLinks, RunsFrom}
 use Rattle.hook_chain.specs.ValidChain.{IsMonotone}
 use Rattle.hook_chain.proofs.CloseParts.{steep_is}
 use Rattle.hook_chain.proofs.Exchange.{way}
@@ -118,7 +118,7 @@ own_chain_counts p v chain stands off_chain = by (is_flat o) refl (stands.unswep
         ]
 
 -- ---- an original
-ends_are : (a b v : GridPoint) (chain : List GridPoint) → Leads a b (v ∷ chain) → (v ≡ a) × (last_from v chain ≡ b)
+ends_are : (a b v : GridPoint) (chain : List GridPoint) → RunsFrom a b (v ∷ chain) → (v ≡ a) × (last_from v chain ≡ b)
 ends_are a b v [] leads = leads
 ends_are a b v (w ∷ chain) leads = (leads.0, (ends_are w b w chain leads.1).1)
 

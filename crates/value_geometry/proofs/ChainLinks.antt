@@ -16,7 +16,7 @@ use Rattle.grid_base.specs.Drawing.{HasLink}
 use Rattle.grid_base.proofs.Elements.{Contains-here, Contains-later, Contains-cases, Contains-nil}
 use Rattle.grid_base.proofs.Ends.{not_before_itself}
 use Rattle.grid_base.proofs.Orders.{is_point-same, is_point-itself}
-use Rattle.hook_chain.specs.Chains.{Leads}
+use Rattle.hook_chain.specs.Chains.{RunsFrom}
 use Rattle.hook_chain.specs.ValidChain.{ValidChain}
 use Rattle.realm_drawing.specs.Chains.{IsSomeChain}
 use Rattle.realm_drawing.specs.Shares.{IsBetween}
@@ -193,7 +193,7 @@ even_between p v w = by (is_point v w) refl
         omega (arith, ends)
 
 -- so it is with a chain and its two ends
-even_with_ends : (p a b : GridPoint) (chain : List GridPoint) → Leads a b chain
+even_with_ends : (p a b : GridPoint) (chain : List GridPoint) → RunsFrom a b chain
     → (count_by (is_end p) (links chain) + at p a + at p b) % 2 ≡ 0
 even_with_ends p a b [] leads = absurd leads
 even_with_ends p a b (v ∷ []) leads =

@@ -5,7 +5,5 @@
 mod borders;
 mod geometry;
 mod links;
-#[cfg(test)]
-mod tests;
 
 pub use geometry::geometry_of;

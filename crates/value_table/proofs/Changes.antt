@@ -2,7 +2,8 @@
 use Rattle.std.proofs.Common.{◌≡◌, ℕ, ◌+◌, ◌≤◌, Bool, cond, refl, sym, ap, ◌∙◌, arith}
 use Rattle.std.proofs.Common.{List, [], ◌∷◌, ◌++◌, count_by, String, Option, Some, None, IsSome}
 use Rattle.std.specs.Map.{lookup, values_of, remove_entry}
-use Rattle.std.specs.HashMap.{HashMap}
+use Rattle.std.specs.BTreeMap.{BTreeMap}
+use Rattle.std.specs.declared.cmp.Ordering.{Ordering}
 use Rattle.std.specs.Str.{bytes_eq}
 use Rattle.std.specs.String.{string_bytes, string_eq}
 use Rattle.std.proofs.lemmas.List.{map-append}
@@ -41,28 +42,27 @@ seen_defined values room after table name s v view same never stays put =
     let last = put ∙ insert_entry-new string_eq room s v new ∙ ap (λ es. es ++ (s, v) ∷ []) stays in
     ap seen_of last ∙ seen_push values.entries s v ∙ ap (λ bs. seen_of values.entries ++ (bs, v) ∷ []) same
 
-module _ {K S Y : Type 0} (eq : K → K → Bool) (q : K) (passes : Value → Bool) (v : Value) (es : List (String Y × Value)) where
+module _ {K Y : Type 0} (cmp : K → K → Ordering) (q : K) (passes : Value → Bool) (v : Value) (es : List (String Y × Value)) where
   -- a value came, and what it names is used once more
-  pub counted_more : (old mid new : HashMap K ℕ S) (name : List ℕ) (table : NamedValues)
-      → users_in eq old q ≡ count_by passes (values_of (seen_of es))
-      → users_in eq mid q ≡ users_in eq old q
-      → users_in eq new q ≡ users_in eq mid q + cond (passes v) 1 0
+  pub counted_more : (old new : BTreeMap K ℕ) (name : List ℕ) (table : NamedValues)
+      → users_in cmp old q ≡ count_by passes (values_of (seen_of es))
+      → users_in cmp new q ≡ users_in cmp old q + cond (passes v) 1 0
       → table ≡ seen_of es ++ (name, v) ∷ []
-      → users_in eq new q ≡ count_by passes (values_of table)
-  counted_more old mid new name table counted stays more push =
+      → users_in cmp new q ≡ count_by passes (values_of table)
+  counted_more old new name table counted more push =
       let pushed = ap (λ t. count_by passes (values_of t)) push ∙ count_push passes (seen_of es) name v in
-      omega (arith, counted, stays, more, pushed)
+      omega (arith, counted, more, pushed)
 
   -- a value went, and what it names is used once less
-  pub counted_fewer : (old new : HashMap K ℕ S) (test : String Y → Bool)
-      → users_in eq old q ≡ count_by passes (values_of (seen_of es))
+  pub counted_fewer : (old new : BTreeMap K ℕ) (test : String Y → Bool)
+      → users_in cmp old q ≡ count_by passes (values_of (seen_of es))
       → lookup test es ≡ Some v
-      → users_in eq new q + cond (passes v) 1 0 ≡ users_in eq old q
-      → users_in eq new q ≡ count_by passes (values_of (seen_of (remove_entry test es)))
+      → users_in cmp new q + cond (passes v) 1 0 ≡ users_in cmp old q
+      → users_in cmp new q ≡ count_by passes (values_of (seen_of (remove_entry test es)))
   counted_fewer old new test counted there fewer = omega (arith, counted, fewer, count_removed passes test es v there)
 
   -- a value that is there uses what it names
-  pub counted_enough : (old : HashMap K ℕ S) (test : String Y → Bool)
-      → users_in eq old q ≡ count_by passes (values_of (seen_of es))
-      → lookup test es ≡ Some v → cond (passes v) 1 0 ≤ users_in eq old q
+  pub counted_enough : (old : BTreeMap K ℕ) (test : String Y → Bool)
+      → users_in cmp old q ≡ count_by passes (values_of (seen_of es))
+      → lookup test es ≡ Some v → cond (passes v) 1 0 ≤ users_in cmp old q
   counted_enough old test counted there = omega (arith, counted, count_removed passes test es v there)

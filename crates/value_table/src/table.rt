@@ -1,5 +1,5 @@
-//! Values by name, in the order in which they were defined. Room is made in all three maps before
-//! one is changed, so want of memory leaves nothing to undo.
+//! Values by name, in the order in which they were defined. Room for a name is made before its uses are
+//! counted, so want of memory leaves nothing to undo but counts.
 ghost use Rattle.std.specs.Prelude.{◌≡◌, ◌↔◌, ◌++◌, ◌∷◌, [], Err, IsTrue, OnOk, OnErr};
 ghost use Rattle.std.specs.Prelude.{length, slice_get};
 ghost use Rattle.std.specs.Option.{option_copied};
@@ -12,15 +12,19 @@ use crate::value::Value;
 use grid_base::{NoMemory, Point};
 use indexmap::IndexMap;
 use std::alloc::Global;
-use std::collections::HashMap;
+use std::collections::BTreeMap;
+use std::hash::{BuildHasherDefault, DefaultHasher};
 use std::marker::Model;
+use thiserror::Error;
 
 /// Why a value isn't defined.
-#[derive(Clone, Copy, Debug, PartialEq, Eq)]
+#[derive(Clone, Copy, Debug, PartialEq, Eq, Error)]
 pub enum TableError {
     /// The name is there already; drop it first.
+    #[error("the name is taken")]
     Taken,
     /// Memory ran out.
+    #[error("no memory")]
     NoMemory,
 }
 
@@ -28,9 +32,10 @@ pub enum TableError {
 /// their values.
 #[derive(Drop)]
 pub struct Table {
-    values: IndexMap<String, Value>,
-    ids: HashMap<u32, u64>,
-    points: HashMap<Point, u64>,
+    // The hash is SipHash: of the faster one that maps have by default, names that collide can be worked out.
+    values: IndexMap<String, Value, BuildHasherDefault<DefaultHasher>>,
+    ids: BTreeMap<u32, u64>,
+    points: BTreeMap<Point, u64>,
     alloc: Global,
 }
 
@@ -39,11 +44,11 @@ impl Model for Table {
 
     ghost Value = { NamedValues };
 
-    ghost use Rattle.value_table.specs.Kept.{seen_of, IsKept};
+    ghost use Rattle.value_table.specs.Kept.{seen_of, CountsUses};
 
     ghost view = { λ t. seen_of t.values.entries };
 
-    ghost invariant = { λ t. IsKept t.values t.ids t.points };
+    ghost invariant = { λ t. CountsUses t.values t.ids t.points };
 }
 
 impl Table {
@@ -52,9 +57,9 @@ impl Table {
         ensures { result ≡ [] }
     {
         Table {
-            values: IndexMap::new(alloc),
-            ids: HashMap::new(alloc),
-            points: HashMap::new(alloc),
+            values: IndexMap::with_hasher(alloc, BuildHasherDefault::new()),
+            ids: BTreeMap::new(alloc),
+            points: BTreeMap::new(alloc),
             alloc,
         }
     }
@@ -89,10 +94,9 @@ impl Table {
     {
         let name = String::from_str(self.alloc, name)?;
         self.values.reserve(1)?;
-        users::make_room(&mut self.ids, &mut self.points, &v)?;
         // The length of a map is below 2^63, so each count is.
         let _ = self.values.len();
-        users::note(&mut self.ids, &mut self.points, &v);
+        users::note(&mut self.ids, &mut self.points, &v)?;
         match self.values.insert(name, v) {
             Ok(_) => Ok(()),
             Err(_) => unreachable!(),

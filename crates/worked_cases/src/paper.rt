@@ -1,5 +1,6 @@
 //! Points by their coordinates, as tables write them.
-ghost use Rattle.std.specs.Prelude.{◌≡◌, ◌⊎◌, ◌≤◌, ◌^◌, MatchOption};
+ghost use Rattle.std.specs.Prelude.{◌≡◌, ◌⊎◌, ◌≤◌, MatchOption};
+ghost use Rattle.grid_base.specs.Grid.{grid_side};
 ghost use Rattle.grid_base.specs.Point.{point_at};
 
 use grid_base::Point;
@@ -14,7 +15,7 @@ use std::test::Fail;
 
 /// The point with these coordinates; none off the grid.
 pub fn point(x: u64, y: u64) -> Option<Point>
-    ensures { MatchOption result ((2 ^ 28 ≤ x) ⊎ (2 ^ 28 ≤ y)) (λ p. p ≡ point_at x y) }
+    ensures { MatchOption result ((grid_side ≤ x) ⊎ (grid_side ≤ y)) (λ p. p ≡ point_at x y) }
 {
     Point::new(x, y).ok()
 }

@@ -60,9 +60,9 @@ static CHAINS: [(&str, &str); 4] = [
     ),
     // Across the whole grid.
     (
-        "segment 0 0 268435455 1\nsegment 0 1 268435455 0\nchain 1\n",
+        "segment 0 0 1073741823 1\nsegment 0 1 1073741823 0\nchain 1\n",
         "ok 1 steps 0 first 1 new 1\nok 2 steps 1 first 2 new 1\n\
-         chain 3\n0 0\n134217728 1\n268435455 1\n",
+         chain 3\n0 0\n536870912 1\n1073741823 1\n",
     ),
 ];
 
@@ -84,7 +84,7 @@ static POINTS: [(&str, &str); 3] = [
     ),
     // The last line needs no line feed.
     (
-        "point 268435455 268435455\npoint 268435456 0\nsegment 5 5 5 5",
+        "point 1073741823 1073741823\npoint 1073741824 0\nsegment 5 5 5 5",
         "ok 1 steps 0 first 1 new 0\nno range\nno degenerate\n",
     ),
 ];
@@ -121,12 +121,19 @@ fn what_is_taken_away_goes_alone(rt: HostRuntime) {
     compare(&rt, rt.alloc(), &GOING);
 }
 
-static VALUES: [(&str, &str); 3] = [
+static VALUES: [(&str, &str); 4] = [
     // Both long sides bend to one point, and the piece that they share is no border.
     (
         "regions r 0 0 5 1 5 2\nnum area2 r\nsegment 3 0 3 5\nshow r\nnum area2 r\n",
         "ok 1 steps 0 first 1 new 3\nnum 5\nok 2 steps 2 first 4 new 1\n\
          regions 3\n3 1 5 1\n3 1 5 2\n5 1 5 2\nnum 2\n",
+    ),
+    // A side that two squares share is drawn twice, and a piece of lines too.
+    (
+        "regions r 0 0 2 0 2 2 0 2 ; 2 0 4 0 4 2 2 2\nlines l 0 0 2 0 2 2 ; 2 2 2 0\nshow r\nshow l\n",
+        "ok 1 steps 0 first 1 new 8\nok 2 steps 0 first 9 new 3\n\
+         regions 6\n0 0 0 2\n0 0 2 0\n0 2 2 2\n2 0 4 0\n2 2 4 2\n4 0 4 2\n\
+         lines 2\n0 0 2 0\n2 0 2 2\n",
     ),
     (
         "lines l 4 0 0 0 ; 0 2 1 2\nsegment 2 0 2 3\nshow l\n",
@@ -292,12 +299,12 @@ fn faces_are_outlined(rt: HostRuntime) {
 
 static CAUSES: [(&str, &str); 6] = [
     (
-        "point 268435455 268435455\npoint 268435456 0\nsegment 5 5 5 5\nlines l 1 1\n",
+        "point 1073741823 1073741823\npoint 1073741824 0\nsegment 5 5 5 5\nlines l 1 1\n",
         "ok 1 steps 0 first 1 new 0\nno range\nno degenerate\nno shape\n",
     ),
     // Each of these has the causes of two refusals, and the earlier one is told.
     (
-        "lines l 268435456 0\nregions r 0 0 0 0\nlines l 0 0 4 0\nlines l 1 1 1 1\n",
+        "lines l 1073741824 0\nregions r 0 0 0 0\nlines l 0 0 4 0\nlines l 1 1 1 1\n",
         "no range\nno shape\nok 1 steps 0 first 1 new 1\nno degenerate\n",
     ),
     // The last place and the first are neighbours round a cycle.

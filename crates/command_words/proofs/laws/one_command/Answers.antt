@@ -1,12 +1,12 @@
 -- The names of two commands differ, and a number has one text.
 use Rattle.std.proofs.Common.{◌≡◌, ℕ, List, refl, sym, ◌∙◌, arith}
 use Rattle.std.proofs.lemmas.Fmt.{decimal_injective}
-use Rattle.command_words.specs.Written.{IsWritten}
+use Rattle.command_words.specs.Written.{AreWordsOf}
 use Rattle.command_words.specs.declared.word.Word.{Word}
 use Rattle.command_words.specs.declared.word.Word.TheVariants.{Run, Check, Gen}
 use Rattle.command_words.proofs.laws.one_command.Goals as goal
 
-one : (words : List (List ℕ)) (v w : Word) → IsWritten words v → IsWritten words w → v ≡ w
+one : (words : List (List ℕ)) (v w : Word) → AreWordsOf words v → AreWordsOf words w → v ≡ w
 one words Run Run p q = refl
 one words Run Check p q = let e = sym p.0 ∙ q.0 in cc
 one words Run (Gen m a) p q = let e = sym p.0 ∙ q.0 in cc

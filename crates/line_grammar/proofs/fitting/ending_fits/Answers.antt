@@ -1,6 +1,6 @@
 use Rattle.std.proofs.Common.{◌≡◌, length, arith, IsTrue, nat_eq}
 use Rattle.std.proofs.lemmas.Bool.Decides.{nat_tests}
-use Rattle.line_grammar.specs.Spellable.{is_name_byte}
+use Rattle.line_grammar.specs.Fitting.{is_name_byte}
 use Rattle.line_grammar.proofs.Runs.{run_only, run_all}
 use Rattle.line_grammar.proofs.fitting.ending_fits.Goals as goal
 

@@ -1,6 +1,6 @@
 use Rattle.std.proofs.Common.{take}
 use Rattle.std.specs.List.{AllByRecursion}
-use Rattle.line_grammar.specs.Spellable.{ArePoints}
+use Rattle.line_grammar.specs.Fitting.{ArePoints}
 use Rattle.line_grammar.proofs.fitting.lists_fit.Given as goal
 
 -- the lists so far fit

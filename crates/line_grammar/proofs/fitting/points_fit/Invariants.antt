@@ -1,6 +1,6 @@
 use Rattle.std.proofs.Common.{take}
 use Rattle.std.specs.List.{AllByRecursion}
-use Rattle.line_grammar.specs.Spellable.{IsPoint}
+use Rattle.line_grammar.specs.Fitting.{IsPoint}
 use Rattle.line_grammar.proofs.fitting.points_fit.Given as goal
 
 -- the places so far fit

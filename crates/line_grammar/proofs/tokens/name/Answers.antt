@@ -1,4 +1,4 @@
-use Rattle.line_grammar.specs.Spellable.{is_name_byte}
+use Rattle.line_grammar.specs.Fitting.{is_name_byte}
 use Rattle.line_grammar.proofs.Runs.{run_passes}
 use Rattle.line_grammar.proofs.tokens.name.Goals as goal
 

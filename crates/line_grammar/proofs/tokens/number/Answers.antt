@@ -1,5 +1,5 @@
 use Rattle.std.proofs.Common.{arith}
-use Rattle.line_grammar.specs.Spellable.{is_digit}
+use Rattle.line_grammar.specs.Fitting.{is_digit}
 use Rattle.line_grammar.proofs.Runs.{run_passes}
 use Rattle.line_grammar.proofs.Numbers.{digits_fit}
 use Rattle.line_grammar.proofs.tokens.number.Goals as goal

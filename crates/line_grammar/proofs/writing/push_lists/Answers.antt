@@ -1,6 +1,6 @@
 use Rattle.std.proofs.Common.{◌≡◌, ◌++◌, string_bytes, append_assoc}
 use Rattle.std.specs.List.{flat_map}
-use Rattle.line_grammar.specs.Spelling.{points, next_list}
+use Rattle.line_grammar.specs.Pieces.{points, next_list}
 use Rattle.line_grammar.proofs.Texts.{others, lists-others}
 use Rattle.line_grammar.proofs.writing.push_lists.Goals as goal
 

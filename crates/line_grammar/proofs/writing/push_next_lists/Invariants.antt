@@ -1,6 +1,6 @@
 use Rattle.std.proofs.Common.{◌≡◌, ◌++◌, string_bytes, take}
 use Rattle.std.specs.List.{flat_map}
-use Rattle.line_grammar.specs.Spelling.{next_list}
+use Rattle.line_grammar.specs.Pieces.{next_list}
 use Rattle.line_grammar.proofs.writing.push_next_lists.Given as goal
 
 -- the lists so far are written

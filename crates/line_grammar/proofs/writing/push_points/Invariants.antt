@@ -1,6 +1,6 @@
 use Rattle.std.proofs.Common.{◌≡◌, ◌++◌, string_bytes, take}
 use Rattle.std.specs.List.{flat_map}
-use Rattle.line_grammar.specs.Spelling.{led_point}
+use Rattle.line_grammar.specs.Pieces.{led_point}
 use Rattle.line_grammar.proofs.writing.push_points.Given as goal
 
 -- the places so far are written

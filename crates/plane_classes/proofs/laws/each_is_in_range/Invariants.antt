@@ -1,4 +1,5 @@
-use Rattle.std.proofs.Common.{◌<◌, ◌^◌, All, take}
+use Rattle.std.proofs.Common.{◌<◌, All, take}
+use Rattle.grid_base.specs.Grid.{grid_side}
 use Rattle.grid_base.specs.Point.{IsBefore}
 use Rattle.plane_classes.proofs.laws.each_is_in_range.Given as goal
 
@@ -6,5 +7,5 @@ use Rattle.plane_classes.proofs.laws.each_is_in_range.Given as goal
 abbrev pub invariant-loop-s : goal.invariant-loop-s
 invariant-loop-s l = record {
   ordered : All (λ s. IsBefore s.a s.b) (take l.s-index l.list);
-  low : All (λ s. s.a.y < 2 ^ 28) (take l.s-index l.list);
+  low : All (λ s. s.a.y < grid_side) (take l.s-index l.list);
 }

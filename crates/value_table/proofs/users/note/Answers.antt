@@ -1,28 +1,44 @@
-use Rattle.std.proofs.Common.{◌+◌, nat_eq, ap, ◌∙◌}
-use Rattle.grid_base.specs.Point.{is_point}
+use Rattle.std.proofs.Common.{◌+◌, ◌<◌, AllPairs, sym, ap, subst, ◌∙◌}
+use Rattle.std.proofs.lemmas.Result.{on_ok_weaker}
+use Rattle.std.specs.Ordering.{nat_cmp}
+use Rattle.grid_base.specs.Point.{IsBefore, point_cmp}
+use Rattle.value_table.specs.Value.{ids_among, points_among}
 use Rattle.value_table.specs.Users.{users_in, times_among}
 use Rattle.value_table.proofs.Counts.{fits_once, id_at_most_once, point_at_most_once, id_times, point_times}
 use Rattle.value_table.proofs.users.note.Goals as goal
 
 -- what ascends stands at most once
-pub count_up-requires-clause-fits : goal.count_up-requires-clause-fits
-count_up-requires-clause-fits c = λ id.
-    let once = id_at_most_once c.ids.result.now c.ids.ensures.ascending id in
-    fits_once (users_in nat_eq c.args.ids.now id) (times_among nat_eq c.ids.result.now id) (c.requires.ids_fit id) once
+pub count_up-requires : goal.count_up-requires
+count_up-requires c = record {
+  fits = λ p.
+      let points = c.points.result.now in
+      let ascend = subst (AllPairs IsBefore) (sym c.points.ensures.points) c.points.ensures.ascending in
+      let once = point_at_most_once points ascend p in
+      fits_once (users_in point_cmp c.args.points.now p) (times_among point_cmp points p) (c.requires.points_fit p) once;
+}
 
-pub count_up-requires-2-clause-fits : goal.count_up-requires-2-clause-fits
-count_up-requires-2-clause-fits c = λ p.
-    let points = c.points.result.now in
-    let once = point_at_most_once points c.points.ensures.ascending p in
-    fits_once (users_in is_point c.args.points.now p) (times_among is_point points p) (c.requires.points_fit p) once
+pub count_up-requires-in-Ids : goal.count_up-requires-in-Ids
+count_up-requires-in-Ids c = record {
+  fits = λ id.
+      let ids = c.ids.result.now in
+      let ascend = subst (AllPairs (λ m n. m < n)) (sym c.ids.ensures.ids) c.ids.ensures.ascending in
+      let once = id_at_most_once ids ascend id in
+      fits_once (users_in nat_cmp c.args.ids.now id) (times_among nat_cmp ids id) (c.requires.ids_fit id) once;
+}
 
 -- so what is named is counted once more
-pub returns-clause-ids : goal.returns-clause-ids
-returns-clause-ids c = λ id.
-    let once = id_times c.args.v.now c.ids.result.now c.ids.ensures.ids c.ids.ensures.ascending id in
-    c.count_up.ensures id ∙ ap (λ n. users_in nat_eq c.args.ids.now id + n) once
+pub returns-in-Points-clause-points : goal.returns-in-Points-clause-points
+returns-in-Points-clause-points c =
+    on_ok_weaker c.count_up.result (λ more p.
+    let are = c.points.ensures.points ∙ sym (ap points_among c.in-Points.is) in
+    let ascend = subst (AllPairs IsBefore) (sym c.points.ensures.points) c.points.ensures.ascending in
+    let once = point_times c.args.v.now c.points.result.now are ascend p in
+    more p ∙ ap (λ n. users_in point_cmp c.args.points.now p + n) once) c.count_up.ensures.more
 
-pub returns-clause-points : goal.returns-clause-points
-returns-clause-points c = λ p.
-    let once = point_times c.args.v.now c.points.result.now c.points.ensures.points c.points.ensures.ascending p in
-    c.count_up-2.ensures p ∙ ap (λ n. users_in is_point c.args.points.now p + n) once
+pub returns-in-Ids-clause-ids : goal.returns-in-Ids-clause-ids
+returns-in-Ids-clause-ids c =
+    on_ok_weaker c.count_up-in-Ids.result (λ more id.
+    let are = c.ids.ensures.ids ∙ sym (ap ids_among c.in-Ids.is) in
+    let ascend = subst (AllPairs (λ m n. m < n)) (sym c.ids.ensures.ids) c.ids.ensures.ascending in
+    let once = id_times c.args.v.now c.ids.result.now are ascend id in
+    more id ∙ ap (λ n. users_in nat_cmp c.args.ids.now id + n) once) c.count_up-in-Ids.ensures.more

@@ -2,7 +2,7 @@ use Rattle.std.proofs.Common.{List, sym, subst}
 use Rattle.std.proofs.lemmas.Result.{on_ok_weaker}
 use Rattle.grid_base.specs.Drawing.{Drawing}
 use Rattle.grid_base.specs.declared.original.Original.{Original}
-use Rattle.realm_drawing.specs.Steps.{Permitted}
+use Rattle.hook_chain.specs.Steps.{Permitted}
 use Rattle.realm_drawing.proofs.DrawnAnew.{kept_with_points, draws_anew_if}
 use Rattle.realm_drawing.proofs.KeptPieces.{KeepsKeys-itself, keys_are_kept, kept_keyed}
 use Rattle.realm_drawing.proofs.Mendings.{permitted_mends}

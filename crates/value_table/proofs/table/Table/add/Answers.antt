@@ -1,5 +1,6 @@
-use Rattle.std.proofs.Common.{◌∷◌, [], ◌++◌, nat_eq, ap, ◌∙◌}
-use Rattle.grid_base.specs.Point.{is_point}
+use Rattle.std.proofs.Common.{◌∷◌, [], ◌++◌, ap, ◌∙◌}
+use Rattle.std.specs.Ordering.{nat_cmp}
+use Rattle.grid_base.specs.Point.{point_cmp}
 use Rattle.value_table.specs.Value.{names_id, names_point}
 use Rattle.value_table.specs.Kept.{seen_of}
 use Rattle.value_table.proofs.Changes.{seen_defined, counted_more}
@@ -15,11 +16,10 @@ invariant_of-self-2 c =
     c.self.view_is c.in_ok-name.ensures.ok c.requires c.reserve.ensures.entries c.in-Ok.ensures.entries in
     record {
       distinct = c.insert.ensures.unique;
-      ids_counted = λ id. counted_more nat_eq id (names_id id) c.args.v inside.values.entries inside.ids c.make_room.new.ids
-          c.note.new.ids name after (c.self.invariant.ids_counted id) (c.make_room.ensures.ids id) (c.note.ensures.ids id) last;
-      points_counted = λ p. counted_more is_point p (names_point p) c.args.v inside.values.entries inside.points
-          c.make_room.new.points c.note.new.points name after (c.self.invariant.points_counted p) (c.make_room.ensures.points p)
-          (c.note.ensures.points p) last;
+      ids_counted = λ id. counted_more nat_cmp id (names_id id) c.args.v inside.values.entries inside.ids c.note.new.ids
+          name after (c.self.invariant.ids_counted id) (c.in_ok-note.ensures.ids id) last;
+      points_counted = λ p. counted_more point_cmp p (names_point p) c.args.v inside.values.entries inside.points
+          c.note.new.points name after (c.self.invariant.points_counted p) (c.in_ok-note.ensures.points p) last;
     }
 
 -- a new name goes last

@@ -1,7 +1,8 @@
-use Rattle.std.proofs.Common.{◌≡◌, nat_eq, is_some, refl, sym, ap, ◌∙◌, subst}
+use Rattle.std.proofs.Common.{◌≡◌, is_some, refl, sym, ap, ◌∙◌, subst}
 use Rattle.std.specs.Str.{bytes_eq}
 use Rattle.std.specs.String.{string_bytes}
-use Rattle.grid_base.specs.Point.{is_point}
+use Rattle.std.specs.Ordering.{nat_cmp}
+use Rattle.grid_base.specs.Point.{point_cmp}
 use Rattle.value_table.specs.Value.{names_id, names_point}
 use Rattle.value_table.specs.Table.{users_of, users_of_point}
 use Rattle.value_table.specs.Kept.{seen_of}
@@ -14,13 +15,13 @@ use Rattle.value_table.proofs.table.Table.drop_name.Goals as goal
 pub forget-requires-clause-ids_used : goal.forget-requires-clause-ids_used
 forget-requires-clause-ids_used c = λ id.
     let inside = c.self.inside in
-    counted_enough nat_eq id (names_id id) c.in-Some.v inside.values.entries inside.ids
+    counted_enough nat_cmp id (names_id id) c.in-Some.v inside.values.entries inside.ids
     (λ k. bytes_eq c.args.name.now (string_bytes k)) (c.self.invariant.ids_counted id) (sym c.in-Some.ensures.value)
 
 pub forget-requires-clause-points_used : goal.forget-requires-clause-points_used
 forget-requires-clause-points_used c = λ p.
     let inside = c.self.inside in
-    counted_enough is_point p (names_point p) c.in-Some.v inside.values.entries inside.points
+    counted_enough point_cmp p (names_point p) c.in-Some.v inside.values.entries inside.points
     (λ k. bytes_eq c.args.name.now (string_bytes k)) (c.self.invariant.points_counted p) (sym c.in-Some.ensures.value)
 
 -- the counts are those of the other values
@@ -32,13 +33,13 @@ invariant_of-self c =
     record {
       distinct = c.in-Some.ensures.unique;
       ids_counted = λ id.
-          let fewer = counted_fewer nat_eq id (names_id id) c.in-Some.v es inside.ids c.forget.new.ids
+          let fewer = counted_fewer nat_cmp id (names_id id) c.in-Some.v es inside.ids c.forget.new.ids
           (λ k. bytes_eq c.args.name.now (string_bytes k)) (c.self.invariant.ids_counted id) there (c.forget.ensures.ids id) in
-          subst (λ fs. users_in nat_eq c.forget.new.ids id ≡ users_of (seen_of fs) id) (sym c.in-Some.ensures.entries) fewer;
+          subst (λ fs. users_in nat_cmp c.forget.new.ids id ≡ users_of (seen_of fs) id) (sym c.in-Some.ensures.entries) fewer;
       points_counted = λ p.
-          let fewer = counted_fewer is_point p (names_point p) c.in-Some.v es inside.points c.forget.new.points
+          let fewer = counted_fewer point_cmp p (names_point p) c.in-Some.v es inside.points c.forget.new.points
           (λ k. bytes_eq c.args.name.now (string_bytes k)) (c.self.invariant.points_counted p) there (c.forget.ensures.points p) in
-          subst (λ fs. users_in is_point c.forget.new.points p ≡ users_of_point (seen_of fs) p) (sym c.in-Some.ensures.entries) fewer;
+          subst (λ fs. users_in point_cmp c.forget.new.points p ≡ users_of_point (seen_of fs) p) (sym c.in-Some.ensures.entries) fewer;
     }
 
 -- the name was there where its value came out

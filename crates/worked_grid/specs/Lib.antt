@@ -1,0 +1,2 @@
+-- the worked case of an index
+pub mod Worked

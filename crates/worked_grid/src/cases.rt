@@ -1,0 +1,6 @@
+//! The cases, by what they are about. Nothing but the public calls of the crates is used.
+mod blocks;
+mod boxes;
+mod crossings;
+mod lists;
+mod near_points;
