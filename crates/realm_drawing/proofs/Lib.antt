@@ -114,6 +114,8 @@ pub mod LinkSearches
 pub mod FoundSteps
 -- what permitted steps lead to
 pub mod StepOutcomes
+-- originals with one chain, through steps
+mod OneChains
 -- the vertices of redrawn chains
 pub mod RedrawnVertices
 -- the vertices of a path as ends of its links

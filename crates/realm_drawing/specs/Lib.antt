@@ -6,6 +6,8 @@ pub mod Ids
 pub mod ById
 -- what every drawing that is kept here is like
 pub mod Kept
+-- originals that lead by one chain
+pub mod OneChain
 -- drawings whose chains may stand for their originals
 pub mod Chains
 -- how many links chains have

@@ -1,12 +1,13 @@
 //! Laws of steps and chains, for crates above: functions with nothing to do, whose contracts are the laws.
-ghost use Rattle.std.specs.Prelude.{◌≡◌, ◌<◌, ◌≤◌, List};
+ghost use Rattle.std.specs.Prelude.{◌≡◌, ◌<◌, ◌≤◌, ℕ, List};
 ghost use Rattle.grid_base.specs.Point.{GridPoint};
 ghost use Rattle.grid_base.specs.Segment.{GridSegment};
 ghost use Rattle.grid_base.specs.Drawing.{Drawing, HasViolation};
 ghost use Rattle.grid_base.specs.declared.kinds.Step.{Step};
 ghost use Rattle.hook_chain.specs.ValidChain.{ValidChain};
-ghost use Rattle.hook_chain.specs.Steps.{Permitted};
+ghost use Rattle.hook_chain.specs.Steps.{Permitted, Settles};
 ghost use Rattle.realm_drawing.specs.Chains.{AllValid, StandsFor};
+ghost use Rattle.realm_drawing.specs.OneChain.{HaveOneChain};
 ghost use Rattle.realm_drawing.specs.Measure.{links_of, most_links_of, NoChainShorter};
 
 /// A step is permitted only at a violation, and leads to one drawing.
@@ -24,6 +25,15 @@ pub fn step_keeps_chains()
 /// are near, it passes no grid point on the wrong side, and it has few links.
 pub fn valid_chain_stands()
     ensures { (o : GridSegment) (chain : List GridPoint) → ValidChain o chain → StandsFor o chain }
+{}
+
+/// Two originals that have one chain keep one chain: where a step redraws it, both follow, and so they do from a
+/// drawing to the one that it is settled as.
+pub fn one_chain_stays_one()
+    ensures step { (d e : Drawing) (step : Step) (m n : ℕ) → Permitted d step e → HaveOneChain d m n
+        → HaveOneChain e m n }
+    ensures settled { (d e : Drawing) (trace : List Step) (m n : ℕ) → Settles d trace e → HaveOneChain d m n
+        → HaveOneChain e m n }
 {}
 
 /// Each step adds a link to some chain and leaves none with fewer, and there is an end to that: the measure of settling.

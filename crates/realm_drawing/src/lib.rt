@@ -19,5 +19,5 @@ mod violations;
 pub use drawing::Drawing;
 pub use errors::{ChainError, StepError};
 pub use keyed::KeyedPiece;
-pub use laws::{step_keeps_chains, step_mends, steps_end, valid_chain_stands};
+pub use laws::{one_chain_stays_one, step_keeps_chains, step_mends, steps_end, valid_chain_stands};
 pub use mending::crossing_step;

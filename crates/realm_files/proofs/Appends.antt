@@ -7,7 +7,7 @@ use Rattle.outside_world.specs.View.{View}
 use Rattle.outside_world.proofs.Moments.{only_wider}
 use Rattle.record_codec.specs.declared.record.Record.{Record}
 use Rattle.record_codec.specs.Fitting.{IsRecord}
-use Rattle.record_codec.specs.Spelling.{text_of}
+use Rattle.record_codec.specs.Spelling.{record_text}
 use Rattle.realm_journal.specs.declared.error.JournalError.{JournalError}
 use Rattle.realm_journal.specs.Appending.{IsShut, IsPart, Appended}
 use Rattle.realm_journal.specs.Gates.{IsClosedAt, IsWholeAt}
@@ -47,8 +47,9 @@ module _ {S : Type 0} (m : Meaning S) where
     }
 
     -- and where a record stands whole behind it, for the state after it
-    pub stands_more : (after : S) (r : Record) → IsRecord r → m.leads state r after → IsWholeAt place.next (text_of r) (files place.file)
-        → StandsOn m files after (with_gate place (place.next + 1 + length (text_of r)))
+    pub stands_more : (after : S) (r : Record) → IsRecord r → m.leads state r after
+        → IsWholeAt place.next (record_text r) (files place.file)
+        → StandsOn m files after (with_gate place (place.next + 1 + length (record_text r)))
     stands_more after r is_record leads whole = record {
       payload = stands.payload;
       newest = newest_front (numbered place.generation stands.payload) was files place.file place.next reach others front stands.newest;
@@ -58,7 +59,7 @@ module _ {S : Type 0} (m : Meaning S) where
       lead = (
         led_more m stands.first stands.records gate (was place.file) (files place.file) state place.next r after stands.lead.0 front
             is_record leads whole,
-        whole_closed place.next (text_of r) (files place.file) whole,
+        whole_closed place.next (record_text r) (files place.file) whole,
       );
     }
 
@@ -80,7 +81,7 @@ module _ {S : Type 0} (m : Meaning S) where
     StandForEither files = StandsFor m files state ⊎ StandsFor m files after
 
     module _ (files : Files) (others : (f : FileName) → f ≢ place.file → old.image f (files f))
-        (part : IsPart old place.file place.next (text_of r) (files place.file)) where
+        (part : IsPart old place.file place.next (record_text r) (files place.file)) where
       abbrev was : Files
       was = put files place.file part.was
 
@@ -98,18 +99,18 @@ module _ {S : Type 0} (m : Meaning S) where
           ⊎_elim
           (λ closed. inl (Some place, stands_front was files state place stood apart front closed))
           (λ whole. inr (
-            Some (with_gate place (place.next + 1 + length (text_of r))),
+            Some (with_gate place (place.next + 1 + length (record_text r))),
             stands_more was files state place stood apart front after r is_record leads whole,
           ))
           part.gate
 
-      behind : IsWholeAt place.next (text_of r) (files place.file)
-          → StandsOn m files after (with_gate place (place.next + 1 + length (text_of r)))
+      behind : IsWholeAt place.next (record_text r) (files place.file)
+          → StandsOn m files after (with_gate place (place.next + 1 + length (record_text r)))
       behind whole = stands_more was files state place stood apart front after r is_record leads whole
 
     pub committed : (new : View) (has_gate : Bool) (result : Result ℕ JournalError)
-        → Appended old new place.file place.next (text_of r) result
-        → IfOk result (λ next. next ≡ place.next + 1 + length (text_of r)) → Committed m old new has_gate state after place result
+        → Appended old new place.file place.next (record_text r) result
+        → IfOk result (λ next. next ≡ place.next + 1 + length (record_text r)) → Committed m old new has_gate state after place result
     committed new has_gate result appended placed = record {
       takes = appended.writes.takes;
       given = appended.writes.given;
@@ -120,11 +121,11 @@ module _ {S : Type 0} (m : Meaning S) where
           (appended.writes.named (files place.file) (images place.file));
     }
       where
-        rests_after : ((c : List ℕ) → new.image place.file c → IsWholeAt place.next (text_of r) c)
-            → AllRest m (at_gate after (with_gate place (place.next + 1 + length (text_of r)))) new
+        rests_after : ((c : List ℕ) → new.image place.file c → IsWholeAt place.next (record_text r) c)
+            → AllRest m (at_gate after (with_gate place (place.next + 1 + length (record_text r)))) new
         rests_after wholes = λ files images.
             let whole = wholes (files place.file) (images place.file) in
-            let within = whole_within place.next (text_of r) (files place.file) whole in
+            let within = whole_within place.next (record_text r) (files place.file) whole in
             record {
               stands = behind files (λ f differ. appended.writes.others f (files f) differ (images f))
                   (appended.writes.named (files place.file) (images place.file)) whole;
@@ -132,8 +133,8 @@ module _ {S : Type 0} (m : Meaning S) where
             }
 
         at_ok : (result : Result ℕ JournalError)
-            → OnOk result ((c : List ℕ) → new.image place.file c → IsWholeAt place.next (text_of r) c)
-            → IfOk result (λ next. next ≡ place.next + 1 + length (text_of r))
+            → OnOk result ((c : List ℕ) → new.image place.file c → IsWholeAt place.next (record_text r) c)
+            → IfOk result (λ next. next ≡ place.next + 1 + length (record_text r))
             → IfOk result (λ next. AllRest m (at_gate after (with_gate place next)) new)
         at_ok (Ok n) whole is = subst (λ k. AllRest m (at_gate after (with_gate place k)) new) (sym is) (rests_after whole)
         at_ok (Err e) whole is = tt

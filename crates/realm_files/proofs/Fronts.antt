@@ -4,7 +4,7 @@ use Rattle.std.proofs.Common.{refl, sym, ◌∙◌, ap, subst, arith, length-app
 use Rattle.std.proofs.lemmas.List.{take-take, drop-take, take_at, get_or-drop, get_or_at}
 use Rattle.record_codec.specs.declared.record.Record.{Record}
 use Rattle.record_codec.specs.Fitting.{IsRecord}
-use Rattle.record_codec.specs.Spelling.{text_of}
+use Rattle.record_codec.specs.Spelling.{record_text}
 use Rattle.realm_journal.specs.Gates.{open_gate, closed_gate, IsWrittenAt, IsClosedAt, IsWholeAt}
 use Rattle.realm_files.specs.Meaning.{Meaning}
 use Rattle.realm_files.specs.Rows.{AreLed}
@@ -44,27 +44,27 @@ module _ {S : Type 0} (m : Meaning S) where
       → AreLed m start rs at c end next → at ≤ next
   led_reach start [] at c end next is = omega (arith, is.1)
   led_reach start (r ∷ rs) at c end next (mid, is, leads, written, later) =
-      omega (arith, led_reach mid rs (at + 1 + length (text_of r)) c end next later)
+      omega (arith, led_reach mid rs (at + 1 + length (record_text r)) c end next later)
 
   -- another file with the same front has the same records before the next gate
   pub led_front : (start : S) (rs : List Record) (at : ℕ) (c d : List ℕ) (end : S) (next : ℕ)
       → AreLed m start rs at c end next → take next d ≡ take next c → AreLed m start rs at d end next
   led_front start [] at c d end next led front = led
   led_front start (r ∷ rs) at c d end next (mid, is, leads, written, later) front =
-      let reach = led_reach mid rs (at + 1 + length (text_of r)) c end next later in (
+      let reach = led_reach mid rs (at + 1 + length (record_text r)) c end next later in (
         mid,
         is,
         leads,
-        written_front at (open_gate ∷ text_of r) c d next (omega (arith, reach)) front written,
-        led_front mid rs (at + 1 + length (text_of r)) c d end next later front,
+        written_front at (open_gate ∷ record_text r) c d next (omega (arith, reach)) front written,
+        led_front mid rs (at + 1 + length (record_text r)) c d end next later front,
       )
 
   -- and one with a record more behind it has one more
   pub led_more : (start : S) (rs : List Record) (at : ℕ) (c d : List ℕ) (end : S) (next : ℕ) (r : Record) (last : S)
-      → AreLed m start rs at c end next → take next d ≡ take next c → IsRecord r → m.leads end r last → IsWholeAt next (text_of r) d
-      → AreLed m start (rs ++ r ∷ []) at d last (next + 1 + length (text_of r))
+      → AreLed m start rs at c end next → take next d ≡ take next c → IsRecord r → m.leads end r last → IsWholeAt next (record_text r) d
+      → AreLed m start (rs ++ r ∷ []) at d last (next + 1 + length (record_text r))
   led_more start [] at c d end next r last (same, is) front is_record leads_on whole =
-      let text = text_of r in (
+      let text = record_text r in (
         last,
         is_record,
         subst (λ s. m.leads s r last) same leads_on,
@@ -72,10 +72,10 @@ module _ {S : Type 0} (m : Meaning S) where
         (refl, ap (λ k. k + 1 + length text) is),
       )
   led_more start (q ∷ rs) at c d end next r last (mid, is, leads, written, later) front is_record leads_on whole =
-      let reach = led_reach mid rs (at + 1 + length (text_of q)) c end next later in (
+      let reach = led_reach mid rs (at + 1 + length (record_text q)) c end next later in (
         mid,
         is,
         leads,
-        written_front at (open_gate ∷ text_of q) c d next (omega (arith, reach)) front written,
-        led_more mid rs (at + 1 + length (text_of q)) c d end next r last later front is_record leads_on whole,
+        written_front at (open_gate ∷ record_text q) c d next (omega (arith, reach)) front written,
+        led_more mid rs (at + 1 + length (record_text q)) c d end next r last later front is_record leads_on whole,
       )

@@ -4,7 +4,7 @@ use Rattle.std.proofs.Common.{refl, sym, ◌∙◌, ap, subst, add-zero}
 use Rattle.std.proofs.lemmas.List.{take-append-drop, get_or-drop}
 use Rattle.record_codec.specs.declared.record.Record.{Record}
 use Rattle.record_codec.specs.Fitting.{IsRecord}
-use Rattle.record_codec.specs.Spelling.{text_of}
+use Rattle.record_codec.specs.Spelling.{record_text}
 use Rattle.record_codec.proofs.RecordLemmas.{one_record}
 use Rattle.realm_journal.specs.Gates.{open_gate, IsWrittenAt, IsOpenAt, IsClosedAt}
 use Rattle.realm_files.specs.Meaning.{Meaning}
@@ -24,28 +24,28 @@ opens at text file written =
     ∙ ap (λ l. get_or l 0 0) (behind_written at (open_gate ∷ text) file written)
 
 -- one record stands behind a gate
-pub same_record : (at : ℕ) (r q : Record) (file : List ℕ) → IsRecord r → IsRecord q → IsWrittenAt at (open_gate ∷ text_of r) file
-    → IsWrittenAt at (open_gate ∷ text_of q) file → r ≡ q
+pub same_record : (at : ℕ) (r q : Record) (file : List ℕ) → IsRecord r → IsRecord q → IsWrittenAt at (open_gate ∷ record_text r) file
+    → IsWrittenAt at (open_gate ∷ record_text q) file → r ≡ q
 same_record at r q file is_r is_q one also =
-    let x = drop (length (open_gate ∷ text_of r)) (drop at file) in
-    let y = drop (length (open_gate ∷ text_of q)) (drop at file) in
-    let both = sym (behind_written at (open_gate ∷ text_of r) file one) ∙ behind_written at (open_gate ∷ text_of q) file also in
+    let x = drop (length (open_gate ∷ record_text r)) (drop at file) in
+    let y = drop (length (open_gate ∷ record_text q)) (drop at file) in
+    let both = sym (behind_written at (open_gate ∷ record_text r) file one) ∙ behind_written at (open_gate ∷ record_text q) file also in
     (one_record r q x y is_r is_q (ap (λ l. drop 1 l) both)).0
 
 module _ {S : Type 0} (m : Meaning S) where
   -- behind a closed gate no record stands
   pub closed_lacks : (state : S) (at : ℕ) (file : List ℕ) → IsClosedAt at file → LacksRecord m state at file
-  closed_lacks state at file closed = λ r after is leads written. closed (opens at (text_of r) file written)
+  closed_lacks state at file closed = λ r after is leads written. closed (opens at (record_text r) file written)
 
   -- Where no record more leads on, the row of records ends. So two rows from one place on are one, where a record leads from
   -- a state to one.
   module _ (leads_once : (s a b : S) (r : Record) → m.leads s r a → m.leads s r b → a ≡ b) (file : List ℕ) where
     -- a row that has ended goes no further
     ended : {P : Type 0} (start s : S) (at n : ℕ) (r : Record) (mid : S) → s ≡ start → n ≡ at → LacksRecord m s n file
-        → IsRecord r → m.leads start r mid → IsWrittenAt at (open_gate ∷ text_of r) file → P
+        → IsRecord r → m.leads start r mid → IsWrittenAt at (open_gate ∷ record_text r) file → P
     ended start s at n r mid same place lacks is leads written =
         absurd (lacks r mid is (subst (λ x. m.leads x r mid) (sym same) leads)
-        (subst (λ k. IsWrittenAt k (open_gate ∷ text_of r) file) (sym place) written))
+        (subst (λ k. IsWrittenAt k (open_gate ∷ record_text r) file) (sym place) written))
 
     pub one_row : (rs qs : List Record) (start s t : S) (at j k : ℕ) → AreLed m start rs at file s j → LacksRecord m s j file
         → AreLed m start qs at file t k → LacksRecord m t k file → (s ≡ t) × (j ≡ k) × (length rs ≡ length qs)
@@ -57,8 +57,8 @@ module _ {S : Type 0} (m : Meaning S) where
     one_row (r ∷ rs) (q ∷ qs) start s t at j k (mid, is, leads, written, later) lacks (mid', is', leads', written', later') lacks_too =
         let same : q ≡ r = sym (same_record at r q file is is' written written') in
         let at_one : mid' ≡ mid = leads_once start mid' mid r (subst (λ x. m.leads start x mid') same leads') leads in
-        let on : AreLed m mid qs (at + 1 + length (text_of r)) file t k =
-        subst (λ x. AreLed m mid qs (at + 1 + length (text_of x)) file t k) same
-        (subst (λ x. AreLed m x qs (at + 1 + length (text_of q)) file t k) at_one later') in
-        let (state, place, size) = one_row rs qs mid s t (at + 1 + length (text_of r)) j k later lacks on lacks_too in
+        let on : AreLed m mid qs (at + 1 + length (record_text r)) file t k =
+        subst (λ x. AreLed m mid qs (at + 1 + length (record_text x)) file t k) same
+        (subst (λ x. AreLed m x qs (at + 1 + length (record_text q)) file t k) at_one later') in
+        let (state, place, size) = one_row rs qs mid s t (at + 1 + length (record_text r)) j k later lacks on lacks_too in
         (state, place, ap (λ n. suc n) size)

@@ -4,7 +4,7 @@ use Rattle.std.proofs.Common.{refl, sym, ◌∙◌, ap, subst, arith, length-dro
 use Rattle.std.proofs.lemmas.List.{drop-drop, length-take}
 use Rattle.record_codec.specs.declared.record.Record.{Record}
 use Rattle.record_codec.specs.Fitting.{IsRecord}
-use Rattle.record_codec.specs.Spelling.{text_of}
+use Rattle.record_codec.specs.Spelling.{record_text}
 use Rattle.realm_journal.specs.Gates.{open_gate, IsWrittenAt, IsOpenAt}
 use Rattle.realm_journal.specs.Scanning.{IsScan, IsEnd, BeginsWithNone}
 use Rattle.realm_files.specs.Meaning.{Meaning}
@@ -17,17 +17,17 @@ scan_split : (file : List ℕ) (rs qs : List Record) (at end : ℕ) → IsScan f
     → (place : ℕ) × IsScan file at rs place × IsScan file place qs end
 scan_split file [] qs at end scan = (at, refl, scan)
 scan_split file (r ∷ rs) qs at end (is, written, later) =
-    let (place, before, behind) = scan_split file rs qs (at + 1 + length (text_of r)) end later in
+    let (place, before, behind) = scan_split file rs qs (at + 1 + length (record_text r)) end later in
     (place, (is, written, before), behind)
 
 -- a scan stays within the file
 pub scan_within : (file : List ℕ) (rs : List Record) (at end : ℕ) → IsScan file at rs end → at ≤ length file → end ≤ length file
 scan_within file [] at end is within = omega (arith, is, within)
 scan_within file (r ∷ rs) at end (is, written, later) within =
-    let text = open_gate ∷ text_of r in
-    let next : at + 1 + length (text_of r) ≤ length file =
+    let text = open_gate ∷ record_text r in
+    let next : at + 1 + length (record_text r) ≤ length file =
     omega (arith, ap length written, length-take (length text) (drop at file), length-drop at file, within) in
-    scan_within file rs (at + 1 + length (text_of r)) end later next
+    scan_within file rs (at + 1 + length (record_text r)) end later next
 
 module _ {S : Type 0} (m : Meaning S) (file : List ℕ) where
   -- records that lead on, each where it stands
@@ -35,18 +35,18 @@ module _ {S : Type 0} (m : Meaning S) (file : List ℕ) where
       → AreLed m start rs at file end place
   led [] start end at place is same = (same, is)
   led (r ∷ rs) start end at place (is, written, later) (mid, leads, on) =
-      (mid, is, leads, written, led rs mid end (at + 1 + length (text_of r)) place later on)
+      (mid, is, leads, written, led rs mid end (at + 1 + length (record_text r)) place later on)
 
   -- where the bytes behind a gate begin with no record, none leads on there
   none_lacks : (state : S) (at : ℕ) → BeginsWithNone (drop (at + 1) file) → LacksRecord m state at file
   none_lacks state at none r after is leads written =
-      let rest = drop (length (open_gate ∷ text_of r)) (drop at file) in
-      let behind : drop (at + 1) file ≡ text_of r ++ rest =
-      sym (drop-drop 1 at file) ∙ ap (λ l. drop 1 l) (behind_written at (open_gate ∷ text_of r) file written) in
+      let rest = drop (length (open_gate ∷ record_text r)) (drop at file) in
+      let behind : drop (at + 1) file ≡ record_text r ++ rest =
+      sym (drop-drop 1 at file) ∙ ap (λ l. drop 1 l) (behind_written at (open_gate ∷ record_text r) file written) in
       none r is (rest, behind)
 
   -- nor where the record that stands there leads nowhere
-  nowhere_lacks : (state : S) (at : ℕ) (r : Record) → IsRecord r → IsWrittenAt at (open_gate ∷ text_of r) file
+  nowhere_lacks : (state : S) (at : ℕ) (r : Record) → IsRecord r → IsWrittenAt at (open_gate ∷ record_text r) file
       → LeadsNowhere m state r → LacksRecord m state at file
   nowhere_lacks state at r is written nowhere q after is' leads written' =
       nowhere after (subst (λ x. m.leads state x after) (sym (same_record at r q file is is' written written')) leads)
@@ -70,6 +70,6 @@ module _ {S : Type 0} (m : Meaning S) (file : List ℕ) where
         state = reached;
         place = place;
         led = led before start reached at place first lead;
-        is_open = opens place (text_of r) file written;
+        is_open = opens place (record_text r) file written;
         lacks = nowhere_lacks reached place r is_record written stops;
       }

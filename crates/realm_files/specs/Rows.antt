@@ -2,7 +2,7 @@
 use Rattle.std.specs.Prelude.{◌≡◌, ◌+◌, ℕ, Bool, true, List, [], ◌∷◌, length}
 use Rattle.record_codec.specs.declared.record.Record.{Record}
 use Rattle.record_codec.specs.Fitting.{IsRecord}
-use Rattle.record_codec.specs.Spelling.{text_of}
+use Rattle.record_codec.specs.Spelling.{record_text}
 use Rattle.realm_journal.specs.Gates.{open_gate, IsWrittenAt, IsClosedAt}
 use Rattle.realm_files.specs.Meaning.{Meaning}
 
@@ -10,8 +10,8 @@ use Rattle.realm_files.specs.Meaning.{Meaning}
 abbrev pub AreLed : {S : Type 0} → Meaning S → S → List Record → ℕ → List ℕ → S → ℕ → Type 0
 AreLed m start [] at file end next = (end ≡ start) × (next ≡ at)
 AreLed m start (r ∷ rs) at file end next =
-    (mid : _) × IsRecord r × m.leads start r mid × IsWrittenAt at (open_gate ∷ text_of r) file
-    × AreLed m mid rs (at + 1 + length (text_of r)) file end next
+    (mid : _) × IsRecord r × m.leads start r mid × IsWrittenAt at (open_gate ∷ record_text r) file
+    × AreLed m mid rs (at + 1 + length (record_text r)) file end next
 
 -- and this gate is closed
 abbrev pub AreRecords : {S : Type 0} → Meaning S → S → List Record → ℕ → List ℕ → S → ℕ → Type 0
@@ -20,7 +20,7 @@ AreRecords m start rs at file end next = AreLed m start rs at file end next × I
 -- no record behind the gate at this place leads on from the state
 abbrev pub LacksRecord : {S : Type 0} → Meaning S → S → ℕ → List ℕ → Type 0
 LacksRecord m state at file = (r : Record) → (after : _) → IsRecord r → m.leads state r after
-    → IsWrittenAt at (open_gate ∷ text_of r) file → ⊥
+    → IsWrittenAt at (open_gate ∷ record_text r) file → ⊥
 
 -- ---- records, wherever they stand
 

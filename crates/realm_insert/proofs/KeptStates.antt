@@ -12,7 +12,7 @@ use Rattle.line_grammar.specs.Spellable.{IsName}
 use Rattle.realm_drawing.specs.Ids.{IsAscending}
 use Rattle.realm_drawing.specs.Keyed.{KeyedDrawing}
 use Rattle.realm_index.specs.Index.{Entries}
-use Rattle.record_codec.specs.Payload.{AreOfKind, IsKept}
+use Rattle.record_codec.specs.Payload.{AreOfKind, IsKeptTrace}
 use Rattle.record_codec.specs.Traces.{IsTrace}
 use Rattle.record_codec.specs.declared.snapshot.Kept.{Kept}
 use Rattle.state_check.specs.Tabled.{AreAscending}
@@ -75,13 +75,13 @@ values_of_kinds d values fit = λ k entry within.
 -- the copies are the first i of the traces, each with a text
 pub record AreCopied (list : List KeptTrace) (i : ℕ) (copies : List Kept) : Type 0 where
   pub are : traces_in copies ≡ take i list
-  pub fit : All IsKept copies
+  pub fit : All IsKeptTrace copies
   pub texts : All (λ kept. IsTrace kept.steps) (take i list)
 
 pub none_copied : (list : List KeptTrace) (copies : List Kept) → copies ≡ [] → AreCopied list 0 copies
 none_copied list copies is = record {
   are = ap traces_in is;
-  fit = subst (All IsKept) (sym is) (All-nil IsKept);
+  fit = subst (All IsKeptTrace) (sym is) (All-nil IsKeptTrace);
   texts = All-nil (λ kept. IsTrace kept.steps);
 }
 
@@ -93,7 +93,7 @@ one_more_copied list i kept copies new within is small text pushed was = record 
   are = ap traces_in pushed ∙ map-append (λ (k : Kept). kept_trace k.number k.steps) copies (kept_steps kept ∷ [])
       ∙ ap (λ (t : List KeptTrace). t ++ kept ∷ []) was.are ∙ ap (λ (k : KeptTrace). take i list ++ k ∷ []) is
       ∙ sym (take_more list i kept within);
-  fit = subst (All IsKept) (sym pushed) (All-push IsKept copies (kept_steps kept) was.fit (record {
+  fit = subst (All IsKeptTrace) (sym pushed) (All-push IsKeptTrace copies (kept_steps kept) was.fit (record {
     number = small;
     steps = (omega (arith, text.few), text.each);
   }));

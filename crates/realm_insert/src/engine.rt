@@ -6,7 +6,7 @@ ghost use Rattle.grid_base.specs.Drawing.{IsDrawnRealm};
 ghost use Rattle.grid_base.specs.declared.kinds.Step.{Step as Seen};
 ghost use Rattle.record_codec.specs.Traces.{IsTrace};
 ghost use Rattle.record_codec.specs.Fitting.{IsList};
-ghost use Rattle.record_codec.specs.Payload.{IsSnapshot, IsKept as HasKeptText};
+ghost use Rattle.record_codec.specs.Payload.{IsSnapshot, IsKeptTrace as HasKeptText};
 ghost use Rattle.unswept_regions.specs.Unswept.{IsUnsweptValue};
 ghost use Rattle.value_table.specs.Table.{value_named};
 ghost use Rattle.realm_insert.specs.State.{fresh_state, kept_trace, latest, HasIdsBelow, AreLatest};

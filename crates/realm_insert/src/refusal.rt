@@ -9,7 +9,7 @@ use thiserror::Error;
 /// Why a change is refused, in the order in which the causes are asked for. The engine is unchanged then.
 #[derive(Clone, Copy, Debug, PartialEq, Eq, Error)]
 pub enum Refusal {
-    /// A coordinate is off the grid.
+    /// A coordinate is `GRID_SIDE` or more.
     #[error("a coordinate is off the grid")]
     Range,
     /// A list is too short: one of `lines` takes two points, one of `regions` three.

@@ -6,7 +6,7 @@ use Rattle.std.proofs.lemmas.Bool.{cases_lt}
 use Rattle.std.proofs.lemmas.List.{drop-drop, drop_more, get_or-drop, get_or_past, take_at, take_all}
 use Rattle.record_codec.specs.declared.record.Record.{Record}
 use Rattle.record_codec.specs.Fitting.{IsRecord, BeginsWith}
-use Rattle.record_codec.specs.Spelling.{text_of}
+use Rattle.record_codec.specs.Spelling.{record_text}
 use Rattle.realm_journal.specs.Gates.{open_gate, IsWrittenAt, IsOpenAt, IsClosedAt}
 use Rattle.realm_journal.specs.Scanning.{IsScan, BeginsWithNone, Scans}
 
@@ -20,19 +20,19 @@ gate_and_text at text file within opened (rest, is) =
 
 -- one record more
 scan_more : (file : List ℕ) (at : ℕ) (rs : List Record) (end : ℕ) (r : Record) → IsScan file at rs end → IsRecord r
-    → IsWrittenAt end (open_gate ∷ text_of r) file → IsScan file at (rs ++ r ∷ []) (end + 1 + length (text_of r))
+    → IsWrittenAt end (open_gate ∷ record_text r) file → IsScan file at (rs ++ r ∷ []) (end + 1 + length (record_text r))
 scan_more file at [] end r is is_record written =
-    (is_record, subst (λ k. IsWrittenAt k (open_gate ∷ text_of r) file) is written, ap (λ k. k + 1 + length (text_of r)) is)
+    (is_record, subst (λ k. IsWrittenAt k (open_gate ∷ record_text r) file) is written, ap (λ k. k + 1 + length (record_text r)) is)
 scan_more file at (q ∷ rs) end r (is_first, written_first, later) is_record written =
-    (is_first, written_first, scan_more file (at + 1 + length (text_of q)) rs end r later is_record written)
+    (is_first, written_first, scan_more file (at + 1 + length (record_text q)) rs end r later is_record written)
 
 pub scan_next : (bytes : List ℕ) (rs : List Record) (end : ℕ) (r : Record) → IsScan bytes 0 rs end → end < length bytes
-    → IsOpenAt end bytes → IsRecord r → BeginsWith (drop (end + 1) bytes) (text_of r)
-    → IsScan bytes 0 (rs ++ r ∷ []) (end + (1 + length (text_of r)))
+    → IsOpenAt end bytes → IsRecord r → BeginsWith (drop (end + 1) bytes) (record_text r)
+    → IsScan bytes 0 (rs ++ r ∷ []) (end + (1 + length (record_text r)))
 scan_next bytes rs end r so_far within opened is_record begins =
-    let place : end + 1 + length (text_of r) ≡ end + (1 + length (text_of r)) = omega arith in
+    let place : end + 1 + length (record_text r) ≡ end + (1 + length (record_text r)) = omega arith in
     subst (λ k. IsScan bytes 0 (rs ++ r ∷ []) k) place
-    (scan_more bytes 0 rs end r so_far is_record (gate_and_text end (text_of r) bytes within opened begins))
+    (scan_more bytes 0 rs end r so_far is_record (gate_and_text end (record_text r) bytes within opened begins))
 
 -- the record is within the bytes
 pub next_within : (bytes text : List ℕ) (end : ℕ) → end < length bytes → BeginsWith (drop (end + 1) bytes) text
@@ -48,10 +48,10 @@ scan_behind : (file : List ℕ) (at k : ℕ) (rs : List Record) (end : ℕ) → 
     → IsScan file (at + k) rs (at + end)
 scan_behind file at k [] end is = ap (λ j. at + j) is
 scan_behind file at k (r ∷ rs) end (is_record, written, later) =
-    let place : at + (k + 1 + length (text_of r)) ≡ at + k + 1 + length (text_of r) = omega arith in (
+    let place : at + (k + 1 + length (record_text r)) ≡ at + k + 1 + length (record_text r) = omega arith in (
       is_record,
-      written_behind file at k (open_gate ∷ text_of r) written,
-      subst (λ j. IsScan file j rs (at + end)) place (scan_behind file at (k + 1 + length (text_of r)) rs end later),
+      written_behind file at k (open_gate ∷ record_text r) written,
+      subst (λ j. IsScan file j rs (at + end)) place (scan_behind file at (k + 1 + length (record_text r)) rs end later),
     )
 
 from_zero : (file bytes : List ℕ) (at : ℕ) (rs : List Record) (end : ℕ) → bytes ≡ drop at file → IsScan bytes 0 rs end
@@ -105,15 +105,15 @@ rest_of bytes k = take_all (length bytes - k) (drop k bytes) (omega (arith, leng
 
 -- where none is found, none stands there
 pub none_begins : (bytes rest : List ℕ) → rest ≡ bytes → (o : Option (Record × ℕ)) → o ≡ None
-    → ((r : Record) → IsRecord r → BeginsWith rest (text_of r) → o ≡ Some (r, length (text_of r))) → BeginsWithNone bytes
+    → ((r : Record) → IsRecord r → BeginsWith rest (record_text r) → o ≡ Some (r, length (record_text r))) → BeginsWithNone bytes
 none_begins bytes rest is o none only r is_record begins =
-    let found : o ≡ Some (r, length (text_of r)) = only r is_record (subst (λ l. BeginsWith l (text_of r)) (sym is) begins) in
+    let found : o ≡ Some (r, length (record_text r)) = only r is_record (subst (λ l. BeginsWith l (record_text r)) (sym is) begins) in
     cc
 
 -- and what is found stands there
 pub found_begins : (bytes rest : List ℕ) → rest ≡ bytes → (o : Option (Record × ℕ)) (r : Record) (size : ℕ) → o ≡ Some (r, size)
-    → IfSome o (λ f. IsRecord f.0 × (f.1 ≡ length (text_of f.0)) × BeginsWith rest (text_of f.0))
-    → IsRecord r × (size ≡ length (text_of r)) × BeginsWith bytes (text_of r)
+    → IfSome o (λ f. IsRecord f.0 × (f.1 ≡ length (record_text f.0)) × BeginsWith rest (record_text f.0))
+    → IsRecord r × (size ≡ length (record_text r)) × BeginsWith bytes (record_text r)
 found_begins bytes rest is o r size some found =
-    subst (λ x. IfSome x (λ f. IsRecord f.0 × (f.1 ≡ length (text_of f.0)) × BeginsWith bytes (text_of f.0))) some
-    (subst (λ l. IfSome o (λ f. IsRecord f.0 × (f.1 ≡ length (text_of f.0)) × BeginsWith l (text_of f.0))) is found)
+    subst (λ x. IfSome x (λ f. IsRecord f.0 × (f.1 ≡ length (record_text f.0)) × BeginsWith bytes (record_text f.0))) some
+    (subst (λ l. IfSome o (λ f. IsRecord f.0 × (f.1 ≡ length (record_text f.0)) × BeginsWith l (record_text f.0))) is found)

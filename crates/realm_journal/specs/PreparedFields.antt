@@ -3,7 +3,7 @@ use Rattle.std.specs.Prelude.{◌≡◌, ℕ, List, [], Option, Some, None}
 use Rattle.record_codec.specs.declared.record.Record.{Record}
 use Rattle.record_codec.specs.Reading.{record_at}
 use Rattle.record_codec.specs.Fitting.{IsRecord}
-use Rattle.record_codec.specs.Spelling.{text_of}
+use Rattle.record_codec.specs.Spelling.{record_text}
 use Rattle.realm_journal.specs.declared.prepared.Prepared.TheInside.{Inside}
 
 -- what was read, and a record that has no text where nothing was
@@ -18,4 +18,4 @@ record_of p = record_or_none (record_at p.block)
 -- which is a record, and the block is its text
 pub record IsOfRecord (p : Inside) : Type 0 where
   pub is_record : IsRecord (record_of p)
-  pub is_text : p.block ≡ text_of (record_of p)
+  pub is_text : p.block ≡ record_text (record_of p)

@@ -4,7 +4,7 @@ use Rattle.outside_world.specs.declared.world.FileName.{FileName}
 use Rattle.outside_world.specs.View.{View}
 use Rattle.record_codec.specs.declared.record.Record.{Record}
 use Rattle.record_codec.specs.Fitting.{IsRecord, BeginsWith}
-use Rattle.record_codec.specs.Spelling.{text_of}
+use Rattle.record_codec.specs.Spelling.{record_text}
 use Rattle.realm_journal.specs.declared.error.ScanError.{ScanError}
 use Rattle.realm_journal.specs.declared.records.Scan.{Scan}
 use Rattle.realm_journal.specs.Gates.{open_gate, IsWrittenAt, IsOpenAt, IsClosedAt}
@@ -14,12 +14,12 @@ use Rattle.realm_journal.specs.Reading.{OnlyAsks}
 abbrev pub IsScan : List ℕ → ℕ → List Record → ℕ → Type 0
 IsScan file at [] end = end ≡ at
 IsScan file at (r ∷ rs) end =
-    IsRecord r × IsWrittenAt at (open_gate ∷ text_of r) file
-    × IsScan file (at + 1 + length (text_of r)) rs end
+    IsRecord r × IsWrittenAt at (open_gate ∷ record_text r) file
+    × IsScan file (at + 1 + length (record_text r)) rs end
 
 -- these bytes begin with no record
 abbrev pub BeginsWithNone : List ℕ → Type 0
-BeginsWithNone bytes = (r : Record) → IsRecord r → BeginsWith bytes (text_of r) → ⊥
+BeginsWithNone bytes = (r : Record) → IsRecord r → BeginsWith bytes (record_text r) → ⊥
 
 -- no record more stands there: the gate is closed, or it is open and no whole record stands behind it
 pub record IsEnd (file : List ℕ) (end : ℕ) (bad : Bool) : Type 0 where

@@ -3,7 +3,7 @@
 ghost use Rattle.std.specs.Prelude.{◌≡◌, ◌<◌, ◌+◌, ◌^◌, length, OnErr, IfOk};
 ghost use Rattle.outside_world.specs.Counts.{Rose};
 ghost use Rattle.outside_world.specs.GoesOn.{GoesOn};
-ghost use Rattle.record_codec.specs.Spelling.{text_of};
+ghost use Rattle.record_codec.specs.Spelling.{record_text};
 ghost use Rattle.realm_journal.specs.Appending.{IsShut, Appended};
 
 use crate::block::Block;
@@ -21,9 +21,9 @@ pub fn append<W: Outside>(
 ) -> Result<u64, JournalError>
     requires room { at < 2 ^ 61 }
     requires gate { W.tells world.old → IsShut (W.view world.old) file at }
-    ensures place { IfOk result (λ next. next ≡ at + 1 + length (text_of p.now)) }
+    ensures place { IfOk result (λ next. next ≡ at + 1 + length (record_text p.now)) }
     ensures told { W.tells world.new
-        → Appended (W.view world.old) (W.view world.new) file at (text_of p.now) result }
+        → Appended (W.view world.old) (W.view world.new) file at (record_text p.now) result }
     ensures disk_fault { OnErr result (Rose (W.disk_faults world.old) (W.disk_faults world.new)) }
     ensures goes_on { GoesOn ⟦<W as Outside>⟧ world.old world.new }
 {

@@ -1,7 +1,7 @@
 //! A record that is ready to be appended.
 ghost use Rattle.std.specs.Prelude.{◌≡◌, IfOk};
 ghost use Rattle.record_codec.specs.Fitting.{IsRecord};
-ghost use Rattle.record_codec.specs.Spelling.{text_of};
+ghost use Rattle.record_codec.specs.Spelling.{record_text};
 
 use crate::block::Block;
 use grid_base::NoMemory;
@@ -39,7 +39,7 @@ pub fn prepare(alloc: Global, r: &Record) -> Result<Prepared, NoMemory>
 impl Prepared {
     /// The record's text between its gates.
     pub(crate) fn block(&self) -> &Block
-        ensures text { result.now ≡ text_of self.now }
+        ensures text { result.now ≡ record_text self.now }
     {
         &self.block
     }

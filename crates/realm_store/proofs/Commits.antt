@@ -6,7 +6,7 @@ use Rattle.grid_base.specs.declared.kinds.Step.{Step}
 use Rattle.line_grammar.specs.declared.command.Change.{Change}
 use Rattle.line_grammar.specs.Spellable.{IsSpellableChange}
 use Rattle.record_codec.specs.declared.record.Record.{Record}
-use Rattle.record_codec.specs.Spelling.{text_of}
+use Rattle.record_codec.specs.Spelling.{record_text}
 use Rattle.realm_insert.specs.State.{State}
 use Rattle.realm_insert.specs.Next.{Next}
 use Rattle.realm_journal.specs.declared.error.JournalError.{JournalError}
@@ -23,10 +23,10 @@ use Rattle.realm_store.specs.Making.{IsMade, next_gate, record_of, kept_behind}
 use Rattle.realm_store.specs.Committing.{Committed, IsWritten, Keeps}
 
 -- the next gate is where the record ends
-pub behind_is : (kept : Kept) {n : ℕ} {place : Place} {p r : Record} → n ≡ place.next + 1 + length (text_of p)
+pub behind_is : (kept : Kept) {n : ℕ} {place : Place} {p r : Record} → n ≡ place.next + 1 + length (record_text p)
     → place ≡ place_or_first kept.place → p ≡ r → kept_behind kept r ≡ at_gate kept.state (with_gate (place_or_first kept.place) n)
 behind_is kept ends place_is same =
-    let is = ends ∙ (λ i. (place_is i).next + 1 + length (text_of (same i))) in
+    let is = ends ∙ (λ i. (place_is i).next + 1 + length (record_text (same i))) in
     ap (λ k. at_gate kept.state (with_gate (place_or_first kept.place) k)) (sym is)
 
 module _ {old new : View} {start after : Kept} where

@@ -6,7 +6,7 @@ use Rattle.grid_base.specs.Realm.{PointInside, TwoCross}
 use Rattle.grid_base.specs.declared.original.Original.{Original}
 use Rattle.grid_base.proofs.RealmLaw.{drawn_realm_by}
 use Rattle.line_grammar.specs.Spellable.{IsName}
-use Rattle.record_codec.specs.Payload.{IsSnapshot, empty_state as nothing}
+use Rattle.record_codec.specs.Payload.{IsSnapshot, empty_snapshot as nothing}
 use Rattle.record_codec.specs.Traces.{IsTrace}
 use Rattle.realm_drawing.specs.Chains.{HasValidChain}
 use Rattle.realm_drawing.proofs.Elements.{Any-nil}

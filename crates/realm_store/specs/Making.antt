@@ -4,7 +4,7 @@ use Rattle.grid_base.specs.declared.kinds.Step.{Step}
 use Rattle.line_grammar.specs.declared.command.Change.{Change}
 use Rattle.line_grammar.specs.Spelling.{change_text}
 use Rattle.record_codec.specs.declared.record.Record.{Record}
-use Rattle.record_codec.specs.Spelling.{text_of}
+use Rattle.record_codec.specs.Spelling.{record_text}
 use Rattle.realm_insert.specs.Next.{Next}
 use Rattle.realm_insert.specs.Refusals.{IsAccepted, IsRefusedBy}
 use Rattle.realm_insert.specs.declared.refusal.Refusal.{Refusal}
@@ -25,7 +25,7 @@ record_of c steps number = record { number = number; line = change_text c; trace
 
 -- the place behind this record, in the same file and generation
 abbrev pub place_behind : Kept → Record → Place
-place_behind kept r = with_gate (place_or_first kept.place) (next_gate kept + 1 + length (text_of r))
+place_behind kept r = with_gate (place_or_first kept.place) (next_gate kept + 1 + length (record_text r))
 
 -- the record stands behind the gate that waited, with a gate behind it
 abbrev pub kept_behind : Kept → Record → Kept

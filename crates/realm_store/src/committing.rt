@@ -5,7 +5,7 @@ ghost use Rattle.outside_world.specs.GoesOn.{GoesOn};
 ghost use Rattle.line_grammar.specs.Spelling.{change_text};
 ghost use Rattle.line_grammar.specs.Spellable.{IsSpellableChange};
 ghost use Rattle.record_codec.specs.Fitting.{IsRecord};
-ghost use Rattle.record_codec.specs.Spelling.{text_of};
+ghost use Rattle.record_codec.specs.Spelling.{record_text};
 ghost use Rattle.realm_insert.specs.State.{State};
 ghost use Rattle.realm_files.specs.Writing.{place_or_first};
 ghost use Rattle.realm_store.specs.Leading.{Leads};
@@ -110,7 +110,7 @@ pub(crate) fn write_behind<W: Outside>(
     requires is_record { IsRecord p.now }
     requires rest { (kept : Kept) × IsGateFor gate.now kept.place kept.has_gate
         × (W.tells world.old → AllRest kept (W.view world.old)) }
-    ensures place { IfOk result (λ next. next ≡ (place_of gate.now).next + 1 + length (text_of p.now)) }
+    ensures place { IfOk result (λ next. next ≡ (place_of gate.now).next + 1 + length (record_text p.now)) }
     ensures told { W.tells world.new → (kept : Kept) (after : State)
         → IsGateFor gate.now kept.place kept.has_gate → AllRest kept (W.view world.old)
         → Leads kept.state p.now after

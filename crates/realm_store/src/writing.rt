@@ -5,7 +5,7 @@ ghost use Rattle.std.specs.Prelude.{◌≡◌, ◌<◌, ◌+◌, ◌^◌, [], le
 ghost use Rattle.outside_world.specs.Counts.{Rose};
 ghost use Rattle.outside_world.specs.GoesOn.{GoesOn};
 ghost use Rattle.record_codec.specs.Fitting.{IsRecord};
-ghost use Rattle.record_codec.specs.Spelling.{text_of};
+ghost use Rattle.record_codec.specs.Spelling.{record_text};
 ghost use Rattle.realm_insert.specs.State.{State, empty_state};
 ghost use Rattle.realm_pages.specs.Generations.{gate_of};
 ghost use Rattle.realm_files.specs.Stands.{numbered};
@@ -61,7 +61,7 @@ pub(crate) fn write_first<W: Outside>(
     requires rest { W.tells world.old → AllRest nothing_kept (W.view world.old) }
     ensures told { W.tells world.new → (after : State) → Leads empty_state p.now after
         → Committed (W.view world.old) (W.view world.new) true empty_state after first_place result }
-    ensures place { IfOk result (λ next. next ≡ 4096 + 1 + length (text_of p.now)) }
+    ensures place { IfOk result (λ next. next ≡ 4096 + 1 + length (record_text p.now)) }
     ensures disk_fault { OnErr result (Rose (W.disk_faults world.old) (W.disk_faults world.new)) }
     ensures goes_on { GoesOn ⟦<W as Outside>⟧ world.old world.new }
 {
@@ -82,7 +82,7 @@ pub(crate) fn write_at_end<W: Outside>(
     ensures told { W.tells world.new → (state after : State)
         → AllRest (before_gate state place.now) (W.view world.old) → Leads state p.now after
         → Committed (W.view world.old) (W.view world.new) false state after place.now result }
-    ensures place { IfOk result (λ next. next ≡ place.now.next + 1 + length (text_of p.now)) }
+    ensures place { IfOk result (λ next. next ≡ place.now.next + 1 + length (record_text p.now)) }
     ensures disk_fault { OnErr result (Rose (W.disk_faults world.old) (W.disk_faults world.new)) }
     ensures goes_on { GoesOn ⟦<W as Outside>⟧ world.old world.new }
 {
@@ -117,7 +117,7 @@ pub(crate) fn write_record<W: Outside>(
     ensures told { W.tells world.new → (state after : State)
         → AllRest (at_gate state place.now) (W.view world.old) → Leads state p.now after
         → Committed (W.view world.old) (W.view world.new) true state after place.now result }
-    ensures place { IfOk result (λ next. next ≡ place.now.next + 1 + length (text_of p.now)) }
+    ensures place { IfOk result (λ next. next ≡ place.now.next + 1 + length (record_text p.now)) }
     ensures disk_fault { OnErr result (Rose (W.disk_faults world.old) (W.disk_faults world.new)) }
     ensures goes_on { GoesOn ⟦<W as Outside>⟧ world.old world.new }
 {

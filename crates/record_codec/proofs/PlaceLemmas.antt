@@ -3,6 +3,7 @@ use Rattle.std.proofs.Common.{◌≡◌, ◌⊎◌, ℕ, ◌^◌, Bool, true, fa
 use Rattle.std.specs.Prelude.{◌||◌}
 use Rattle.std.specs.Int.{w32}
 use Rattle.std.proofs.lemmas.Grind.{common_steps}
+use Rattle.grid_base.specs.Grid.{grid_side}
 use Rattle.grid_base.specs.Point.{GridPoint, OnGrid, IsBefore, is_before, is_point, point_at as point_with}
 use Rattle.grid_base.specs.Segment.{GridSegment, IsSegmentBefore}
 use Rattle.grid_base.proofs.Orders.{is_point-same, is_point-itself}
@@ -25,7 +26,7 @@ or_true false b e = inr e
 
 is_on_grid-true : (p : GridPoint) → is_on_grid p ≡ true → OnGrid p
 is_on_grid-true p e =
-    let t = and_true (nat_lt p.x (2 ^ 28)) (nat_lt p.y (2 ^ 28)) e in
+    let t = and_true (nat_lt p.x grid_side) (nat_lt p.y grid_side) e in
     record { column = grind (arith, common_steps, t.0); row = grind (arith, common_steps, t.1) }
 
 on_grid-is : (p : GridPoint) → OnGrid p → is_on_grid p ≡ true

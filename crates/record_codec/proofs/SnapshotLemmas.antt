@@ -9,8 +9,8 @@ use Rattle.record_codec.specs.declared.snapshot.Named.{Named}
 use Rattle.record_codec.specs.declared.snapshot.Kept.{Kept}
 use Rattle.record_codec.specs.declared.snapshot.Snapshot.{Snapshot}
 use Rattle.record_codec.specs.Reading.{whole}
-use Rattle.record_codec.specs.Payload.{original, kept, lists, long_payload, payload, empty_state, has_none, has_nothing}
-use Rattle.record_codec.specs.Payload.{is_empty_state, IsOriginal, IsKept, IsSnapshot, original_at, kept_at, snapshot_at}
+use Rattle.record_codec.specs.Payload.{original, kept, lists, long_payload, payload, empty_snapshot, has_none, has_nothing}
+use Rattle.record_codec.specs.Payload.{is_empty_state, IsOriginal, IsKeptTrace, IsSnapshot, original_at, kept_at, snapshot_at}
 use Rattle.record_codec.proofs.Bytes.{IsBytes, four_bytes, eight_bytes}
 use Rattle.record_codec.proofs.Codecs.{IsCodec, some_is, both_codec, made_codec, renamed_codec, number_codec, list_codec}
 use Rattle.record_codec.proofs.PlaceLemmas.{and_true, point_codec}
@@ -29,9 +29,9 @@ original_codec = renamed_codec IsOriginal
     (λ o. (o.id, (o.a, (o.b, o.chain)))) (λ o. refl) (λ x. refl)
     (both_codec (number_codec w32 (2 ^ 32) four_bytes) (both_codec point_codec (both_codec point_codec (list_codec point_codec)))))
 
-kept_codec : IsCodec IsKept kept kept_at
+kept_codec : IsCodec IsKeptTrace kept kept_at
 unfolding kept kept_at
-kept_codec = renamed_codec IsKept (λ k has. record { number = has.0; steps = has.1 }) (λ k is. (is.number, is.steps))
+kept_codec = renamed_codec IsKeptTrace (λ k has. record { number = has.0; steps = has.1 }) (λ k is. (is.number, is.steps))
     (made_codec (λ (x : ℕ × List Step). record { number = x.0; steps = x.1 }) (λ k. (k.number, k.steps)) (λ k. refl) (λ x. refl)
     (both_codec (number_codec w64 (2 ^ 64) eight_bytes) (list_codec step_codec)))
 
@@ -62,7 +62,7 @@ none_is [] e = refl
 none_is (x ∷ xs) e = absurd cc
 
 -- a state that is tested to be empty is the empty state
-pub is_empty_state-true : (s : Snapshot) → is_empty_state s ≡ true → s ≡ empty_state
+pub is_empty_state-true : (s : Snapshot) → is_empty_state s ≡ true → s ≡ empty_snapshot
 is_empty_state-true s e =
     let counts = and_true ((eqb s.changes 0) && (eqb s.next_id 1)) (has_nothing s) e in
     let numbers = and_true (eqb s.changes 0) (eqb s.next_id 1) counts.0 in
@@ -88,12 +88,12 @@ long_is_something : (s : Snapshot) → long_payload s ≡ [] → ⊥
 unfolding long_payload
 long_is_something s e = cc
 
-by_test : (s : Snapshot) (b : Bool) → is_empty_state s ≡ b → cond b [] (long_payload s) ≡ [] → s ≡ empty_state
+by_test : (s : Snapshot) (b : Bool) → is_empty_state s ≡ b → cond b [] (long_payload s) ≡ [] → s ≡ empty_snapshot
 by_test s true is e = is_empty_state-true s is
 by_test s false is e = absurd (long_is_something s e)
 
 -- only the empty state has an empty payload
-pub empty_payload : (s : Snapshot) → payload s ≡ [] → s ≡ empty_state
+pub empty_payload : (s : Snapshot) → payload s ≡ [] → s ≡ empty_snapshot
 empty_payload s e = by_test s (is_empty_state s) refl e
 
 -- the payload of another state has all that the state has

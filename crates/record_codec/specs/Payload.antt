@@ -61,8 +61,8 @@ unfoldable pub long_payload : Snapshot → List ℕ
 long_payload s = to_be_bytes w64 s.changes ++ (to_be_bytes w64 s.next_id ++ lists s)
 
 -- the state of files that hold nothing
-abbrev pub empty_state : Snapshot
-empty_state = record { changes = 0; next_id = 1; points = []; originals = []; values = []; traces = [] }
+abbrev pub empty_snapshot : Snapshot
+empty_snapshot = record { changes = 0; next_id = 1; points = []; originals = []; values = []; traces = [] }
 
 -- whether a list has no item
 abbrev pub has_none : {A : Type 0} → List A → Bool
@@ -115,7 +115,7 @@ pub record IsNamed (n : Named) : Type 0 where
   pub value : IsValue n.value
 
 -- all numbers fit, and each step has a text
-pub record IsKept (k : Kept) : Type 0 where
+pub record IsKeptTrace (k : Kept) : Type 0 where
   pub number : k.number < 2 ^ 64
   pub steps : IsList IsStep k.steps
 
@@ -126,7 +126,7 @@ pub record IsSnapshot (s : Snapshot) : Type 0 where
   pub points : IsList OnGrid s.points
   pub originals : IsList IsOriginal s.originals
   pub values : IsList IsNamed s.values
-  pub traces : IsList IsKept s.traces
+  pub traces : IsList IsKeptTrace s.traces
 
 -- ---- reading
 

@@ -144,7 +144,7 @@ const CHANGED: [(&[u8], usize, u8, bool); 16] = [
     // another kind of step
     (&MEET, 43, 0x03, false),
     (&MEET, 43, 0x04, false),
-    // a column of 2^30, and the greater end of the first piece before its lesser end
+    // a column off the grid, and the greater end of the first piece before its lesser end
     (&MEET, 76, 0x40, false),
     (&MEET, 47, 0x0b, false),
     // the first piece begins at (0, 1), and at (7, 0), behind the second
@@ -321,13 +321,14 @@ fn a_state_is_read_part_by_part(rt: HostRuntime) -> Result<(), Fail> {
 }
 
 // One byte of a payload, and whether another byte there leaves it a payload.
-const TURNED: [(&[u8], usize, u8, bool); 9] = [
+const TURNED: [(&[u8], usize, u8, bool); 10] = [
     // the number of changes, and the number of points
     (&ONE_POINT, 7, 0x09, true),
     (&ONE_POINT, 23, 0x02, false),
     (&ONE_POINT, 16, 0xff, false),
-    // a column of 2^30
+    // a column off the grid, and one of its last
     (&ONE_POINT, 24, 0x40, false),
+    (&ONE_POINT, 24, 0x3f, true),
     // a name of another length, and another kind
     (&THREE_VALUES, 48, 0x05, false),
     (&THREE_VALUES, 53, 0x03, true),

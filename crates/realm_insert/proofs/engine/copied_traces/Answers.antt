@@ -1,5 +1,5 @@
 use Rattle.std.proofs.Common.{take_all, arith, ◌∙◌}
-use Rattle.record_codec.specs.Payload.{IsKept}
+use Rattle.record_codec.specs.Payload.{IsKeptTrace}
 use Rattle.state_check.proofs.Copying.{fits_as_list}
 use Rattle.realm_insert.proofs.KeptStates.{none_copied, one_more_copied}
 use Rattle.realm_insert.proofs.engine.copied_traces.Goals as goal
@@ -20,7 +20,7 @@ returns-clause-same c = c.loop-kept.invariant.are ∙ take_all c.loop-kept.kept-
 
 pub returns-clause-fits : goal.returns-clause-fits
 returns-clause-fits c =
-    fits_as_list IsKept c.loop-kept.copies.items (omega (arith, c.loop-kept.copies.small, c.loop-kept.copies.ok))
+    fits_as_list IsKeptTrace c.loop-kept.copies.items (omega (arith, c.loop-kept.copies.small, c.loop-kept.copies.ok))
     c.loop-kept.invariant.fit
 
 pub returns-clause-texts : goal.returns-clause-texts

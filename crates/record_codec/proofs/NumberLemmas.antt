@@ -1,0 +1,31 @@
+-- This file shows how numbers are read, and written over bytes.
+use Rattle.std.proofs.Common.{◌≡◌, ℕ, ◌-◌, ◌<◌, List, ◌++◌, length, take, drop, refl, append_assoc, arith}
+use Rattle.std.specs.Int.{w32, w64, from_be_bytes, to_be_bytes}
+use Rattle.std.proofs.Math.ListN.{drop_of_length-le}
+use Rattle.std.proofs.lemmas.List.{take_at, drop_at, length-take, length-drop}
+use borrow.Rule.Slice.PartMut.{put_mid, mid_of}
+use Rattle.byteorder.specs.Endian.{big_number}
+use Rattle.record_codec.specs.Spelling.{string}
+
+-- ---- reading
+
+pub big_number-four : (bytes : List ℕ) → big_number 4 bytes ≡ from_be_bytes w32 bytes
+big_number-four bytes = omega arith
+
+pub big_number-eight : (bytes : List ℕ) → big_number 8 bytes ≡ from_be_bytes w64 bytes
+big_number-eight bytes = omega arith
+
+-- ---- writing
+
+-- a number that is written over eight bytes leaves nothing of them
+pub written_over : (bytes part : List ℕ) (at n k : ℕ) → k ≡ 8 → part ≡ to_be_bytes w64 n ++ drop 8 (mid_of at k bytes)
+    → put_mid at k bytes part ≡ take at bytes ++ (to_be_bytes w64 n ++ drop 8 (drop at bytes))
+written_over bytes part at n k size is =
+    rw (is, size, drop_of_length-le (mid_of at 8 bytes) {i = 8} (omega (arith, length-take 8 (drop at bytes)))) refl
+
+-- the length of a body is written over the eight bytes before it
+pub length_before : (old body bytes : List ℕ) → bytes ≡ (old ++ to_be_bytes w64 0) ++ body
+    → take (length old) bytes ++ string w64 (drop 8 (drop (length old) bytes)) ≡ old ++ string w64 body
+length_before old body bytes is =
+    let room = to_be_bytes w64 0 in
+    rw (is, append_assoc old room body, take_at old (room ++ body) (length old) refl, drop_at old (room ++ body) (length old) refl) refl
