@@ -1,14 +1,15 @@
 -- This file shows that what the sides of segments tell is enough for the border of a result.
-use Rattle.std.proofs.Common.{◌≡◌, ◌⊎◌, ◌↔◌, Bool, true, false, not, ◌&&◌, ◌||◌, List, ◌∷◌, ◌++◌, Contains, refl, sym, ◌∙◌, inl, inr}
-use Rattle.std.specs.List.{AllByRecursion, Any}
+use Rattle.std.proofs.Common.{◌≡◌, ◌↔◌, Bool, true, false, not, ◌&&◌, ◌||◌, List, ◌∷◌, ◌++◌, Contains, refl, sym, ◌∙◌, inl, inr}
+use Rattle.std.specs.List.{AllByRecursion}
 use Rattle.std.proofs.lemmas.Bool.{true≢false}
 use Rattle.std.proofs.lemmas.List.Elements.{Contains-append_left, Contains-append_right}
 use Rattle.grid_base.specs.Point.{IsBefore}
-use Rattle.grid_base.specs.Segment.{GridSegment, IsEnd}
+use Rattle.grid_base.specs.Segment.{GridSegment}
 use Rattle.grid_base.specs.Sides.{Left, Right}
 use Rattle.grid_base.specs.Border.{AreNoded, IsEvenBorder}
 use Rattle.grid_base.specs.Plane.{Place, Tells}
 use Rattle.grid_base.specs.Odd.{Odd, is_strictly_above}
+use Rattle.grid_base.proofs.Booleans.{both_true, one_true}
 use Rattle.rose_values.specs.declared.operators.Op.{Op}
 use Rattle.rose_values.specs.declared.operators.Op.TheVariants.{Intersection, Plus, Minus, CommonBorder, Vertices, Contour, Interior}
 use Rattle.rose_values.specs.Border.{AreSegmentsAscending}
@@ -137,20 +138,10 @@ pub parting_is_even : (op : Op) (A B C : List GridSegment) → AreBorders A B �
     → HasParting op A B C → IsEvenBorder C
 parting_is_even op A B C h ascending parting = kept_is_even (says op) A B C (kept_by op A B C h ascending parting)
 
-pub both_true : (a b : Bool) → (a && b) ≡ true → (a ≡ true) × (b ≡ true)
-both_true true true h = (refl, refl)
-both_true true false h = cc
-both_true false b h = cc
-
 first_true : (a b : Bool) → (a && not b) ≡ true → (a ≡ true) × (b ≡ true → ⊥)
 first_true true true h = cc
 first_true true false h = (refl, λ e. true≢false (sym e))
 first_true false b h = cc
-
-pub either_true : (a b : Bool) → (a || b) ≡ true → (a ≡ true) ⊎ (b ≡ true)
-either_true true b h = inl refl
-either_true false true h = inr refl
-either_true false false h = cc
 
 not_true : (b : Bool) → (b ≡ true → ⊥) → not b ≡ true
 not_true true h = absurd (h refl)
@@ -180,7 +171,7 @@ said Intersection A B q = (
   λ h. says_both _ _ (odd_is A q h.0) (odd_is B q h.1),
 )
 said Plus A B q = (
-  λ h. elim (either_true _ _ h) [ inl a ↦ inl (is_odd_by A q a) | inr b ↦ inr (is_odd_by B q b) ],
+  λ h. elim (one_true _ _ h) [ inl a ↦ inl (is_odd_by A q a) | inr b ↦ inr (is_odd_by B q b) ],
   λ h. elim h [ inl a ↦ says_first _ _ (odd_is A q a) | inr b ↦ says_second _ _ (odd_is B q b) ],
 )
 said Minus A B q = (

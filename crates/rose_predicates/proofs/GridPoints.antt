@@ -13,11 +13,11 @@ use Rattle.grid_base.specs.Border.{AreNoded}
 use Rattle.grid_base.proofs.Ends.{columns_in_order, end_or_inside, same_point}
 use Rattle.grid_base.proofs.GridPlaces.{number_at_point}
 use Rattle.grid_base.proofs.Orders.{is_segment, is_segment-itself, is_segment-same}
+use Rattle.grid_base.proofs.Signs.{on_by_zero}
 use Rattle.grid_base.proofs.Turns.{in_order}
 use Rattle.rose_values.specs.Areas.{IsOneOf}
 use Rattle.side_parity.proofs.Near.{same_factor}
 use Rattle.plane_classes.proofs.Heights.{at_a, at_b}
-use Rattle.plane_classes.proofs.Ways.{on_by_zero}
 use Rattle.plane_classes.proofs.Multiples.{held_scaled}
 use Rattle.plane_classes.proofs.RealmPlaces.{meet_in_ends}
 

@@ -9,11 +9,12 @@ use Rattle.grid_base.specs.Plane.{Place, IsBeside}
 use Rattle.grid_base.specs.Odd.{AreSides, Odd}
 use Rattle.grid_base.specs.declared.kinds.Sides.{Sides}
 use Rattle.grid_base.proofs.Elements.{same_place}
+use Rattle.grid_base.proofs.Booleans.{both_true, one_true}
 use Rattle.side_parity.proofs.BothSides.{odd_on_left, odd_on_right}
 use Rattle.side_parity.proofs.SidesBy.{IsSound}
 use Rattle.plane_classes.specs.Classes.{IsOuter}
 use Rattle.rose_overlay.proofs.OneRegion.{fewer_beside}
-use Rattle.rose_overlay.proofs.Parted.{AreBorders, both_true, either_true, is_odd_by, odd_is, says_both, says_first}
+use Rattle.rose_overlay.proofs.Parted.{AreBorders, is_odd_by, odd_is, says_both, says_first}
 use Rattle.rose_overlay.proofs.Parted.{says_second, sound_second}
 use Rattle.plane_cells.specs.OuterSides.{AreOuterSides}
 use Rattle.rose_predicates.specs.Closing.{HasOpenSide, NoneIsOpen}
@@ -38,7 +39,7 @@ zip_length S (x ∷ xs) (y ∷ ys) all = ap suc (zip_length S xs ys all.1)
 pub open_side : (B : List GridSegment) (s : GridSegment) (odd outer : Sides) → AreSides B s odd
     → IsTrue ((odd.left && outer.left) || (odd.right && outer.right)) ↔ HasOpenSide B s outer
 open_side B s odd outer sides = (
-  λ e. elim (either_true _ _ e) [
+  λ e. elim (one_true _ _ e) [
     | inl l ↦
         (let both = both_true odd.left outer.left l in
         inl (sides.left.one.0, sides.left.one.1, (sides.left.all sides.left.one.0 sides.left.one.1).0 both.0, both.1))

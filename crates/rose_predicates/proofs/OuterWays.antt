@@ -1,7 +1,6 @@
 -- This file shows that an area none of whose sides is in the outer class of another border has no place there.
-use Rattle.std.proofs.Common.{◌≡◌, ◌⊎◌, ◌↔◌, ℕ, zero, suc, ◌+◌, ◌*◌, ◌<◌, true, List, [], ◌∷◌, ◌++◌, map, Contains, ℤ, pos, ◌<ℤ◌, ◌≤ℤ◌}
+use Rattle.std.proofs.Common.{◌≡◌, ◌⊎◌, ◌↔◌, ℕ, zero, suc, ◌+◌, ◌*◌, ◌<◌, true, List, [], ◌∷◌, ◌++◌, map, Contains, pos}
 use Rattle.std.proofs.Common.{refl, sym, subst, ◌∙◌, arith, inl, inr}
-use Rattle.std.proofs.lemmas.Int.{ints}
 use Rattle.std.proofs.lemmas.List.Elements.{Contains-append_left, Contains-append_right}
 use Rattle.grid_base.specs.Point.{IsBefore}
 use Rattle.grid_base.specs.Segment.{GridSegment}
@@ -10,6 +9,7 @@ use Rattle.grid_base.specs.Places.{RationalPoint}
 use Rattle.grid_base.specs.Plane.{Place, Holds, HoldsInside, IsFree, IsFreeWay, IsBeside, blend}
 use Rattle.grid_base.specs.Odd.{Odd}
 use Rattle.grid_base.proofs.Turns.{times}
+use Rattle.grid_base.proofs.Signs.{not_both}
 use Rattle.rose_values.specs.Areas.{IsInteriorPoint}
 use Rattle.rose_values.specs.Border.{AreSegmentsAscending}
 use Rattle.side_parity.proofs.BothSides.{left_answer, right_answer, moved_contains, odd_on_left, odd_on_right}
@@ -162,8 +162,6 @@ module _ (A B : List GridSegment) (h : AreBorders A B) (up : AreSegmentsAscendin
       even_over r over q rest (outer_goes_on A p r outer (one_class_by_way A p r first)) (even_along p r first outer even)
 
 -- ---- a place left of all is outer
-not_both : (a b : ℤ) → a <ℤ b → b ≤ℤ a → ⊥
-not_both a b h k = omega (arith, ints)
 
 outside_is_outer : (L : List GridSegment) → IsOuter L outside
 outside_is_outer L = (

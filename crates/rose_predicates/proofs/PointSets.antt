@@ -19,7 +19,7 @@ use Rattle.rose_overlay.proofs.LiesWithin.{middle_held, middle_off}
 use Rattle.rose_overlay.proofs.Made.{with_one}
 use Rattle.rose_overlay.proofs.Parted.{noded_part}
 use Rattle.rose_overlay.proofs.Sorts.{not_both, one_list, there_or_not}
-use Rattle.rose_predicates.specs.Predicates.{AreOutside, IsInside, ShareAPoint}
+use Rattle.rose_predicates.specs.Predicates.{AreOutside, HaveSameSegments, IsInside, ShareAPoint}
 use Rattle.rose_predicates.proofs.Truths.{each, of_each, some, of_some}
 use Rattle.rose_predicates.proofs.GridPoints.{grid_place, at_itself, is_one_of, one_point, end_held, held_at_end, common_end}
 
@@ -106,6 +106,21 @@ lines_inside A B noded ordered = (
   ]),
 )
 
+-- lines have the same places where they have the same segments
+pub lines_same : (A B : List GridSegment) → AreNoded (A ++ B) → AreOrdered A → AreOrdered B
+    → (IsInside (L A) (L B) × IsInside (L B) (L A)) ↔ HaveSameSegments A B
+lines_same A B noded ordered_a ordered_b = (
+  λ both s. (
+    of_each (Contains B) A s ((lines_inside A B noded ordered_a).1 both.0),
+    of_each (Contains A) B s ((lines_inside B A (noded_back A B noded) ordered_b).1 both.1),
+  ),
+  λ same. (λ q h. (h.0, (same h.0).0 h.1, h.2), λ q h. (h.0, (same h.0).1 h.1, h.2)),
+)
+
+-- ascending lists with the same segments are one
+pub one_by_segments : (A B : List GridSegment) → AreSegmentsAscending A → AreSegmentsAscending B → HaveSameSegments A B → A ≡ B
+one_by_segments A B up_a up_b same = one_list IsSegmentBefore not_both A B up_a up_b (λ s. (same s).0) (λ s. (same s).1)
+
 pub lines_equal : (A B : List GridSegment) → AreNoded (A ++ B) → AreOrdered A → AreOrdered B → AreSegmentsAscending A
     → AreSegmentsAscending B → (A ≡ B) ↔ (IsInside (L A) (L B) × IsInside (L B) (L A))
 lines_equal A B noded ordered_a ordered_b up_a up_b = (
@@ -113,9 +128,7 @@ lines_equal A B noded ordered_a ordered_b up_a up_b = (
     subst (λ (C : List GridSegment). IsInside (L A) (L C)) same (λ q p. p),
     subst (λ (C : List GridSegment). IsInside (L C) (L A)) same (λ q p. p),
   ),
-  λ both. one_list IsSegmentBefore not_both A B up_a up_b
-      (λ s there. of_each (Contains B) A s ((lines_inside A B noded ordered_a).1 both.0) there)
-      (λ s there. of_each (Contains A) B s ((lines_inside B A (noded_back A B noded) ordered_b).1 both.1) there),
+  λ both. one_by_segments A B up_a up_b ((lines_same A B noded ordered_a ordered_b).0 both),
 )
 
 -- two lists of segments have a common place where they have a common end

@@ -3,13 +3,14 @@ use Rattle.std.proofs.Common.{◌≡◌, ◌⊎◌, ◌↔◌, ℕ, suc, ◌<◌
 use Rattle.std.proofs.Common.{ap, subst, ◌∙◌, arith, inl, inr}
 use Rattle.std.proofs.lemmas.Bool.{cases_Bool, ne_eqb, true≢false}
 use Rattle.std.proofs.lemmas.List.Elements.{Contains-append_cases, Contains-append_left, Contains-append_right}
-use Rattle.grid_base.specs.Segment.{GridSegment, IsSegmentBefore}
+use Rattle.grid_base.specs.Border.{AreNoded}
+use Rattle.grid_base.specs.Segment.{GridSegment}
 use Rattle.grid_base.specs.Sides.{Left, Right}
 use Rattle.grid_base.specs.Plane.{Place, Holds, IsFree}
 use Rattle.grid_base.specs.Odd.{Odd}
 use Rattle.grid_base.proofs.Elements.{Contains-here}
 use Rattle.rose_values.specs.Areas.{IsOnSome, IsRegionPoint}
-use Rattle.rose_values.specs.Border.{AreSegmentsAscending}
+use Rattle.rose_values.specs.Border.{AreSegmentsAscending, IsBorder}
 use Rattle.rose_values.specs.Operators.{HasPlace, IsCombination}
 use Rattle.rose_values.specs.declared.geometry.Geometry.TheVariants.{R}
 use Rattle.rose_values.specs.declared.operators.Op.{Op}
@@ -22,10 +23,11 @@ use Rattle.rose_overlay.proofs.LiesWithin.{as_its_left, on_or_off}
 use Rattle.rose_overlay.proofs.Made.{sound_among}
 use Rattle.rose_overlay.proofs.OneRegion.{beside_is_free, fewer_beside, own_by_sides}
 use Rattle.rose_overlay.proofs.Parted.{AreBorders, is_odd_by, odd_is, sound_second}
-use Rattle.rose_overlay.proofs.Sorts.{not_both, once, one_list, there_or_not}
-use Rattle.rose_predicates.proofs.PointSets.{noded_back}
-use Rattle.rose_predicates.proofs.RegionSides.{IsWhole, left_place, one_is, own_beside, right_place, whole}
-use Rattle.rose_predicates.specs.Predicates.{AreasMeet, IsInside, ShareAPoint, ShareABorderPoint}
+use Rattle.rose_overlay.proofs.Sorts.{once, there_or_not}
+use Rattle.rose_overlay.specs.Parting.{AreOrdered}
+use Rattle.rose_predicates.proofs.PointSets.{noded_back, one_by_segments}
+use Rattle.rose_predicates.proofs.RegionSides.{IsWhole, borders_of, left_place, one_is, own_beside, right_place, whole}
+use Rattle.rose_predicates.specs.Predicates.{AreasMeet, HaveSameSegments, IsInside, ShareAPoint, ShareABorderPoint}
 
 -- ---- what an operator makes is empty where it has no place
 abbrev HasSome : Op → List GridSegment → List GridSegment → Type 0
@@ -227,6 +229,18 @@ equal_told A B h up_a up_b = (
     subst (λ (C : List GridSegment). IsInside (R A) (R C)) same (λ q p. p),
     subst (λ (C : List GridSegment). IsInside (R C) (R A)) same (λ q p. p),
   ),
-  λ both. one_list IsSegmentBefore not_both A B up_a up_b (same_segments A B h up_a both.0 both.1)
-      (same_segments B A (swapped A B h) up_b both.1 both.0),
+  λ both. one_by_segments A B up_a up_b
+      (λ s. (same_segments A B h up_a both.0 both.1 s, same_segments B A (swapped A B h) up_b both.1 both.0 s)),
 )
+
+-- regions have the same points where their borders have the same segments
+pub regions_same : (A B : List GridSegment) → AreNoded (A ++ B) → AreOrdered A → AreOrdered B → IsBorder A → IsBorder B
+    → (IsInside (R A) (R B) × IsInside (R B) (R A)) ↔ HaveSameSegments A B
+regions_same A B noded ordered_a ordered_b first second =
+    let h = borders_of A B noded first second ordered_a ordered_b in (
+      λ both s. (
+        same_segments A B h first.ascending both.0 both.1 s,
+        same_segments B A (swapped A B h) second.ascending both.1 both.0 s,
+      ),
+      λ same. (equal_told A B h first.ascending second.ascending).0 (one_by_segments A B first.ascending second.ascending same),
+    )

@@ -1,5 +1,5 @@
 -- What predicates say of two values, by the points of the values: rational points, as places of the plane.
-use Rattle.std.specs.Prelude.{List, [], Contains}
+use Rattle.std.specs.Prelude.{◌↔◌, List, [], Contains}
 use Rattle.grid_base.specs.Point.{GridPoint}
 use Rattle.grid_base.specs.Segment.{GridSegment}
 use Rattle.grid_base.specs.Crossing.{Inside}
@@ -22,6 +22,10 @@ points_of (R border) = []
 abbrev pub AreOutside : List GridPoint → List GridSegment → Type 0
 AreOutside points list =
     (p : GridPoint) (s : GridSegment) → Contains points p → Contains list s → ¬ Inside p s
+
+-- each segment of one of the lists is one of the other
+abbrev pub HaveSameSegments : List GridSegment → List GridSegment → Type 0
+HaveSameSegments A B = (s : GridSegment) → Contains A s ↔ Contains B s
 
 -- ---- points of values
 -- q is a point of the value
@@ -66,8 +70,8 @@ IsInside a b = (q : Place) → IsPointOf a q → IsPointOf b q
 abbrev pub AreEdgeDisjoint : Geometry → Geometry → Type 0
 AreEdgeDisjoint a b = ¬ AreasMeet a b × ¬ ShareASegment a b
 
--- Two lines intersect where they have a common point, and two regions where their areas meet. Lines intersect a
--- region where they reach into it.
+-- Two lines intersect where they have a common point, and two regions where their areas meet. Lines intersect
+-- a region where they reach into it.
 abbrev pub Intersect : Geometry → Geometry → Type 0
 Intersect (L first) (L second) = ShareAPoint (L first) (L second)
 Intersect (L lines) (R border) = ReachesInto (L lines) (R border)

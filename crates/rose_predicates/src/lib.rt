@@ -3,9 +3,11 @@
 
 mod answering;
 mod enclosing;
+mod laws;
 mod members;
 mod of_lines;
 mod of_points;
 mod of_regions;
 
 pub use answering::{HoldsError, holds};
+pub use laws::equal_is_same;

@@ -1,15 +1,11 @@
 use Rattle.std.proofs.Common.{◌<◌, slice_index_or, refl, sym, subst, arith}
 use Rattle.std.proofs.lemmas.Bool.{true≢false}
 use Rattle.grid_base.specs.Odd.{AreSides}
-use Rattle.grid_base.specs.Segment.{GridSegment}
 use Rattle.grid_base.proofs.Elements.{same_place}
+use Rattle.plane_cells.specs.Numbered.{nowhere}
 use Rattle.rose_predicates.proofs.OpenSides.{not_all, one_more, zip_at}
 use Rattle.rose_predicates.proofs.Truths.{not_held}
 use Rattle.rose_predicates.proofs.enclosing.none_is_open.Goals as goal
-
--- what stands where a list has nothing
-nowhere : GridSegment
-nowhere = record { a = record { x = 0; y = 0 }; b = record { x = 0; y = 0 } }
 
 -- the segment at hand has an open side
 pub returns-then-is_open : goal.returns-then-is_open
