@@ -5,7 +5,7 @@ use Rattle.record_codec.specs.declared.record.Record.{Record}
 use Rattle.realm_journal.specs.Gates.{IsOpenAt}
 use Rattle.realm_pages.specs.Generations.{Generation, gate_of}
 use Rattle.realm_pages.specs.Finding.{HoldsNewest}
-use Rattle.realm_pages.specs.Damages.{IsDamaged as IsDamagedPage}
+use Rattle.realm_pages.specs.Damages.{HasDamagedPages}
 use Rattle.realm_pages.specs.declared.damage.Damage.{Damage}
 use Rattle.realm_pages.specs.declared.damage.Damage.TheVariants.{BadSnapshot, BadRecord}
 use Rattle.realm_files.specs.Meaning.{Meaning}
@@ -21,7 +21,8 @@ pub record IsNoState {S : Type 0} (m : Meaning S) (files : Files) (damage : Dama
   pub is : damage ≡ BadSnapshot file
 
 -- these records lead on, the gate behind them is open, and no record there leads on
-pub record EndsBadly {S : Type 0} (m : Meaning S) (start : S) (records : List Record) (at : ℕ) (file : List ℕ) : Type 0 where
+pub record EndsBadly {S : Type 0} (m : Meaning S) (start : S) (records : List Record) (at : ℕ)
+    (file : List ℕ) : Type 0 where
   pub state : S
   pub place : ℕ
   pub led : AreLed m start records at file state place
@@ -39,6 +40,7 @@ pub record HasBadRecord {S : Type 0} (m : Meaning S) (files : Files) (damage : D
   pub ends : EndsBadly m first records (gate_of generation) (files file)
   pub is : damage ≡ BadRecord file (length records + 1)
 
--- The fault that decides: what is wrong with heads and pages comes first, then the payload, and then the records.
+-- The fault that decides: what is wrong with heads and pages comes first, then the payload, then the records.
 abbrev pub IsDamaged : {S : Type 0} → Meaning S → Damage → Files → Type 0
-IsDamaged m damage files = IsDamagedPage damage files ⊎ (IsNoState m files damage ⊎ HasBadRecord m files damage)
+IsDamaged m damage files =
+    HasDamagedPages damage files ⊎ (IsNoState m files damage ⊎ HasBadRecord m files damage)

@@ -12,10 +12,10 @@ record_or_none None = record { number = 0; line = []; trace = [] }
 record_or_none (Some read) = read.0
 
 -- the record that is read from the block
-abbrev pub record_of : Inside → Record
-record_of p = record_or_none (record_at p.block)
+abbrev pub record_within : Inside → Record
+record_within p = record_or_none (record_at p.block)
 
 -- which is a record, and the block is its text
 pub record IsOfRecord (p : Inside) : Type 0 where
-  pub is_record : IsRecord (record_of p)
-  pub is_text : p.block ≡ record_text (record_of p)
+  pub is_record : IsRecord (record_within p)
+  pub is_text : p.block ≡ record_text (record_within p)

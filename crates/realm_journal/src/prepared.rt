@@ -17,11 +17,11 @@ pub struct Prepared {
 
 impl Model for Prepared {
     ghost use Rattle.record_codec.specs.declared.record.Record.{Record};
-    ghost use Rattle.realm_journal.specs.PreparedFields.{record_of, IsOfRecord};
+    ghost use Rattle.realm_journal.specs.PreparedFields.{record_within, IsOfRecord};
 
     ghost Value = { Record };
 
-    ghost view = { record_of };
+    ghost view = { record_within };
 
     ghost invariant = { IsOfRecord };
 }

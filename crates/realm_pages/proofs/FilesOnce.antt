@@ -9,7 +9,7 @@ use Rattle.record_codec.specs.Heads.{header_text}
 use Rattle.record_codec.proofs.HeaderLemmas.{read_again}
 use Rattle.realm_pages.specs.Generations.{Generation, page_count}
 use Rattle.realm_pages.specs.Files.{Counts, HasHead, HoldsFirst}
-use Rattle.realm_pages.specs.Damages.{CountsWith, IsNewest, LacksHead, AreTwins, HasPageFault, IsBroken, IsDamaged}
+use Rattle.realm_pages.specs.Damages.{CountsWith, IsNewest, LacksHead, AreTwins, HasPageFault, IsBroken, HasDamagedPages}
 use Rattle.realm_pages.specs.declared.damage.Damage.{Damage}
 use Rattle.realm_pages.specs.declared.damage.Damage.TheVariants.{BadPage, Twins}
 use Rattle.realm_pages.specs.Finding.{HoldsNewest}
@@ -92,7 +92,7 @@ module _ {files : FileName → List ℕ} where
 
   -- ---- or one damage
 
-  pub no_damage : {damage : Damage} {file : FileName} {g : Generation} → IsDamaged damage files → HoldsNewest files file g → ⊥
+  pub no_damage : {damage : Damage} {file : FileName} {g : Generation} → HasDamagedPages damage files → HoldsNewest files file g → ⊥
   no_damage (inl lacks) holds = lacks_none lacks holds.newest
   no_damage (inr (inl twins)) holds = no_twins twins holds.newest
   no_damage {damage} {g = g} (inr (inr broken)) holds =
@@ -136,7 +136,7 @@ module _ {files : FileName → List ℕ} where
       fault_once (few one.newest) one.fault
       (subst (λ f. HasPageFault f (files f) one.head.length one.head.pages e) (sym same_file) of_head)
 
-  pub damage_once : {d e : Damage} → IsDamaged d files → IsDamaged e files → d ≡ e
+  pub damage_once : {d e : Damage} → HasDamagedPages d files → HasDamagedPages e files → d ≡ e
   damage_once (inl one) (inl also) = lacks_once one also
   damage_once (inl one) (inr (inl also)) = absurd (lacks_or_twins one also)
   damage_once (inl one) (inr (inr also)) = absurd (lacks_none one also.newest)
@@ -148,7 +148,7 @@ module _ {files : FileName → List ℕ} where
   damage_once (inr (inr one)) (inr (inr also)) = broken_once one also
 
   -- which files have that count
-  pub damage_counts : {d : Damage} → IsDamaged d files → ((file : FileName) → Counts (files file) → ⊥) → ⊥
+  pub damage_counts : {d : Damage} → HasDamagedPages d files → ((file : FileName) → Counts (files file) → ⊥) → ⊥
   damage_counts (inl lacks) none = none lacks.file lacks.counts
   damage_counts (inr (inl twins)) none = none A twins.a_counts.counts
   damage_counts (inr (inr broken)) none = none broken.file broken.newest.counts.counts

@@ -16,7 +16,7 @@ use Rattle.realm_journal.specs.Gates.{open_gate, closed_gate, IsWholeAt}
 use Rattle.realm_journal.specs.Appending.{IsPart, Appended}
 use Rattle.realm_journal.specs.Shutting.{IsShutting, Shut}
 use Rattle.realm_pages.specs.declared.error.SwitchError.{SwitchError}
-use Rattle.realm_pages.specs.Generations.{Generation, page_count, header_of, gate_of, part_behind, pages_of, text_of}
+use Rattle.realm_pages.specs.Generations.{Generation, page_count, header_of, gate_of, part_behind, pages_of, generation_text}
 use Rattle.realm_pages.specs.Files.{page_at, HoldsAlone}
 use Rattle.realm_pages.specs.Switching.{IsSwitching, Switched}
 use Rattle.realm_pages.proofs.Counting.{enough}
@@ -34,11 +34,11 @@ module _ (g : Generation) where
   pages = pages_of count g.payload
 
   -- the place of the first record's gate
-  pub gate_is : 0 + 1 + length (text_of g) ≡ gate_of g
+  pub gate_is : 0 + 1 + length (generation_text g) ≡ gate_of g
   gate_is =
       omega (arith, length-append head pages, head_size (header_of g), length_pages g.payload count (le_refl count))
 
-  module _ (c rest : List ℕ) (is : c ≡ open_gate ∷ (text_of g ++ closed_gate ∷ rest)) where
+  module _ (c rest : List ℕ) (is : c ≡ open_gate ∷ (generation_text g ++ closed_gate ∷ rest)) where
     abbrev tail : List ℕ
     tail = closed_gate ∷ rest
 
@@ -47,7 +47,7 @@ module _ (g : Generation) where
     parts = is ∙ ap (λ l. open_gate ∷ l) (append_assoc head pages tail)
 
     size : length c ≡ gate_of g + 1 + length rest
-    size = omega (arith, gate_is, ap length is, length-append (text_of g) tail)
+    size = omega (arith, gate_is, ap length is, length-append (generation_text g) tail)
 
     page_is : (k : ℕ) → k < count → page_at (k + 1) c ≡ page_of (k + 1) (part_behind k g.payload)
     page_is k lt =
@@ -60,7 +60,7 @@ module _ (g : Generation) where
 
     gate_closed : get_or c (gate_of g) 0 ≡ closed_gate
     gate_closed =
-        let front = open_gate ∷ text_of g in
+        let front = open_gate ∷ generation_text g in
         let long : length front ≡ gate_of g = omega (arith, gate_is) in
         ap (λ l. get_or l (gate_of g) 0) is ∙ get_or_at front closed_gate rest 0 (gate_of g) long
 
@@ -93,7 +93,7 @@ module _ (g : Generation) where
   shut_switching shut = writes_wider shutting shut.writes
 
   module _ (has_head : IsHeader (header_of g)) {a b c : View} {file : FileName} {text : List ℕ} {r : Result Unit JournalError}
-      {s : Result ℕ JournalError} (shut : Shut a b file 0 r) (is : text ≡ text_of g) (appended : Appended b c file 0 text s) where
+      {s : Result ℕ JournalError} (shut : Shut a b file 0 r) (is : text ≡ generation_text g) (appended : Appended b c file 0 text s) where
     -- the text stands whole
     whole_holds : (e : List ℕ) → IsWholeAt 0 text e → HoldsAlone e g
     whole_holds e whole =

@@ -82,5 +82,5 @@ pub record IsBroken (files : FileName → List ℕ) (damage : Damage) : Type 0 w
   pub fault : HasPageFault file (files file) head.length head.pages damage
 
 -- The fault that decides: heads come first, then the two generations, then the pages of the newest file.
-abbrev pub IsDamaged : Damage → (FileName → List ℕ) → Type 0
-IsDamaged damage files = LacksHead files damage ⊎ (AreTwins files damage ⊎ IsBroken files damage)
+abbrev pub HasDamagedPages : Damage → (FileName → List ℕ) → Type 0
+HasDamagedPages damage files = LacksHead files damage ⊎ (AreTwins files damage ⊎ IsBroken files damage)

@@ -5,7 +5,7 @@ use Rattle.outside_world.specs.View.{View}
 use Rattle.realm_journal.specs.Reading.{OnlyAsks}
 use Rattle.realm_pages.specs.Generations.{Generation, header_of, gate_of}
 use Rattle.realm_pages.specs.Files.{Counts, Holds}
-use Rattle.realm_pages.specs.Damages.{IsNewest, IsDamaged}
+use Rattle.realm_pages.specs.Damages.{IsNewest, HasDamagedPages}
 use Rattle.realm_pages.specs.declared.damage.Damage.{Damage}
 use Rattle.realm_pages.specs.declared.error.PagesError.{PagesError}
 use Rattle.realm_pages.specs.declared.error.PagesError.TheVariants.{Damaged}
@@ -31,4 +31,4 @@ pub record FoundNewest (old new : View) (result : Result (Option Found) PagesErr
   pub asks : OnlyAsks old new
   pub none : result ≡ Ok None → (file : FileName) → Counts (old.reads file) → ⊥
   pub found : (found : Found) → result ≡ Ok (Some found) → IsFound old.reads found
-  pub damaged : (damage : Damage) → result ≡ Err (Damaged damage) → IsDamaged damage old.reads
+  pub damaged : (damage : Damage) → result ≡ Err (Damaged damage) → HasDamagedPages damage old.reads

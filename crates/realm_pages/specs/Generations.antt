@@ -40,5 +40,5 @@ pages_of zero payload = []
 pages_of (suc n) payload = pages_of n payload ++ page_of (n + 1) (part_behind n payload)
 
 -- what stands in a file between the gate of the generation and that of the first record
-abbrev pub text_of : Generation → List ℕ
-text_of g = header_text (header_of g) ++ pages_of (page_count (length g.payload)) g.payload
+abbrev pub generation_text : Generation → List ℕ
+generation_text g = header_text (header_of g) ++ pages_of (page_count (length g.payload)) g.payload

@@ -1,7 +1,7 @@
 -- What a generation stands for that is ready to be written.
 use Rattle.std.specs.Prelude.{◌≡◌, ℕ, zero, suc, ◌+◌, ◌*◌, List, [], ◌++◌, take, drop}
 use Rattle.record_codec.specs.Heads.{IsHeader}
-use Rattle.realm_pages.specs.Generations.{Generation, header_of, text_of}
+use Rattle.realm_pages.specs.Generations.{Generation, header_of, generation_text}
 use Rattle.realm_pages.specs.declared.prepared.PreparedPages.TheInside.{Inside}
 
 -- what the first n pages of these bytes hold, each with the zeros behind it
@@ -19,4 +19,4 @@ generation_of p = record {
 -- which has a head, and the block is its text
 pub record IsOfGeneration (p : Inside) : Type 0 where
   pub has_head : IsHeader (header_of (generation_of p))
-  pub is_text : p.block ≡ text_of (generation_of p)
+  pub is_text : p.block ≡ generation_text (generation_of p)

@@ -3,7 +3,7 @@ ghost use Rattle.std.specs.Prelude.{◌≡◌, ◌*◌, ◌<◌, ◌+◌, ◌^�
 ghost use Rattle.record_codec.specs.Heads.{IsGeneration, IsHeader, header_text};
 ghost use Rattle.page_codec.specs.Pages.{Fills};
 ghost use Rattle.realm_pages.specs.Generations.{page_count, part_behind, pages_of};
-ghost use Rattle.realm_pages.specs.Generations.{Generation, header_of, text_of};
+ghost use Rattle.realm_pages.specs.Generations.{Generation, header_of, generation_text};
 
 use grid_base::NoMemory;
 use page_codec::encode_page;
@@ -105,7 +105,7 @@ fn part_for(payload: &[u8], pages: usize) -> &[u8]
 impl PreparedPages {
     /// The text between its gates.
     pub(crate) fn block(&self) -> &Block
-        ensures text { result.now ≡ text_of self.now }
+        ensures text { result.now ≡ generation_text self.now }
         ensures has_head { IsHeader (header_of self.now) }
     {
         &self.block
