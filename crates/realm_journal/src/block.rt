@@ -1,5 +1,5 @@
 //! A text between two gates, as it is to stand in a file, so that putting it there takes no memory.
-ghost use Rattle.std.specs.Prelude.{◌≡◌, ◌<◌, ◌^◌, ◌∷◌, [], ◌++◌, length, IfOk};
+ghost use Rattle.std.specs.Prelude.{◌≡◌, ◌<◌, ◌^◌, ◌∷◌, [], ◌++◌, length, drop, IfOk};
 ghost use Rattle.realm_journal.specs.Gates.{open_gate, closed_gate};
 
 use crate::{CLOSED, OPEN};
@@ -24,14 +24,22 @@ impl Model for Block {
     ghost invariant = { IsFramed };
 }
 
+/// What a block begins with, an open gate, with room for a text of so many bytes. The text goes behind it.
+pub fn begin_block(alloc: Global, room: usize) -> Result<Vec<u8>, NoMemory>
+    ensures gate { IfOk result (λ begun. begun.items ≡ open_gate ∷ []) }
+{
+    let mut begun = Vec::with_capacity(alloc, room.saturating_add(2))?;
+    begun.push(OPEN)?;
+    Ok(begun)
+}
+
 impl Block {
-    /// The text between its gates.
-    pub fn new(alloc: Global, text: &[u8]) -> Result<Block, NoMemory>
-        ensures text { IfOk result (λ block. block ≡ text.now) }
+    /// The block of the text that stands behind an open gate. No byte of it is copied where there is room.
+    pub fn close(begun: Vec<u8>) -> Result<Block, NoMemory>
+        requires gate { begun.items ≡ open_gate ∷ drop 1 begun.items }
+        ensures text { IfOk result (λ block. block ≡ drop 1 begun.items) }
     {
-        let mut whole = Vec::with_capacity(alloc, text.len().saturating_add(2))?;
-        whole.push(OPEN)?;
-        whole.extend_from_slice(text)?;
+        let mut whole = begun;
         whole.push(CLOSED)?;
         Ok(Block { whole })
     }

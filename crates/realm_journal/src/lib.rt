@@ -1,7 +1,7 @@
 //! Records in a file, each behind a gate: a byte that is written last, and makes the record count.
-//! Begin at `append`. Before a record is written, a closed gate stands in its place on the disk; the record is
-//! written behind it with a closed gate after it, and synced; then the gate is opened, and synced. So a crash at
-//! any moment leaves the record whole, or a closed gate.
+//! Begin at `append`. Before a record is written, a closed gate stands in its place on the disk; the record
+//! is written behind it with a closed gate after it, and synced; then the gate is opened, and synced. So a
+//! crash at any moment leaves the record whole, or a closed gate.
 #![tactic(auto)]
 
 mod appending;
@@ -14,7 +14,7 @@ mod scanning;
 mod shutting;
 
 pub use appending::{append, append_block};
-pub use block::Block;
+pub use block::{Block, begin_block};
 pub use error::{JournalError, ScanError};
 pub use prepared::{Prepared, prepare};
 pub use reading::read_from;

@@ -3,9 +3,9 @@ ghost use Rattle.std.specs.Prelude.{◌≡◌, IfOk};
 ghost use Rattle.record_codec.specs.Fitting.{IsRecord};
 ghost use Rattle.record_codec.specs.Spelling.{record_text};
 
-use crate::block::Block;
+use crate::block::{Block, begin_block};
 use grid_base::NoMemory;
-use record_codec::{Record, encode};
+use record_codec::{Record, push_record, room_for};
 use std::alloc::Global;
 use std::marker::Model;
 
@@ -31,8 +31,9 @@ pub fn prepare(alloc: Global, r: &Record) -> Result<Prepared, NoMemory>
     requires { IsRecord r.now }
     ensures { IfOk result (λ p. p ≡ r.now) }
 {
-    let text = encode(alloc, r)?;
-    let block = Block::new(alloc, &text)?;
+    let mut begun = begin_block(alloc, room_for(r))?;
+    push_record(&mut begun, r)?;
+    let block = Block::close(begun)?;
     Ok(Prepared { block })
 }
 

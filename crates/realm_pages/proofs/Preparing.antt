@@ -26,10 +26,9 @@ abbrev generation_by : Header → List ℕ → Generation
 generation_by head text = record { number = head.generation; payload = take head.length (held_in head.pages (drop 4095 text)) }
 
 -- a text that was made for a head
-pub text_is : (g : Generation) {head : Header} {block text made : List ℕ} → block ≡ text → text ≡ made
-    → made ≡ header_text head ++ pages_of (page_count (length g.payload)) g.payload → head ≡ header_of g → block ≡ generation_text g
-text_is g block text made head =
-    block ∙ text ∙ made ∙ ap (λ h. header_text h ++ pages_of (page_count (length g.payload)) g.payload) head
+pub text_is : (g : Generation) {head : Header} {block : List ℕ}
+    → block ≡ header_text head ++ pages_of (page_count (length g.payload)) g.payload → head ≡ header_of g → block ≡ generation_text g
+text_is g block head = block ∙ ap (λ h. header_text h ++ pages_of (page_count (length g.payload)) g.payload) head
 
 -- a head and a text are those of one generation
 pub generation_is : (p : Inside) (g : Generation) → p.head ≡ header_of g → p.block ≡ generation_text g → generation_of p ≡ g

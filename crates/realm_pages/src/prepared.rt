@@ -7,7 +7,7 @@ ghost use Rattle.realm_pages.specs.Generations.{Generation, header_of, generatio
 
 use grid_base::NoMemory;
 use page_codec::encode_page;
-use realm_journal::Block;
+use realm_journal::{Block, begin_block};
 use record_codec::{Header, encode_header};
 use std::alloc::Global;
 use std::marker::Model;
@@ -43,8 +43,7 @@ pub fn prepare_pages(
     ensures { IfOk result (λ p. p ≡ record { number = generation; payload = payload.now }) }
 {
     let head = head_for(generation, payload);
-    let text = text_for(alloc, &head, payload)?;
-    let block = Block::new(alloc, &text)?;
+    let block = block_for(alloc, &head, payload)?;
     Ok(PreparedPages { head, block })
 }
 
@@ -62,14 +61,20 @@ fn head_for(generation: u64, payload: &[u8]) -> Header
 }
 
 // The head, and the pages of a payload behind it.
-fn text_for(alloc: Global, head: &Header, payload: &[u8]) -> Result<Vec<u8>, NoMemory>
+fn block_for(alloc: Global, head: &Header, payload: &[u8]) -> Result<Block, NoMemory>
     requires { IsHeader head.now }
-    ensures { IfOk result (λ text. text.items
+    ensures { IfOk result (λ block. block
         ≡ header_text head.now ++ pages_of (page_count (length payload.now)) payload.now) }
 {
-    let mut text = Vec::from_slice(alloc, &encode_header(head))?;
-    push_pages(&mut text, payload)?;
-    Ok(text)
+    let mut begun = begin_block(alloc, room_for(payload.len()))?;
+    begun.extend_from_slice(&encode_header(head))?;
+    push_pages(&mut begun, payload)?;
+    Block::close(begun)
+}
+
+// At least as many bytes as the head and the pages of such a payload have.
+fn room_for(length: usize) -> usize {
+    pages_for(length).saturating_add(1).saturating_mul(4_096)
 }
 
 // The fewest pages that hold so many bytes.

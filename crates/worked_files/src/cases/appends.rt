@@ -4,7 +4,8 @@
 use crate::paper::{LEAVES, POINT, world_on};
 use outside_world::{FileName, Leave, MemoryWorld, Outside};
 use realm_journal::{
-    Block, JournalError, Prepared, append, append_block, prepare, read_from, scan, shut_gate,
+    Block, JournalError, Prepared, append, append_block, begin_block, prepare, read_from, scan,
+    shut_gate,
 };
 use record_codec::decode;
 use std::alloc::Global;
@@ -114,7 +115,9 @@ fn a_fault_ends_an_append(rt: HostRuntime) -> Result<(), Fail> {
 fn a_text_stands_between_its_gates(rt: HostRuntime) -> Result<(), Fail> {
     let alloc = rt.alloc();
     let mut world = world_on(alloc, b"?", &[], &[])?;
-    let block = Block::new(alloc, b"text")?;
+    let mut begun = begin_block(alloc, 4)?;
+    begun.extend_from_slice(b"text")?;
+    let block = Block::close(begun)?;
     assert_eq!(rt; shut_and_append_block(&mut world, &block), Ok(5));
     let file = read_from(alloc, &mut world, FileName::A, 0)?;
     assert_eq!(rt; file.as_slice(), b"\xa5text\0".as_slice());

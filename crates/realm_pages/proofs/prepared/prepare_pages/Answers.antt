@@ -10,11 +10,11 @@ invariant_of-result c =
     let g : Generation = record { number = c.args.generation; payload = c.args.payload.now } in
     let head = c.head_for-head.ensures.head in
     of_generation _ g (subst IsHeader head c.head_for-head.ensures.is_header) head
-    (text_is g c.in_ok-block.ensures.text c.deref.ensures.value c.in_ok-text.ensures head)
+    (text_is g c.in_ok-block.ensures head)
 
 -- which is read from it
 pub returns : goal.returns
 returns c =
     let g : Generation = record { number = c.args.generation; payload = c.args.payload.now } in
     let head = c.head_for-head.ensures.head in
-    generation_is _ g head (text_is g c.in_ok-block.ensures.text c.deref.ensures.value c.in_ok-text.ensures head)
+    generation_is _ g head (text_is g c.in_ok-block.ensures head)
