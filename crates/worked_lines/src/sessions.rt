@@ -40,7 +40,7 @@ fn crossings_meet_in_a_point(rt: HostRuntime) {
     compare(&rt, rt.alloc(), &CROSSINGS);
 }
 
-static CHAINS: [(&str, &str); 4] = [
+static CHAINS: [(&str, &str); 5] = [
     // Two diagonals of one cell.
     (
         "segment 0 0 1 1\nsegment 0 1 1 0\nchain 1\nchain 2\ntrace 2\n",
@@ -58,7 +58,12 @@ static CHAINS: [(&str, &str); 4] = [
          chain 3\n0 3\n2 1\n3 0\nchain 3\n0 1\n2 1\n3 2\n\
          trace 1\nmeet 0 1 3 2 0 3 3 0 2 1\n",
     ),
-    // Across the whole grid.
+    // Across a quarter of the grid, and the whole of it.
+    (
+        "segment 0 0 268435455 1\nsegment 0 1 268435455 0\nchain 1\n",
+        "ok 1 steps 0 first 1 new 1\nok 2 steps 1 first 2 new 1\n\
+         chain 3\n0 0\n134217728 1\n268435455 1\n",
+    ),
     (
         "segment 0 0 1073741823 1\nsegment 0 1 1073741823 0\nchain 1\n",
         "ok 1 steps 0 first 1 new 1\nok 2 steps 1 first 2 new 1\n\

@@ -7,7 +7,7 @@ use crate::paper::{realm, segments};
 use grid_base::Segment;
 use plane_cells::{interior, outer_sides, side_classes};
 use rose_values::LinesValue;
-use segment_lists::are_noded;
+use segment_lists::{are_noded, segments_with};
 use std::alloc::Global;
 use std::test::Fail;
 
