@@ -13,7 +13,8 @@ use std::alloc::Global;
 // Whether the drawing has the parts of the value: explicit points, or originals, those of a region even at each point as they
 // were given.
 pub(crate) fn has_parts(alloc: Global, drawing: &Drawing, v: &KeptValue) -> Result<bool, NoMemory>
-    ensures { IfOk result (λ has. IsTrue has ↔ HasParts drawing.now.drawing v.now.kind (parts_of v.now.parts)) }
+    ensures { IfOk result (λ has. IsTrue has
+        ↔ HasParts drawing.now.drawing v.now.kind (parts_of v.now.parts)) }
 {
     match &v.parts {
         KeptParts::Points(list) => match v.kind {

@@ -1,4 +1,4 @@
-use Rattle.std.proofs.Common.{◌≡◌, ◌∙◌, Some, List, ℕ, ap, sym}
+use Rattle.std.proofs.Common.{◌∙◌, Some, List, ℕ, ap, sym}
 use Rattle.std.specs.Option.{option_copied}
 use Rattle.value_table.specs.declared.value.Value.{Value}
 use Rattle.state_copies.proofs.NamedValues.{key_there, value_there, value_at}
