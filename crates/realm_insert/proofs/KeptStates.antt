@@ -15,7 +15,7 @@ use Rattle.realm_index.specs.Index.{Entries}
 use Rattle.record_codec.specs.Payload.{AreOfKind, IsKeptTrace}
 use Rattle.record_codec.specs.Traces.{IsTrace}
 use Rattle.record_codec.specs.declared.snapshot.Kept.{Kept}
-use Rattle.state_check.specs.Tabled.{AreAscending}
+use Rattle.state_check.specs.Tabled.{AreAscending, kept_parts}
 use Rattle.value_geometry.specs.Parts.{HasParts}
 use Rattle.value_table.specs.Table.{NamedValues, HasDistinctNames}
 use Rattle.value_table.specs.declared.value.Parts.{Parts}
@@ -57,7 +57,7 @@ same_state d e n m v w k j t u drawing next named changes traces =
 
 -- ---- values
 -- what a drawing has the parts of is made of what its kind asks for
-of_kind : (d : Drawing) (kind : Kind) (made : Parts) → HasParts d kind made → AreOfKind kind made
+of_kind : (d : Drawing) (kind : Kind) (made : Parts) → HasParts d kind made → AreOfKind kind (kept_parts made)
 of_kind d kinds.Points (parts.Points list) has = tt
 of_kind d kinds.Points (parts.Ids ids) has = absurd has
 of_kind d kinds.Lines (parts.Points list) has = absurd has
@@ -66,7 +66,7 @@ of_kind d kinds.Regions (parts.Points list) has = absurd has
 of_kind d kinds.Regions (parts.Ids ids) has = tt
 
 pub values_of_kinds : (d : Drawing) (values : NamedValues) → AreValuesOf d values
-    → All (λ entry. IsName entry.0 × AreOfKind entry.1.kind entry.1.parts) values
+    → All (λ entry. IsName entry.0 × AreOfKind entry.1.kind (kept_parts entry.1.parts)) values
 values_of_kinds d values fit = λ k entry within.
     let has = fit k entry within in
     (has.0, of_kind d _ _ has.1)

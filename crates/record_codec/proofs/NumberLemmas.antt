@@ -1,8 +1,8 @@
 -- This file shows how numbers are read, and written over bytes.
-use Rattle.std.proofs.Common.{◌≡◌, ℕ, ◌-◌, ◌<◌, List, ◌++◌, length, take, drop, refl, append_assoc, arith}
+use Rattle.std.proofs.Common.{◌≡◌, ℕ, List, ◌++◌, length, take, drop, refl, append_assoc, arith}
 use Rattle.std.specs.Int.{w32, w64, from_be_bytes, to_be_bytes}
 use Rattle.std.proofs.Math.ListN.{drop_of_length-le}
-use Rattle.std.proofs.lemmas.List.{take_at, drop_at, length-take, length-drop}
+use Rattle.std.proofs.lemmas.List.{take_at, drop_at, length-take}
 use borrow.Rule.Slice.PartMut.{put_mid, mid_of}
 use Rattle.byteorder.specs.Endian.{big_number}
 use Rattle.record_codec.specs.Spelling.{string}

@@ -32,14 +32,11 @@ is_on_grid-true p e =
 on_grid-is : (p : GridPoint) → OnGrid p → is_on_grid p ≡ true
 on_grid-is p on = grind (arith, common_steps, on.column, on.row)
 
-pub is_before-true : (p q : GridPoint) → is_before p q ≡ true → IsBefore p q
+is_before-true : (p q : GridPoint) → is_before p q ≡ true → IsBefore p q
 is_before-true p q e = grind (arith, common_steps, e)
 
-pub before-is : (p q : GridPoint) → IsBefore p q → is_before p q ≡ true
+before-is : (p q : GridPoint) → IsBefore p q → is_before p q ≡ true
 before-is p q h = grind (arith, common_steps, h)
-
-pub before-along : (p q r : GridPoint) → IsBefore p q → IsBefore q r → IsBefore p r
-before-along p q r h k = grind (arith, h, k)
 
 is_segment_before-true : (s t : GridSegment) → is_segment_before s t ≡ true → IsSegmentBefore s t
 is_segment_before-true s t e =

@@ -1,61 +1,32 @@
 -- This file shows that values are read exactly where their texts stand.
-use Rattle.std.proofs.Common.{◌≡◌, ℕ, zero, suc, ◌<◌, ◌^◌, true, List, [], ◌∷◌, ◌++◌, length, nat_lt, Some, refl, arith}
-use Rattle.std.specs.Prelude.{AllPairs}
+use Rattle.std.proofs.Common.{◌≡◌, ℕ, zero, suc, ◌<◌, ◌^◌, List, [], ◌∷◌, ◌++◌, length, Some, refl}
 use Rattle.std.specs.Int.{w32, to_be_bytes}
-use Rattle.std.proofs.lemmas.Grind.{common_steps}
-use Rattle.grid_base.specs.Point.{GridPoint, OnGrid, IsBefore, is_before}
+use Rattle.grid_base.specs.Point.{OnGrid}
 use Rattle.grid_base.specs.declared.kinds.Kind.{Kind}
 use Rattle.grid_base.specs.declared.kinds.Kind.TheVariants as kinds
-use Rattle.value_table.specs.declared.value.Value.{Value}
-use Rattle.value_table.specs.declared.value.Parts.{Parts}
-use Rattle.value_table.specs.declared.value.Parts.TheVariants.{Points, Ids}
+use Rattle.record_codec.specs.declared.snapshot.KeptValue.{KeptValue}
+use Rattle.record_codec.specs.declared.snapshot.KeptParts.{KeptParts}
+use Rattle.record_codec.specs.declared.snapshot.KeptParts.TheVariants.{Points, Ids}
 use Rattle.record_codec.specs.Spelling.{point, list}
 use Rattle.record_codec.specs.Fitting.{IsList}
-use Rattle.record_codec.specs.Reading.{byte_at, front_at, number_at, point_at}
+use Rattle.record_codec.specs.Reading.{byte_at, front_at, number_at, point_at, list_at}
 use Rattle.record_codec.specs.Payload.{short, parts_text, value_text, named, AreParts, AreOfKind, IsValue, IsNamed, short_at}
-use Rattle.record_codec.specs.Payload.{ascends, ascending_at, points_value_at, ids_value_at, value_behind, value_at, named_at}
+use Rattle.record_codec.specs.Payload.{points_value_at, ids_value_at, value_behind, value_at, named_at}
 use Rattle.record_codec.proofs.Bytes.{IsBytes, IsBytes-rest, Takes, Takes-then, four_bytes}
-use Rattle.record_codec.proofs.Codecs.{IsCodec, bind_some, both_codec, made_codec, tested_codec, renamed_codec, number_codec}
+use Rattle.record_codec.proofs.Codecs.{IsCodec, bind_some, both_codec, made_codec, renamed_codec, number_codec}
 use Rattle.record_codec.proofs.Codecs.{byte_codec, front_takes, front_again, list_codec, kind_takes}
-use Rattle.record_codec.proofs.PlaceLemmas.{point_codec, is_before-true, before-is, before-along}
-use Rattle.record_codec.proofs.Ascending.{in_order, order_ascends}
+use Rattle.record_codec.proofs.PlaceLemmas.{point_codec}
 
--- ---- lists that ascend
+-- ---- parts
+points_codec : IsCodec (IsList OnGrid) (list point) (list_at point_at)
+points_codec = list_codec point_codec
 
--- points of which each comes before the next are in order
-pub points_in_order : (ps : List GridPoint) → ascends is_before ps ≡ true → AllPairs IsBefore ps
-points_in_order ps e = in_order is_before IsBefore is_before-true before-is before-along ps e
-
-abbrev IsLess : ℕ → ℕ → Type 0
-IsLess m n = m < n
-
-less-true : (m n : ℕ) → nat_lt m n ≡ true → m < n
-less-true m n e = grind (arith, common_steps, e)
-
-less-is : (m n : ℕ) → m < n → nat_lt m n ≡ true
-less-is m n lt = grind (arith, common_steps, lt)
-
-less-along : (l m n : ℕ) → l < m → m < n → l < n
-less-along l m n h k = omega (arith, h, k)
-
--- ids of which each is less than the next are in order
-pub ids_in_order : (ids : List ℕ) → ascends nat_lt ids ≡ true → AllPairs (λ m n. m < n) ids
-ids_in_order ids e = in_order nat_lt IsLess less-true less-is less-along ids e
-
-points_codec : IsCodec (λ ps. IsList OnGrid ps × AllPairs IsBefore ps) (list point) (ascending_at is_before point_at)
-points_codec = renamed_codec (λ ps. IsList OnGrid ps × AllPairs IsBefore ps) (λ ps has. (has.0, points_in_order ps has.1))
-    (λ ps is. (is.0, order_ascends is_before IsBefore is_before-true before-is before-along ps is.1))
-    (tested_codec (ascends is_before) (list_codec point_codec))
-
-ids_codec : IsCodec (λ ids. IsList (λ id. id < 2 ^ 32) ids × AllPairs (λ m n. m < n) ids) (list (to_be_bytes w32))
-    (ascending_at nat_lt (number_at w32))
-ids_codec = renamed_codec (λ ids. IsList (λ id. id < 2 ^ 32) ids × AllPairs (λ m n. m < n) ids) (λ ids has. (has.0, ids_in_order ids has.1))
-    (λ ids is. (is.0, order_ascends nat_lt IsLess less-true less-is less-along ids is.1))
-    (tested_codec (ascends nat_lt) (list_codec (number_codec w32 (2 ^ 32) four_bytes)))
+ids_codec : IsCodec (IsList (λ id. id < 2 ^ 32)) (list (to_be_bytes w32)) (list_at (number_at w32))
+ids_codec = list_codec (number_codec w32 (2 ^ 32) four_bytes)
 
 -- ---- values
 
-behind_takes : (kind : ℕ) (bytes : List ℕ) (v : Value) (rest : List ℕ) → IsBytes bytes → value_behind kind bytes ≡ Some (v, rest)
+behind_takes : (kind : ℕ) (bytes : List ℕ) (v : KeptValue) (rest : List ℕ) → IsBytes bytes → value_behind kind bytes ≡ Some (v, rest)
     → IsValue v × Takes (kind ∷ bytes) (value_text v) rest
 unfolding points_value_at ids_value_at value_text parts_text
 behind_takes zero bytes v rest is_bytes e = absurd cc
@@ -70,13 +41,13 @@ behind_takes (suc (suc (suc zero))) bytes v rest is_bytes e =
     (λ ids has. record { of_kind = tt; parts = has }) (λ ids. refl) bytes v rest is_bytes e
 behind_takes (suc (suc (suc (suc kind)))) bytes v rest is_bytes e = absurd cc
 
-value_takes : (bytes : List ℕ) (v : Value) (rest : List ℕ) → IsBytes bytes → value_at bytes ≡ Some (v, rest)
+value_takes : (bytes : List ℕ) (v : KeptValue) (rest : List ℕ) → IsBytes bytes → value_at bytes ≡ Some (v, rest)
     → IsValue v × Takes bytes (value_text v) rest
 unfolding value_at byte_at
 value_takes [] v rest is_bytes e = absurd cc
 value_takes (kind ∷ bytes) v rest is_bytes e = behind_takes kind bytes v rest (IsBytes-rest kind bytes is_bytes) e
 
-of_kind : (kind : Kind) (parts : Parts) (rest : List ℕ) → AreOfKind kind parts → AreParts parts
+of_kind : (kind : Kind) (parts : KeptParts) (rest : List ℕ) → AreOfKind kind parts → AreParts parts
     → value_at (value_text (record { kind = kind; parts = parts }) ++ rest) ≡ Some (record { kind = kind; parts = parts }, rest)
 unfolding value_at byte_at points_value_at ids_value_at value_text parts_text
 of_kind kinds.Points (Points points) rest fit are = rw (points_codec.again points rest are) refl
@@ -111,5 +82,5 @@ short_codec = record { takes = short_takes; again = short_again }
 pub named_codec : IsCodec IsNamed named named_at
 unfolding named named_at
 named_codec = renamed_codec IsNamed (λ n has. record { name = has.0; value = has.1 }) (λ n is. (is.name, is.value))
-    (made_codec (λ (x : List ℕ × Value). record { name = x.0; value = x.1 }) (λ n. (n.name, n.value)) (λ n. refl) (λ x. refl)
+    (made_codec (λ (x : List ℕ × KeptValue). record { name = x.0; value = x.1 }) (λ n. (n.name, n.value)) (λ n. refl) (λ x. refl)
     (both_codec short_codec value_codec))

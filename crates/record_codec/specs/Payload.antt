@@ -1,22 +1,22 @@
 -- The payload of the pages: a whole state as bytes.
-use Rattle.std.specs.Prelude.{ℕ, zero, suc, ◌<◌, ◌^◌, List, [], ◌∷◌, ◌++◌, length, AllPairs, Bool}
+use Rattle.std.specs.Prelude.{ℕ, zero, suc, ◌<◌, ◌^◌, List, [], ◌∷◌, ◌++◌, length, Bool}
 use Rattle.std.specs.Prelude.{true, false}
-use Rattle.std.specs.Prelude.{◌&&◌, ◌==◌, nat_lt, if◌then◌else◌, None}
+use Rattle.std.specs.Prelude.{◌&&◌, ◌==◌, if◌then◌else◌, None}
 use Rattle.std.specs.Int.{w32, w64, to_be_bytes}
-use Rattle.grid_base.specs.Point.{OnGrid, IsBefore, is_before}
+use Rattle.grid_base.specs.Point.{OnGrid}
 use Rattle.grid_base.specs.declared.kinds.Kind.{Kind}
 use Rattle.grid_base.specs.declared.kinds.Kind.TheVariants as kinds
 use Rattle.grid_base.specs.declared.original.Original.{Original}
-use Rattle.value_table.specs.declared.value.Value.{Value}
-use Rattle.value_table.specs.declared.value.Parts.{Parts}
-use Rattle.value_table.specs.declared.value.Parts.TheVariants.{Points, Ids}
 use Rattle.record_codec.specs.declared.snapshot.Named.{Named}
+use Rattle.record_codec.specs.declared.snapshot.KeptValue.{KeptValue}
+use Rattle.record_codec.specs.declared.snapshot.KeptParts.{KeptParts}
+use Rattle.record_codec.specs.declared.snapshot.KeptParts.TheVariants.{Points, Ids}
 use Rattle.record_codec.specs.declared.snapshot.Kept.{Kept}
 use Rattle.record_codec.specs.declared.snapshot.Snapshot.{Snapshot}
 use Rattle.record_codec.specs.Spelling.{point, step, list}
 use Rattle.record_codec.specs.Traces.{IsStep}
 use Rattle.record_codec.specs.Fitting.{IsList}
-use Rattle.record_codec.specs.Reading.{Reader, ◌>>=◌, both, made, tested, byte_at, front_at}
+use Rattle.record_codec.specs.Reading.{Reader, ◌>>=◌, both, made, byte_at, front_at}
 use Rattle.record_codec.specs.Reading.{number_at, list_at, point_at, step_at}
 
 -- ---- texts
@@ -36,12 +36,12 @@ kind_byte kinds.Lines = 2
 kind_byte kinds.Regions = 3
 
 -- the parts of a value: its points, or the ids of its originals
-unfoldable pub parts_text : Parts → List ℕ
+unfoldable pub parts_text : KeptParts → List ℕ
 parts_text (Points points) = list point points
 parts_text (Ids ids) = list (to_be_bytes w32) ids
 
 -- a value: its kind and its parts
-unfoldable pub value_text : Value → List ℕ
+unfoldable pub value_text : KeptValue → List ℕ
 value_text v = kind_byte v.kind ∷ parts_text v.parts
 
 -- a value behind its name
@@ -90,13 +90,13 @@ pub record IsOriginal (o : Original) : Type 0 where
   pub to : OnGrid o.b
   pub chain : IsList OnGrid o.chain
 
--- the parts are points or ids, ascending, and all fit
-abbrev pub AreParts : Parts → Type 0
-AreParts (Points points) = IsList OnGrid points × AllPairs IsBefore points
-AreParts (Ids ids) = IsList (λ id. id < 2 ^ 32) ids × AllPairs (λ m n. m < n) ids
+-- the parts are points or ids, in any order, and all fit
+abbrev pub AreParts : KeptParts → Type 0
+AreParts (Points points) = IsList OnGrid points
+AreParts (Ids ids) = IsList (λ id. id < 2 ^ 32) ids
 
 -- points for points values, and ids for the others
-abbrev pub AreOfKind : Kind → Parts → Type 0
+abbrev pub AreOfKind : Kind → KeptParts → Type 0
 AreOfKind kinds.Points (Points points) = Unit {0}
 AreOfKind kinds.Lines (Ids ids) = Unit {0}
 AreOfKind kinds.Regions (Ids ids) = Unit {0}
@@ -105,7 +105,7 @@ AreOfKind kinds.Lines (Points points) = ⊥
 AreOfKind kinds.Regions (Points points) = ⊥
 
 -- the value is made of what its kind asks for
-pub record IsValue (v : Value) : Type 0 where
+pub record IsValue (v : KeptValue) : Type 0 where
   pub of_kind : AreOfKind v.kind v.parts
   pub parts : AreParts v.parts
 
@@ -141,28 +141,16 @@ short_at bytes = do
   n ← byte_at bytes
   front_at n.0 n.1
 
--- whether each item comes before the next
-unfoldable pub ascends : {A : Type 0} → (A → A → Bool) → List A → Bool
-ascends before [] = true
-ascends before (x ∷ []) = true
-ascends before (x ∷ y ∷ more) = if before x y then ascends before (y ∷ more) else false
-
--- a list that ascends
-abbrev pub ascending_at : {A : Type 0} → (A → A → Bool) → Reader A → Reader (List A)
-ascending_at before read = tested (ascends before) (list_at read)
-
 -- a points value
-unfoldable pub points_value_at : Reader Value
-points_value_at = made (λ points. record { kind = kinds.Points; parts = Points points })
-    (ascending_at is_before point_at)
+unfoldable pub points_value_at : Reader KeptValue
+points_value_at = made (λ points. record { kind = kinds.Points; parts = Points points }) (list_at point_at)
 
 -- a value of this kind, which is made of ids
-unfoldable pub ids_value_at : Kind → Reader Value
-ids_value_at kind = made (λ ids. record { kind = kind; parts = Ids ids })
-    (ascending_at nat_lt (number_at w32))
+unfoldable pub ids_value_at : Kind → Reader KeptValue
+ids_value_at kind = made (λ ids. record { kind = kind; parts = Ids ids }) (list_at (number_at w32))
 
 -- a value of the kind of this byte
-abbrev pub value_behind : ℕ → Reader Value
+abbrev pub value_behind : ℕ → Reader KeptValue
 value_behind zero bytes = None
 value_behind (suc zero) bytes = points_value_at bytes
 value_behind (suc (suc zero)) bytes = ids_value_at kinds.Lines bytes
@@ -170,7 +158,7 @@ value_behind (suc (suc (suc zero))) bytes = ids_value_at kinds.Regions bytes
 value_behind (suc (suc (suc (suc kind)))) bytes = None
 
 -- a value: its kind and its parts
-unfoldable pub value_at : Reader Value
+unfoldable pub value_at : Reader KeptValue
 value_at bytes = do
   kind ← byte_at bytes
   value_behind kind.0 kind.1

@@ -1,5 +1,5 @@
 -- This file shows that a sorted list of points stands in pairs exactly where each point stands in it an even number of times.
-use Rattle.std.proofs.Common.{◌≡◌, ℕ, ◌+◌, ◌<◌, ◌≤◌, ◌%◌, Bool, true, false, cond, ◌||◌, List, [], ◌∷◌, ◌++◌, length, get_or, map, All}
+use Rattle.std.proofs.Common.{◌≡◌, ◌+◌, ◌%◌, Bool, true, false, cond, ◌||◌, List, [], ◌∷◌, get_or, map, All}
 use Rattle.std.proofs.Common.{AllPairs}
 use Rattle.std.proofs.Common.{count_by, IsPermutation, refl, sym, ap, ap₂, subst, ◌∙◌, inl, inr, arith}
 use Rattle.std.specs.List.{flat_map}
@@ -10,7 +10,6 @@ use Rattle.std.proofs.lemmas.Bool.Decides.{nat_tests}
 use Rattle.std.proofs.lemmas.List.Elements.{All-cons, All-head, All-tail}
 use Rattle.std.proofs.lemmas.List.Sorted.{sorted_far, ranks_by, sum_by-IsPermutation}
 use Rattle.grid_base.specs.Point.{GridPoint, IsBefore, is_point, point_cmp}
-use Rattle.grid_base.specs.Segment.{GridSegment}
 use Rattle.grid_base.specs.Border.{is_end}
 use Rattle.grid_base.specs.declared.original.Original.{Original}
 use Rattle.grid_base.proofs.Orders.{point_cmp-total, point_cmp-Less, is_point-same, is_point-itself, IsBefore-asym}

@@ -1,10 +1,10 @@
 -- This file shows that a name is ASCII, and so is UTF-8.
-use Rattle.std.proofs.Common.{◌≡◌, ℕ, zero, suc, ◌<◌, true, List, [], ◌∷◌, arith}
+use Rattle.std.proofs.Common.{◌≡◌, ℕ, zero, suc, true, List, [], ◌∷◌, arith}
 use Rattle.std.specs.List.{AllByRecursion}
 use Rattle.std.specs.Str.{IsAscii, IsUtf8}
 use Rattle.std.proofs.lemmas.Bool.Decides.{nat_tests}
 use Rattle.std.proofs.lemmas.Str.{IsUtf8-from_ascii}
-use Rattle.line_grammar.specs.Spellable.{IsName, is_letter, is_name_byte}
+use Rattle.line_grammar.specs.Spellable.{IsName, is_name_byte}
 
 name_bytes_are : (bytes : List ℕ) → AllByRecursion (λ b. is_name_byte b ≡ true) bytes → IsAscii bytes
 name_bytes_are [] all i = omega arith

@@ -1,9 +1,7 @@
 -- This file shows what a table of the first values of a list becomes with one value more.
-use Rattle.std.proofs.Common.{◌≡◌, ◌≢◌, ℕ, ◌+◌, ◌<◌, ◌≤◌, true, List, [], ◌∷◌, ◌++◌, length, get_or, take, take_all, map, All, AllPairs}
-use Rattle.std.proofs.Common.{Contains}
+use Rattle.std.proofs.Common.{◌≡◌, ℕ, ◌+◌, ◌<◌, ◌≤◌, true, List, [], ◌∷◌, ◌++◌, length, get_or, take, take_all, All}
 use Rattle.std.proofs.Common.{Option, Some, None, IsSome, refl, sym, ap, subst, ◌∙◌, arith}
-use Rattle.std.specs.Map.{keys_of, lookup}
-use Rattle.std.specs.Option.{is_some}
+use Rattle.std.specs.Map.{keys_of}
 use Rattle.std.specs.Str.{bytes_eq}
 use Rattle.std.proofs.lemmas.List.{take_more, get_or-map, get_or-take, map-append, length-map, length-take}
 use Rattle.std.proofs.lemmas.List.Elements.{All-nil, All-push}
@@ -11,11 +9,10 @@ use Rattle.std.proofs.lemmas.Map.Entries.{place_from_lookup}
 use Rattle.std.proofs.lemmas.Slice.Eq.{bytes_eq-Decides}
 use Rattle.std.proofs.lemmas.Option.{slice_get_within, get_or_from_slice_get}
 use Rattle.grid_base.specs.Drawing.{Drawing}
-use Rattle.grid_base.proofs.Elements.{same_place}
 use Rattle.record_codec.specs.declared.snapshot.Named.{Named}
 use Rattle.value_table.specs.Table.{NamedValues, IsNamed, value_named, HasDistinctNames}
 use Rattle.value_table.specs.declared.value.Value.{Value}
-use Rattle.state_check.specs.Tabled.{AreTabled, AreAscending, Fits, entries_of, entry_of}
+use Rattle.state_check.specs.Tabled.{AreTabled, AreAscending, Fits, entries_of, entry_of, parts_of}
 
 -- the table has the first i values, which fit
 pub record HasFirst (d : Drawing) (values : List Named) (i : ℕ) (table : NamedValues) : Type 0 where
@@ -32,7 +29,7 @@ none_there d values table is = record {
 
 pub one_more : (d : Drawing) (values : List Named) (i : ℕ) (n : Named) (old new : NamedValues) → i < length values
     → n ≡ get_or values i n → HasFirst d values i old → new ≡ old ++ entry_of n ∷ [] → Fits d (entry_of n)
-    → AreAscending n.value.parts → HasFirst d values (i + 1) new
+    → AreAscending (parts_of n.value.parts) → HasFirst d values (i + 1) new
 one_more d values i n old new within is was now fits ascends =
     let more : take i values ++ n ∷ [] ≡ take (i + 1) values =
     ap (λ (m : Named). take i values ++ m ∷ []) is ∙ sym (take_more values i n within) in
@@ -72,14 +69,17 @@ key_at values j n within =
 
 -- a value that may not be the next one may not be there at all
 pub not_the_next : (d : Drawing) (values : List Named) (i : ℕ) (n : Named) (old : NamedValues) → i < length values
-    → n ≡ get_or values i n → HasFirst d values i old → (Fits d (entry_of n) → IsNamed n.name old)
+    → n ≡ get_or values i n → HasFirst d values i old
+    → (Fits d (entry_of n) → AreAscending (parts_of n.value.parts) → IsNamed n.name old)
     → AreTabled d (entries_of values) → ⊥
 not_the_next d values i n old within is was twice are =
     let long = length-map values entry_of in
     let at : get_or (entries_of values) i (entry_of n) ≡ entry_of n =
     get_or-map entry_of values i n (entry_of n) within ∙ ap entry_of (sym is) in
-    let fits = subst (Fits d) at (are.fit i (entry_of n) (omega (arith, long, within))) in
-    let (k, k_within, named) = place_of_name n.name old (twice fits) in
+    let in_entries : i < length (entries_of values) = omega (arith, long, within) in
+    let fits = subst (Fits d) at (are.fit i (entry_of n) in_entries) in
+    let ascends = subst (λ (e : List ℕ × Value). AreAscending e.1.parts) at (are.ascend i (entry_of n) in_entries) in
+    let (k, k_within, named) = place_of_name n.name old (twice fits ascends) in
     let old_long = ap (λ (t : NamedValues). length t) was.are in
     let first_long = length-map (take i values) entry_of in
     let taken = length-take i values in

@@ -4,15 +4,32 @@ use Rattle.grid_base.specs.Point.{IsBefore}
 use Rattle.grid_base.specs.Drawing.{Drawing}
 use Rattle.line_grammar.specs.Spellable.{IsName}
 use Rattle.record_codec.specs.declared.snapshot.Named.{Named}
+use Rattle.record_codec.specs.declared.snapshot.KeptValue.{KeptValue}
+use Rattle.record_codec.specs.declared.snapshot.KeptParts.{KeptParts}
+use Rattle.record_codec.specs.declared.snapshot.KeptParts.TheVariants as kept
 use Rattle.value_geometry.specs.Parts.{HasParts}
 use Rattle.value_table.specs.Table.{NamedValues, HasDistinctNames}
 use Rattle.value_table.specs.declared.value.Value.{Value}
 use Rattle.value_table.specs.declared.value.Parts.{Parts}
 use Rattle.value_table.specs.declared.value.Parts.TheVariants.{Points, Ids}
 
+-- the parts that are kept, as a table has them
+abbrev pub parts_of : KeptParts → Parts
+parts_of (kept.Points points) = Points points
+parts_of (kept.Ids ids) = Ids ids
+
+-- the value that is kept, as a table has it
+abbrev pub value_of : KeptValue → Value
+value_of v = record { kind = v.kind; parts = parts_of v.parts }
+
+-- the parts of a table, as they are kept
+abbrev pub kept_parts : Parts → KeptParts
+kept_parts (Points points) = kept.Points points
+kept_parts (Ids ids) = kept.Ids ids
+
 -- a name with its value
 abbrev pub entry_of : Named → List ℕ × Value
-entry_of n = (n.name, n.value)
+entry_of n = (n.name, value_of n.value)
 
 -- the values by name, in their order
 abbrev pub entries_of : List Named → NamedValues

@@ -11,8 +11,10 @@ mod order;
 mod pairs;
 mod parts;
 mod table;
+mod values;
 
 pub use copies::{add_point, copied_points};
 pub use drawing::drawing_of;
 pub use numbers::numbers_fit;
-pub use table::{copied, table_of};
+pub use table::table_of;
+pub use values::kept_value;

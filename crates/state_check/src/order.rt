@@ -17,7 +17,25 @@ pub(crate) fn points_ascend(points: &[Point]) -> bool
     true
 }
 
-// Whether the ids rise, none of them twice.
+// Whether the numbers rise, none of them twice.
+pub(crate) fn numbers_rise(numbers: &[u32]) -> bool
+    ensures { IsTrue result ↔ AllPairs (λ m n. m < n) numbers.now }
+{
+    for i in 1..numbers.len() {
+        if !is_less(&numbers[i - 1], &numbers[i]) {
+            return false;
+        }
+    }
+    true
+}
+
+fn is_less(m: &u32, n: &u32) -> bool
+    ensures { IsTrue result ↔ (m.now < n.now) }
+{
+    *m < *n
+}
+
+// Whether the ids of the originals rise, none of them twice.
 pub(crate) fn ids_rise(originals: &[Original]) -> bool
     ensures { IsTrue result ↔ IsAscending originals.now }
 {

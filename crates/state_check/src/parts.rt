@@ -1,28 +1,30 @@
 //! Whether a drawing has the parts of a value.
 ghost use Rattle.std.specs.Prelude.{◌≡◌, ◌↔◌, IsTrue, IfOk, All, Contains};
 ghost use Rattle.value_geometry.specs.Parts.{HasParts, HasOriginals, HasEvenOriginals};
+ghost use Rattle.state_check.specs.Tabled.{parts_of};
 
 use crate::ends::ends_of;
 use crate::pairs::is_even;
 use grid_base::{Kind, NoMemory, Point};
 use realm_drawing::Drawing;
+use record_codec::{KeptParts, KeptValue};
 use std::alloc::Global;
-use value_table::{Parts, Value};
 
 // Whether the drawing has the parts of the value: explicit points, or originals, those of a region even at each point as they
 // were given.
-pub(crate) fn has_parts(alloc: Global, drawing: &Drawing, v: &Value) -> Result<bool, NoMemory>
-    ensures { IfOk result (λ has. IsTrue has ↔ HasParts drawing.now.drawing v.now.kind v.now.parts) }
+pub(crate) fn has_parts(alloc: Global, drawing: &Drawing, v: &KeptValue) -> Result<bool, NoMemory>
+    ensures { IfOk result (λ has. IsTrue has
+        ↔ HasParts drawing.now.drawing v.now.kind (parts_of v.now.parts)) }
 {
     match &v.parts {
-        Parts::Points(list) => match v.kind {
-            Kind::Points => Ok(are_explicit(drawing, list.points())),
+        KeptParts::Points(list) => match v.kind {
+            Kind::Points => Ok(are_explicit(drawing, list.items())),
             Kind::Lines | Kind::Regions => Ok(false),
         },
-        Parts::Ids(list) => match v.kind {
+        KeptParts::Ids(list) => match v.kind {
             Kind::Points => Ok(false),
-            Kind::Lines => are_there(alloc, drawing, list.ids()),
-            Kind::Regions => are_even(alloc, drawing, list.ids()),
+            Kind::Lines => are_there(alloc, drawing, list.items()),
+            Kind::Regions => are_even(alloc, drawing, list.items()),
         },
     }
 }

@@ -1,9 +1,9 @@
 -- This file shows which value stands at a place of a table, and which values are listed with their names.
-use Rattle.std.proofs.Common.{◌≡◌, ℕ, zero, suc, ◌+◌, ◌<◌, ◌≤◌, ◌^◌, Bool, true, false, List, [], ◌∷◌, ◌++◌, length, get_or, take}
-use Rattle.std.proofs.Common.{take_all, map, All}
-use Rattle.std.proofs.Common.{Option, Some, None, refl, sym, ap, subst, ◌∙◌, inl, inr, arith}
+use Rattle.std.proofs.Common.{◌≡◌, ℕ, zero, suc, ◌+◌, ◌<◌, ◌≤◌, Bool, true, false, List, [], ◌∷◌, ◌++◌, length, get_or, take}
+use Rattle.std.proofs.Common.{take_all, All}
+use Rattle.std.proofs.Common.{Some, None, refl, sym, ap, subst, ◌∙◌, inl, inr, arith}
 use Rattle.std.specs.List.{slice_get}
-use Rattle.std.specs.Map.{keys_of, lookup}
+use Rattle.std.specs.Map.{keys_of}
 use Rattle.std.specs.Str.{bytes_eq}
 use Rattle.std.proofs.lemmas.Bool.{cases_lt}
 use Rattle.std.proofs.lemmas.List.{take_more, get_or-map, map-append, length-map}
@@ -14,9 +14,11 @@ use Rattle.std.proofs.lemmas.Slice.Eq.{bytes_eq-Decides}
 use Rattle.line_grammar.specs.Spellable.{IsName}
 use Rattle.record_codec.specs.Payload.{IsNamed, AreParts, AreOfKind}
 use Rattle.record_codec.specs.declared.snapshot.Named.{Named}
+use Rattle.record_codec.specs.declared.snapshot.KeptParts.{KeptParts}
+use Rattle.record_codec.specs.declared.snapshot.KeptParts.TheVariants as kept
 use Rattle.value_table.specs.Table.{NamedValues, value_named, HasDistinctNames}
 use Rattle.value_table.specs.declared.value.Value.{Value}
-use Rattle.state_check.specs.Tabled.{AreAscending, entries_of, entry_of}
+use Rattle.state_check.specs.Tabled.{AreAscending, entries_of, entry_of, kept_parts, parts_of}
 
 -- ---- the value at a place
 -- each place of the table has a name
@@ -78,26 +80,31 @@ none_named table list is = record {
       (All-nil (λ entry. AreAscending entry.1.parts));
 }
 
+-- parts of a table that are kept are the parts that they were kept as
+parts_kept : (made : KeptParts) → kept_parts (parts_of made) ≡ made
+parts_kept (kept.Points points) = refl
+parts_kept (kept.Ids ids) = refl
+
 short_name : (name : List ℕ) → IsName name → length name < 256
 short_name [] is = absurd is
 short_name (b ∷ bytes) is = let few = is.2 in omega (arith, few)
 
 -- one value more
 pub one_more_named : (table : NamedValues) (k : ℕ) (n : Named) (list new : List Named)
-    → All (λ entry. IsName entry.0 × AreOfKind entry.1.kind entry.1.parts) table → slice_get table k ≡ Some (entry_of n)
-    → AreAscending n.value.parts → AreParts n.value.parts → new ≡ list ++ n ∷ [] → AreNamed k table list
+    → All (λ entry. IsName entry.0 × AreOfKind entry.1.kind (kept_parts entry.1.parts)) table → slice_get table k ≡ Some (entry_of n)
+    → AreAscending (parts_of n.value.parts) → AreParts n.value.parts → new ≡ list ++ n ∷ [] → AreNamed k table list
     → AreNamed (k + 1) table new
 one_more_named table k n list new kinds at ascends fits pushed was =
     let within = slice_get_within table k (entry_of n) at in
     let here : get_or table k (entry_of n) ≡ entry_of n = get_or_from_slice_get table k (entry_of n) (entry_of n) at in
-    let has = subst (λ (e : List ℕ × Value). IsName e.0 × AreOfKind e.1.kind e.1.parts) here (kinds k (entry_of n) within) in
+    let has = subst (λ (e : List ℕ × Value). IsName e.0 × AreOfKind e.1.kind (kept_parts e.1.parts)) here (kinds k (entry_of n) within) in
     let longer = ap entries_of pushed ∙ map-append entry_of list (n ∷ []) in
     record {
       are = longer ∙ ap (λ (t : NamedValues). t ++ entry_of n ∷ []) was.are
           ∙ ap (λ (e : List ℕ × Value). take k table ++ e ∷ []) (sym here) ∙ sym (take_more table k (entry_of n) within);
       fit = subst (All IsNamed) (sym pushed) (All-push IsNamed list n was.fit (record {
         name = short_name n.name has.0;
-        value = record { of_kind = has.1; parts = fits };
+        value = record { of_kind = subst (AreOfKind n.value.kind) (parts_kept n.value.parts) has.1; parts = fits };
       }));
       ascend = subst (All (λ entry. AreAscending entry.1.parts)) (sym longer)
           (All-push (λ entry. AreAscending entry.1.parts) (entries_of list) (entry_of n) was.ascend ascends);

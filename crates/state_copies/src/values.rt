@@ -4,17 +4,17 @@ ghost use Rattle.line_grammar.specs.Spellable.{IsName};
 ghost use Rattle.record_codec.specs.Fitting.{IsList};
 ghost use Rattle.record_codec.specs.Payload.{IsNamed, AreParts, AreOfKind};
 ghost use Rattle.value_table.specs.Table.{HasDistinctNames};
-ghost use Rattle.state_check.specs.Tabled.{AreAscending, entries_of, entry_of};
+ghost use Rattle.state_check.specs.Tabled.{AreAscending, entries_of, entry_of, kept_parts, parts_of};
 
 use grid_base::{NoMemory, Reply};
 use record_codec::Named;
-use state_check::copied;
+use state_check::kept_value;
 use std::alloc::Global;
 use value_table::Table;
 
 /// The values with their names, in the order of definition.
 pub fn copied_values(alloc: Global, table: &Table) -> Result<Vec<Named>, NoMemory>
-    requires { All (λ entry. IsName entry.0 × AreOfKind entry.1.kind entry.1.parts) table.now }
+    requires { All (λ entry. IsName entry.0 × AreOfKind entry.1.kind (kept_parts entry.1.parts)) table.now }
     ensures same { IfOk result (λ v. entries_of v.items ≡ table.now) }
     ensures fits { IfOk result (λ v. IsList IsNamed v.items) }
     ensures ascend { IfOk result (λ v. All (λ entry. AreAscending entry.1.parts) (entries_of v.items)) }
@@ -33,7 +33,7 @@ fn copied_value(alloc: Global, table: &Table, k: usize) -> Result<Named, NoMemor
     requires within { k < length table.now }
     requires distinct { HasDistinctNames table.now }
     ensures same { IfOk result (λ n. slice_get table.now k ≡ Some (entry_of n)) }
-    ensures ascend { IfOk result (λ n. AreAscending n.value.parts) }
+    ensures ascend { IfOk result (λ n. AreAscending (parts_of n.value.parts)) }
     ensures fits { IfOk result (λ n. AreParts n.value.parts) }
 {
     let Some(name) = table.name_at(k) else {
@@ -43,7 +43,7 @@ fn copied_value(alloc: Global, table: &Table, k: usize) -> Result<Named, NoMemor
         unreachable!()
     };
     let bytes = Vec::from_slice(alloc, name.as_bytes())?;
-    let value = copied(alloc, value)?;
+    let value = kept_value(alloc, value)?;
     Ok(Named {
         name: Reply::new(bytes),
         value,

@@ -1,5 +1,5 @@
 use Rattle.std.proofs.Common.{◌<◌, ◌^◌, ℕ, arith}
-use Rattle.state_check.proofs.Copying.{no_front, longer_front, whole_front, fits_as_list}
+use Rattle.state_check.proofs.Copying.{no_front, whole_front, fits_as_list}
 use Rattle.state_check.proofs.copies.copied_ids.Goals as goal
 
 pub loop-id-init : goal.loop-id-init

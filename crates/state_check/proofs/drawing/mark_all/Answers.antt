@@ -1,6 +1,4 @@
-use Rattle.std.proofs.Common.{◌≡◌, ◌≤◌, ℕ, List, length, take, take_all, AllPairs, refl, sym, subst, arith}
-use Rattle.grid_base.specs.Point.{GridPoint, IsBefore}
-use Rattle.state_check.proofs.Placed.{HasFirst, none_explicit, one_more_explicit, all_explicit}
+use Rattle.state_check.proofs.Placed.{none_explicit, one_more_explicit, all_explicit}
 use Rattle.state_check.proofs.drawing.mark_all.Goals as goal
 
 pub loop-p-init : goal.loop-p-init

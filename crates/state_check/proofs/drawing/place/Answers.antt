@@ -1,6 +1,5 @@
-use Rattle.std.proofs.Common.{◌≡◌, ◌++◌, ◌∷◌, [], List, sym, subst, true≢false, ◌∙◌}
+use Rattle.std.proofs.Common.{◌≡◌, ◌++◌, ◌∷◌, [], sym, subst, true≢false, ◌∙◌}
 use Rattle.std.proofs.lemmas.Result.{IfOk-weaker}
-use Rattle.grid_base.specs.Point.{GridPoint}
 use Rattle.realm_drawing.specs.Changed.{PlacesChain}
 use Rattle.realm_drawing.specs.Chains.{HasValidChain}
 use Rattle.state_check.specs.Drawable.{drawing_with}

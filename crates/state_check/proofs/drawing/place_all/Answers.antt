@@ -1,5 +1,5 @@
-use Rattle.std.proofs.Common.{◌≡◌, ◌<◌, List, [], get_or, take, All, sym, ap, subst, ◌∙◌, take_all}
-use Rattle.std.proofs.lemmas.List.Elements.{All-nil, All-more, All-contains}
+use Rattle.std.proofs.Common.{◌<◌, All, sym, subst, take_all}
+use Rattle.std.proofs.lemmas.List.Elements.{All-nil, All-more}
 use Rattle.grid_base.specs.Drawing.{Drawing}
 use Rattle.grid_base.specs.declared.original.Original.{Original}
 use Rattle.realm_drawing.specs.Chains.{HasValidChain}

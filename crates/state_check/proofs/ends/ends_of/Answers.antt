@@ -1,4 +1,4 @@
-use Rattle.std.proofs.Common.{take_all, refl}
+use Rattle.std.proofs.Common.{take_all}
 use Rattle.state_check.proofs.PartEnds.{no_ends, no_part, one_more_id}
 use Rattle.state_check.proofs.ends.ends_of.Goals as goal
 

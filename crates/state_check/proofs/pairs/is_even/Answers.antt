@@ -1,5 +1,5 @@
-use Rattle.std.proofs.Common.{◌≡◌, ℕ, ◌%◌, true, List, sym, ap, subst, ◌∙◌}
-use Rattle.state_check.specs.Pairs.{are_pairs, IsEvenList}
+use Rattle.std.proofs.Common.{ℕ, ◌%◌, sym, ap, ◌∙◌}
+use Rattle.state_check.specs.Pairs.{are_pairs}
 use Rattle.state_check.proofs.Evenness.{pairs_are_even, even_in_pairs, sorted_never_falls, as_often}
 use Rattle.state_check.proofs.pairs.is_even.Goals as goal
 

@@ -1,5 +1,5 @@
-use Rattle.std.proofs.Common.{refl, arith, subst, sym, ◌∙◌, List}
-use Rattle.grid_base.specs.Point.{GridPoint, OnGrid}
+use Rattle.std.proofs.Common.{refl, arith, subst, sym, ◌∙◌}
+use Rattle.grid_base.specs.Point.{OnGrid}
 use Rattle.record_codec.specs.Fitting.{IsList}
 use Rattle.state_check.proofs.PartEnds.{made_again}
 use Rattle.state_copies.proofs.originals.copied_original.Goals as goal

@@ -1,5 +1,4 @@
-use Rattle.std.proofs.Common.{◌≡◌, List, ℕ, sym, subst, arith}
-use Rattle.grid_base.specs.declared.original.Original.{Original}
+use Rattle.std.proofs.Common.{◌≡◌, ℕ, sym, subst, arith}
 use Rattle.realm_drawing.specs.Ids.{IsAscending}
 use Rattle.record_codec.specs.Payload.{IsOriginal}
 use Rattle.state_check.proofs.Copying.{fits_as_list}

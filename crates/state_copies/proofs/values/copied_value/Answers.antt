@@ -1,4 +1,4 @@
-use Rattle.std.proofs.Common.{◌≡◌, ◌∙◌, Some, List, ℕ, ap, sym}
+use Rattle.std.proofs.Common.{◌∙◌, Some, List, ℕ, ap, sym}
 use Rattle.std.specs.Option.{option_copied}
 use Rattle.value_table.specs.declared.value.Value.{Value}
 use Rattle.state_copies.proofs.NamedValues.{key_there, value_there, value_at}
@@ -23,4 +23,4 @@ returns-clause-same c =
     let bytes = c.new.ensures ∙ c.in_ok-bytes.ensures.items ∙ c.as_bytes.ensures.value in
     value_at c.args.table.now c.args.k name v c.requires.distinct (sym c.in-Some.ensures) (sym c.in-Some-get.ensures)
     ∙ ap (λ (n : List ℕ). Some (n, v)) (sym bytes)
-    ∙ ap (λ (w : Value). Some (c.new.result, w)) (sym c.in_ok-value.ensures.0)
+    ∙ ap (λ (w : Value). Some (c.new.result, w)) (sym c.in_ok-value.ensures.same)
