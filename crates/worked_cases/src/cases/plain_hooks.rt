@@ -137,7 +137,7 @@ fn drawn(last: &mut u64) -> u32
 #[test]
 fn longer_hooks(rt: HostRuntime) {
     let mut last = 1;
-    for _ in 0..300 {
+    for _ in 0..120 {
         let p = Point::at(drawn(&mut last), drawn(&mut last));
         let q = Point::at(drawn(&mut last), drawn(&mut last));
         let column = drawn(&mut last);

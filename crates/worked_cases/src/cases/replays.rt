@@ -6,6 +6,7 @@ use crate::paper::place;
 use grid_base::{Point, Segment, Step};
 use hook_chain::hook;
 use realm_drawing::Drawing;
+use segment_lists::segment_with;
 use std::alloc::Global;
 use std::process::Abort;
 
@@ -130,11 +131,11 @@ fn take(rt: &impl Abort, alloc: Global, chains: &mut [Vec<Point>], step: &Step) 
 // The chains before the first step.
 fn straight(rt: &impl Abort, alloc: Global, segments: &[[u64; 4]]) -> Vec<Vec<Point>> {
     let mut chains = Vec::new(alloc);
-    for [x, y, u, v] in segments {
+    for ends in segments {
+        let original = segment_with(ends).expect(rt, "a segment");
         let mut chain = Vec::new(alloc);
-        chain.push(place(rt, [*x, *y])).expect(rt, "memory");
-        chain.push(place(rt, [*u, *v])).expect(rt, "memory");
-        chain.sort_unstable();
+        chain.push(original.a()).expect(rt, "memory");
+        chain.push(original.b()).expect(rt, "memory");
         chains.push(chain).expect(rt, "memory");
     }
     chains

@@ -28,18 +28,20 @@ fn points(alloc: Global, x: u64, y: u64) -> Result<Value, Fail> {
     })
 }
 
+// Gives a name to the value.
+fn define(table: &mut Table, name: &str, value: Value) -> Result<(), Fail> {
+    match table.define(name, value) {
+        Ok(()) => Ok(()),
+        Err(_) => Err(Fail::new("no room for a name")),
+    }
+}
+
 // Two roads that share original 2, and a well between them.
 fn town(alloc: Global) -> Result<Table, Fail> {
     let mut table = Table::new(alloc);
-    table
-        .define("road", lines(alloc, 1, 2)?)
-        .map_err(|_| "road")?;
-    table
-        .define("well", points(alloc, 5, 7)?)
-        .map_err(|_| "well")?;
-    table
-        .define("lane", lines(alloc, 2, 9)?)
-        .map_err(|_| "lane")?;
+    define(&mut table, "road", lines(alloc, 1, 2)?)?;
+    define(&mut table, "well", points(alloc, 5, 7)?)?;
+    define(&mut table, "lane", lines(alloc, 2, 9)?)?;
     Ok(table)
 }
 
@@ -92,7 +94,10 @@ fn a_shared_original_has_two_users(rt: HostRuntime) -> Result<(), Fail> {
 #[test]
 fn a_value_is_found_by_its_name(rt: HostRuntime) -> Result<(), Fail> {
     let table = town(rt.alloc())?;
-    assert!(rt; table.get("well").map(|v| v.kind) == Some(Kind::Points));
+    let Some(well) = table.get("well") else {
+        return Err(Fail::new("no well"));
+    };
+    assert!(rt; well.kind == Kind::Points);
     assert!(rt; table.get("river").is_none());
     let Some(
         Value {
