@@ -2,9 +2,11 @@
 //! Begin at `dist2`, `diameter2`, `area2` and `components`.
 #![tactic(auto)]
 
+mod apart;
 mod areas;
 mod counting;
 mod distances;
+mod parts;
 mod widths;
 
 pub use areas::area2;

@@ -74,21 +74,30 @@ fn sweep_calls(rt: HostRuntime) {
     assert!(rt; 100 <= calls && calls <= 14_400, "{calls} calls");
 }
 
-// The list is the sides of all squares so many times over.
-fn look_at_threads<R: Threads + Sync + Abort>(rt: &R, alloc: Global, times: u64) -> Option<()> {
+// The list is the sides of all squares so many times over, square by square or in order.
+fn look_at_threads<R: Threads + Sync + Abort>(
+    rt: &R,
+    alloc: Global,
+    times: u64,
+    in_order: bool,
+) -> Option<()> {
     let region = region(alloc)?;
-    let list = all_sides_of_squares(alloc, times)?;
+    let mut list = all_sides_of_squares(alloc, times)?;
+    if in_order {
+        list.sort_unstable();
+    }
     let told = shared(rt, alloc, &region, &list)?;
     compare(rt, &list, &told);
     Some(())
 }
 
-// 400 segments are told by one thread, and 1,200 in parts.
+// 400 segments are told by one thread, and so are 4,800 in another order than that of columns; in order these are told in strips,
+// some of which begin and end on upright sides.
 #[test]
 fn threads_tell_the_same(rt: HostRuntime) {
-    for times in [1, 3] {
+    for (times, in_order) in [(1, true), (12, false), (12, true)] {
         assert!(rt;
-            look_at_threads(&rt, rt.alloc(), times).is_some(),
+            look_at_threads(&rt, rt.alloc(), times, in_order).is_some(),
             "no memory"
         );
     }

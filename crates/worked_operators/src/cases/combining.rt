@@ -11,6 +11,7 @@ use segment_lists::are_noded;
 use side_parity::sides;
 use std::alloc::Global;
 use std::test::Fail;
+use std::thread::Threads;
 
 // What the operator makes of two values.
 fn of_two(
@@ -364,4 +365,92 @@ fn told(alloc: Global, region: &RegionsValue, s: &Segment) -> Result<Sides, Fail
         return Err(Fail::new("no realm"));
     }
     Ok(sides(region.segments(), s))
+}
+
+// Which cells of a sheet are meant: those of the first region, those of the second, or those of what is made of both.
+#[derive(Clone, Copy)]
+enum Cells {
+    First,
+    Second,
+    Made(Op),
+}
+
+// Whether the cell in this column and row of a sheet is meant. They are drawn as if by lot.
+fn is_meant(cells: Cells, column: u64, row: u64) -> bool {
+    let lot = column
+        .wrapping_mul(0x9e37_79b9_7f4a_7c15)
+        .wrapping_add(row.wrapping_mul(0xc2b2_ae3d_27d4_eb4f));
+    let lot = lot ^ lot >> 29;
+    let lot = lot.wrapping_mul(0xbf58_476d_1ce4_e5b9);
+    let first = lot >> 40 & 1 == 1;
+    let second = lot >> 50 & 1 == 1;
+    match cells {
+        Cells::First => first,
+        Cells::Second => second,
+        Cells::Made(Op::Intersection) => first && second,
+        Cells::Made(Op::Plus) => first || second,
+        Cells::Made(_) => first && !second,
+    }
+}
+
+// The region of the cells that are meant of a sheet with so many columns and rows, from 1 on.
+fn sheet(alloc: Global, cells: Cells, columns: u16, rows: u16) -> Result<RegionsValue, Fail> {
+    let (columns, rows) = (u64::from(columns), u64::from(rows));
+    let has = |x: u64, y: u64| -> bool {
+        1 <= x && x <= columns && 1 <= y && y <= rows && is_meant(cells, x, y)
+    };
+    let mut list = Vec::new(alloc);
+    for x in 0..=columns {
+        for y in 0..=rows {
+            let (left, low) = (4 * x, 4 * y);
+            if has(x, y) != has(x + 1, y) {
+                list.push(segment(&[left + 4, low, left + 4, low + 4])?)?;
+            }
+            if has(x, y) != has(x, y + 1) {
+                list.push(segment(&[left, low + 4, left + 4, low + 4])?)?;
+            }
+        }
+    }
+    region_of(list)
+}
+
+// What the operators make of two regions, by threads where they are large.
+fn all_made<R: Threads + Sync>(
+    rt: &R,
+    alloc: Global,
+    a: &Geometry,
+    b: &Geometry,
+) -> Result<Vec<Geometry>, Fail> {
+    let all = joined(alloc, &segments_in(alloc, a)?, &segments_in(alloc, b)?)?;
+    if !are_noded(&all) {
+        return Err(Fail::new("no realm"));
+    }
+    let mut made = Vec::new(alloc);
+    for op in [Op::Intersection, Op::Plus, Op::Minus] {
+        made.push(evaluate(rt, alloc, op, a, Some(b))?)?;
+    }
+    Ok(made)
+}
+
+// One thread is enough for the first sheet. The others are cut into strips, on whose edges upright segments stand and
+// others have ends; the last has all in one column.
+#[test]
+fn strips_make_what_is_drawn(rt: HostRuntime) -> Result<(), Fail> {
+    let alloc = rt.alloc();
+    for (columns, rows) in [(4, 5), (40, 60), (1, 1_400)] {
+        let a = Geometry::R(sheet(alloc, Cells::First, columns, rows)?);
+        let b = Geometry::R(sheet(alloc, Cells::Second, columns, rows)?);
+        let made = all_made(&rt, alloc, &a, &b)?;
+        let ops = [Op::Intersection, Op::Plus, Op::Minus];
+        for (op, found) in ops.iter().zip(&made) {
+            let wanted = sheet(alloc, Cells::Made(*op), columns, rows)?;
+            assert_eq!(rt;
+                segments_in(alloc, found)?.as_slice(),
+                wanted.segments(),
+                "{op:?} on {columns} by {rows}"
+            );
+        }
+        assert_eq!(rt; made.len(), ops.len());
+    }
+    Ok(())
 }
