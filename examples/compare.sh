@@ -7,7 +7,8 @@
 # replies have come, while it waits for more lines. Each scene, and each block of the reference, runs in an empty folder
 # of its own; the blocks of the tutorial run one after another in one folder. In VALUES and LINES each row of a table
 # has a line and its reply, and the block of the README marked `session` has the scene `first` with its replies. What
-# EMBEDDING shows is compared with the crate that it is about, whose output is compared by the gate.
+# EMBEDDING shows is compared with the crate that it is about, whose output is compared by the gate. The words of `gen`, and
+# such as are no command, run in an empty folder, which has to be empty then.
 set -u
 
 [ $# -eq 1 ] && [ -x "$1" ] || { echo "usage: compare.sh ROSE" >&2; exit 2; }
@@ -113,6 +114,14 @@ shown() {
     judge "$1, the lines of the program" /dev/null "$work/strange"
 }
 
+# untouched WORD..: these words leave an empty folder empty, however the program ends
+untouched() {
+    rm -rf "$work/scene" && mkdir "$work/scene" && cd "$work/scene" || exit 2
+    "$rose" "$@" > "$work/given" 2>&1 < /dev/null
+    ls -A > "$work/left"
+    judge "the folder that the words '$*' ran in" /dev/null "$work/left"
+}
+
 for scene in "$here"/*.txt; do
     name=$(basename "$scene" .txt)
     mkdir "$work/scene" && cd "$work/scene" || exit 2
@@ -133,5 +142,8 @@ marked session README.md > "$work/session"
 judge "README.md, the lines" "$here/first.txt" <(cut -c 1-29 "$work/session" | sed 's/ *$//; /^$/d')
 judge "README.md, the replies" "$here/first.out" <(cut -c 30- "$work/session")
 shown docs/EMBEDDING.md embedding_example
+untouched gen 1 7
+untouched gen 1
+untouched
 echo "$equal equal, $different different"
 [ "$different" -eq 0 ]

@@ -10,7 +10,7 @@ use Rattle.class_borders.specs.ClassLinks.{departures, arrivals}
 use Rattle.class_borders.specs.ClassBorders.{back}
 
 -- ---- one link from each vertex, and one to it
-from_in : (c : List GridPoint) (e : GridPoint) (l : Link) → Contains (links (c ++ e ∷ [])) l → Contains c l.from
+pub from_in : (c : List GridPoint) (e : GridPoint) (l : Link) → Contains (links (c ++ e ∷ [])) l → Contains c l.from
 from_in [] e l m = absurd (Contains-nil l m)
 from_in (a ∷ []) e l m = elim (Contains-cases (link a e) [] l m) [
   | inl same ↦ subst (λ (k : Link). Contains (a ∷ []) k.from) same (Contains-here a [])
@@ -65,7 +65,7 @@ to_once v (a ∷ c) l m apart h k f = elim (Contains-cases (link v a) (links (a 
   ]
 ]
 
-round_from : (c : List GridPoint) (l m : Link) → AreApart c → Contains (links (round c)) l → Contains (links (round c)) m
+pub round_from : (c : List GridPoint) (l m : Link) → AreApart c → Contains (links (round c)) l → Contains (links (round c)) m
     → l.from ≡ m.from → l ≡ m
 round_from [] l m apart h k f = absurd (Contains-nil l h)
 round_from (v ∷ c) l m apart h k f = from_once (v ∷ c) v l m apart h k f

@@ -1,5 +1,6 @@
 //! A store in a world in memory: what each crash within a commit leaves, and what a store finds there that starts on it.
-ghost use Rattle.std.specs.Prelude.{◌≡◌, ◌≤◌, ◌^◌, length, false, OnOk};
+ghost use Rattle.std.specs.Prelude.{◌≡◌, ◌≤◌, ◌^◌, length, false, IfOk, OnOk};
+ghost use Rattle.outside_world.specs.Memory.{has_failed};
 ghost use Rattle.realm_store.specs.Keeping.{AllRest};
 
 use crate::example_error::ExampleError;
@@ -40,7 +41,9 @@ fn show_crashes<R: Threads + Sync + Print>(
 }
 
 // A world with these two files, without input.
-fn world_of(alloc: Global, a: Vec<u8>, b: Vec<u8>) -> Result<MemoryWorld, NoMemory> {
+fn world_of(alloc: Global, a: Vec<u8>, b: Vec<u8>) -> Result<MemoryWorld, NoMemory>
+    ensures intact { IfOk result (λ world. has_failed world ≡ false) }
+{
     MemoryWorld::new(alloc, Vec::new(alloc), a, b, Vec::new(alloc))
 }
 
@@ -52,9 +55,11 @@ fn commit<R: Threads + Sync + Print, W: Outside>(
     world: &mut W,
     line: &str,
 ) -> Result<(), ExampleError>
+    requires intact { W.failed world.old ≡ false }
     requires ready { store.old.spent ≡ false }
     requires short { length line.now ≤ 2 ^ 20 }
     requires rest { W.tells world.old → AllRest store.old.kept (W.view world.old) }
+    ensures intact { OnOk result (W.failed world.new ≡ false) }
     ensures ready { OnOk result (store.new.spent ≡ false) }
     ensures rest { OnOk result (W.tells world.new → AllRest store.new.kept (W.view world.new)) }
 {

@@ -1,6 +1,6 @@
 -- A world in memory, and what each call does to it.
-use Rattle.std.specs.Prelude.{◌≡◌, ◌⊎◌, ◌+◌, ◌-◌, ◌^◌, ℕ, List, length, take, drop, min}
-use Rattle.std.specs.Prelude.{IsTrue, Result, IsErr, IfOk, OnOk, OnErr}
+use Rattle.std.specs.Prelude.{◌≡◌, ◌⊎◌, ◌+◌, ◌-◌, ◌^◌, ℕ, Bool, List, length, take, drop, min}
+use Rattle.std.specs.Prelude.{nat_lt, IsTrue, Result, IsErr, IfOk, OnOk, OnErr}
 use Rattle.std.specs.Ordering.{nat_cmp}
 use Rattle.std.specs.FinSet as set
 use Rattle.outside_world.specs.declared.world.FileName.{FileName}
@@ -25,6 +25,10 @@ pub record Memory : Type 0 where
 -- what it tells
 abbrev pub memory_view : Memory → View
 memory_view m = log_view m.log
+
+-- whether a call has failed: not all counts are 0
+abbrev pub has_failed : Memory → Bool
+has_failed m = nat_lt 0 (m.source_faults + m.sink_faults + m.disk_faults)
 
 -- a world that has had no call, and moves so many bytes at most
 abbrev pub fresh_in_pieces : (input a b failing : List ℕ) → ℕ → Memory

@@ -1,5 +1,5 @@
 -- A steady world: one in memory on which no call fails.
-use Rattle.std.specs.Prelude.{◌≡◌, ◌+◌, ℕ, Bool, true, List, length}
+use Rattle.std.specs.Prelude.{◌≡◌, ◌+◌, ℕ, Bool, true, false, List, length}
 use Rattle.outside_world.specs.declared.call_log.Room.{Room}
 use Rattle.outside_world.specs.View.{View}
 use Rattle.outside_world.specs.Events.{Event}
@@ -19,6 +19,10 @@ steady_view w = log_view w.log
 -- how often a call has failed: never
 abbrev pub no_faults : Steady → ℕ
 no_faults w = 0
+
+-- whether a call has failed: no
+abbrev pub never_failed : Steady → Bool
+never_failed w = false
 
 -- the room of a steady world: for 65,536 calls, 1 MiB of output and 1 MiB more in each file, and 4 MiB of
 -- written bytes

@@ -1,12 +1,12 @@
 //! A world in memory. It notes each call, and all that it tells is read off that log.
-ghost use Rattle.std.specs.Prelude.{◌≡◌, ◌≤◌, ◌<◌, ◌+◌, ◌^◌, length, take, drop, IfOk, OnErr};
+ghost use Rattle.std.specs.Prelude.{◌≡◌, ◌≤◌, ◌<◌, ◌+◌, ◌^◌, true, false, length, take, drop, IfOk, OnOk, OnErr};
 ghost use Rattle.std.specs.FinSet as set;
 ghost use Rattle.outside_world.specs.Calls.{Took, Gave, Sized, Read, Wrote, Synced};
 ghost use Rattle.outside_world.specs.Events.{Looked};
 ghost use Rattle.outside_world.specs.Counts.{Rose};
 ghost use Rattle.outside_world.specs.History.{MayLeaveAfter};
 ghost use Rattle.outside_world.specs.Log.{first_of, left_by, file_then, crash_at};
-ghost use Rattle.outside_world.specs.Memory.{memory_view, fresh, fresh_in_pieces, piece_of, next_piece};
+ghost use Rattle.outside_world.specs.Memory.{memory_view, has_failed, fresh, fresh_in_pieces, piece_of, next_piece};
 ghost use Rattle.outside_world.specs.Memory.{Notes, Takes, Gives, Sizes, Reads, Writes, Syncs};
 ghost use Rattle.outside_world.specs.Memory.{with_source_fault, with_sink_fault, with_disk_fault};
 ghost use Rattle.outside_world.specs.ViewLaws.{left_counts_now, left_only_now, none_asked_now};
@@ -73,6 +73,7 @@ impl MemoryWorld {
         failing: Vec<u64>,
     ) -> Result<MemoryWorld, NoMemory>
         ensures fresh { IfOk result (λ w. w ≡ fresh input.items a.items b.items failing.items) }
+        ensures intact { IfOk result (λ w. has_failed w ≡ false) }
     {
         MemoryWorld::in_pieces(alloc, input, a, b, failing, usize::MAX)
     }
@@ -89,6 +90,7 @@ impl MemoryWorld {
         requires some { 0 < piece }
         ensures fresh { IfOk result (λ w.
             w ≡ fresh_in_pieces input.items a.items b.items failing.items piece) }
+        ensures intact { IfOk result (λ w. has_failed w ≡ false) }
     {
         let mut ascending = failing;
         ascending.sort()?;
@@ -107,6 +109,13 @@ impl MemoryWorld {
         ensures given { result.now ≡ (memory_view self.now).given }
     {
         self.log.given()
+    }
+
+    /// Whether a call has failed, so that no more may be made.
+    pub fn has_failed(&self) -> bool
+        ensures failed { result ≡ has_failed self.now }
+    {
+        self.source_faults > 0 || self.sink_faults > 0 || self.disk_faults > 0
     }
 
     /// How many calls there were.
@@ -144,6 +153,8 @@ impl Outside for MemoryWorld {
 
     ghost disk_faults = { λ w. w.disk_faults };
 
+    ghost failed = { has_failed };
+
     ghost reads_an_image = { λ w f tells. reads_an_image_now w.log f };
 
     ghost byte_by_byte = { λ w tells. byte_by_byte_now w.log };
@@ -155,12 +166,15 @@ impl Outside for MemoryWorld {
     ghost none_asked = { λ w a tells asked. none_asked_now w.log a asked };
 
     fn take(&mut self, buf: &mut [u8]) -> Result<usize, Failed>
+        requires intact { has_failed self.old ≡ false }
         ensures within { IfOk result (λ n. n ≤ length buf.old) }
         ensures takes { Takes self.old self.new buf.new result }
         ensures later { self.old.source_faults ≤ self.new.source_faults }
         ensures others { (self.new.sink_faults ≡ self.old.sink_faults)
             × (self.new.disk_faults ≡ self.old.disk_faults) }
         ensures source_fault { OnErr result (Rose self.old.source_faults self.new.source_faults) }
+        ensures intact { OnOk result (has_failed self.new ≡ false) }
+        ensures fails { OnErr result (has_failed self.new ≡ true) }
         ensures told { Took (memory_view self.old) (memory_view self.new) buf.new result }
     {
         if self.next_fails() {
@@ -180,6 +194,7 @@ impl Outside for MemoryWorld {
     }
 
     fn give(&mut self, bytes: &[u8]) -> Result<usize, Failed>
+        requires intact { has_failed self.old ≡ false }
         ensures within { IfOk result (λ n. n ≤ length bytes.now) }
         ensures progress { IfOk result (λ n. 0 < length bytes.now → 0 < n) }
         ensures gives { Gives self.old self.new bytes.now result }
@@ -187,6 +202,8 @@ impl Outside for MemoryWorld {
         ensures others { (self.new.source_faults ≡ self.old.source_faults)
             × (self.new.disk_faults ≡ self.old.disk_faults) }
         ensures sink_fault { OnErr result (Rose self.old.sink_faults self.new.sink_faults) }
+        ensures intact { OnOk result (has_failed self.new ≡ false) }
+        ensures fails { OnErr result (has_failed self.new ≡ true) }
         ensures told { Gave (memory_view self.old) (memory_view self.new) bytes.now result }
     {
         if self.next_fails() {
@@ -205,11 +222,14 @@ impl Outside for MemoryWorld {
     }
 
     fn size(&mut self, file: FileName) -> Result<u64, Failed>
+        requires intact { has_failed self.old ≡ false }
         ensures sizes { Sizes self.old self.new file result }
         ensures later { self.old.disk_faults ≤ self.new.disk_faults }
         ensures others { (self.new.source_faults ≡ self.old.source_faults)
             × (self.new.sink_faults ≡ self.old.sink_faults) }
         ensures disk_fault { OnErr result (Rose self.old.disk_faults self.new.disk_faults) }
+        ensures intact { OnOk result (has_failed self.new ≡ false) }
+        ensures fails { OnErr result (has_failed self.new ≡ true) }
         ensures told { Sized (memory_view self.old) (memory_view self.new) file result }
     {
         self.look()?;
@@ -217,12 +237,15 @@ impl Outside for MemoryWorld {
     }
 
     fn read_at(&mut self, file: FileName, at: u64, buf: &mut [u8]) -> Result<usize, Failed>
+        requires intact { has_failed self.old ≡ false }
         ensures within { IfOk result (λ n. n ≤ length buf.old) }
         ensures reads { Reads self.old self.new file at buf.new result }
         ensures later { self.old.disk_faults ≤ self.new.disk_faults }
         ensures others { (self.new.source_faults ≡ self.old.source_faults)
             × (self.new.sink_faults ≡ self.old.sink_faults) }
         ensures disk_fault { OnErr result (Rose self.old.disk_faults self.new.disk_faults) }
+        ensures intact { OnOk result (has_failed self.new ≡ false) }
+        ensures fails { OnErr result (has_failed self.new ≡ true) }
         ensures told { Read (memory_view self.old) (memory_view self.new) file at buf.new result }
     {
         self.look()?;
@@ -230,12 +253,15 @@ impl Outside for MemoryWorld {
     }
 
     fn write_at(&mut self, file: FileName, at: u64, bytes: &[u8]) -> Result<(), Failed>
+        requires intact { has_failed self.old ≡ false }
         requires within { at ≤ length ((memory_view self.old).reads file) }
         ensures writes { Writes self.old self.new file at bytes.now result }
         ensures later { self.old.disk_faults ≤ self.new.disk_faults }
         ensures others { (self.new.source_faults ≡ self.old.source_faults)
             × (self.new.sink_faults ≡ self.old.sink_faults) }
         ensures disk_fault { OnErr result (Rose self.old.disk_faults self.new.disk_faults) }
+        ensures intact { OnOk result (has_failed self.new ≡ false) }
+        ensures fails { OnErr result (has_failed self.new ≡ true) }
         ensures told { Wrote (memory_view self.old) (memory_view self.new) file at bytes.now result }
     {
         if self.next_fails() {
@@ -253,11 +279,14 @@ impl Outside for MemoryWorld {
     }
 
     fn sync(&mut self, file: FileName) -> Result<(), Failed>
+        requires intact { has_failed self.old ≡ false }
         ensures syncs { Syncs self.old self.new file result }
         ensures later { self.old.disk_faults ≤ self.new.disk_faults }
         ensures others { (self.new.source_faults ≡ self.old.source_faults)
             × (self.new.sink_faults ≡ self.old.sink_faults) }
         ensures disk_fault { OnErr result (Rose self.old.disk_faults self.new.disk_faults) }
+        ensures intact { OnOk result (has_failed self.new ≡ false) }
+        ensures fails { OnErr result (has_failed self.new ≡ true) }
         ensures told { Synced (memory_view self.old) (memory_view self.new) file result }
     {
         if self.next_fails() {
@@ -301,11 +330,14 @@ impl MemoryWorld {
 
     // Notes a call on a file that only asks.
     fn look(&mut self) -> Result<(), Failed>
+        requires intact { has_failed self.old ≡ false }
         ensures notes { Notes self.old self.new Looked Looked with_disk_fault result }
         ensures later { self.old.disk_faults ≤ self.new.disk_faults }
         ensures others { (self.new.source_faults ≡ self.old.source_faults)
             × (self.new.sink_faults ≡ self.old.sink_faults) }
         ensures disk_fault { OnErr result (Rose self.old.disk_faults self.new.disk_faults) }
+        ensures intact { OnOk result (has_failed self.new ≡ false) }
+        ensures fails { OnErr result (has_failed self.new ≡ true) }
     {
         if self.next_fails() {
             let _ = self.log.note_look();
@@ -324,6 +356,7 @@ impl MemoryWorld {
     fn count_source_fault(&mut self)
         ensures counted { self.new ≡ with_source_fault self.old }
         ensures later { self.old.source_faults ≤ self.new.source_faults }
+        ensures fails { has_failed self.new ≡ true }
     {
         self.source_faults = self.source_faults.saturating_add(1);
     }
@@ -331,6 +364,7 @@ impl MemoryWorld {
     fn count_sink_fault(&mut self)
         ensures counted { self.new ≡ with_sink_fault self.old }
         ensures later { self.old.sink_faults ≤ self.new.sink_faults }
+        ensures fails { has_failed self.new ≡ true }
     {
         self.sink_faults = self.sink_faults.saturating_add(1);
     }
@@ -338,6 +372,7 @@ impl MemoryWorld {
     fn count_disk_fault(&mut self)
         ensures counted { self.new ≡ with_disk_fault self.old }
         ensures later { self.old.disk_faults ≤ self.new.disk_faults }
+        ensures fails { has_failed self.new ≡ true }
     {
         self.disk_faults = self.disk_faults.saturating_add(1);
     }

@@ -1,11 +1,11 @@
 //! A world in memory on which no call fails. It has room for a session of a fixed size, and tells what it
 //! holds as long as all fits.
-ghost use Rattle.std.specs.Prelude.{◌≡◌, ◌≤◌, ◌<◌, ◌+◌, ◌^◌, length, true, IfOk, OnErr};
+ghost use Rattle.std.specs.Prelude.{◌≡◌, ◌≤◌, ◌<◌, ◌+◌, ◌^◌, length, true, false, IfOk, OnOk, OnErr};
 ghost use Rattle.outside_world.specs.Calls.{Took, Gave, Sized, Read, Wrote, Synced};
 ghost use Rattle.outside_world.specs.Counts.{Rose};
 ghost use Rattle.outside_world.specs.Events.{Looked};
 ghost use Rattle.outside_world.specs.Log.{FitsCall, FitsGive, FitsWrite};
-ghost use Rattle.outside_world.specs.Steady.{steady_view, fresh_steady, no_faults, Notes, Stays};
+ghost use Rattle.outside_world.specs.Steady.{steady_view, fresh_steady, no_faults, never_failed, Notes, Stays};
 ghost use Rattle.outside_world.specs.ViewLaws.{left_counts_now, left_only_now, none_asked_now};
 ghost use Rattle.outside_world.specs.ViewLaws.{reads_an_image_now, byte_by_byte_now};
 
@@ -90,6 +90,8 @@ impl Outside for SteadyWorld {
 
     ghost disk_faults = { no_faults };
 
+    ghost failed = { never_failed };
+
     ghost reads_an_image = { λ w f tells. reads_an_image_now w.log f };
 
     ghost byte_by_byte = { λ w tells. byte_by_byte_now w.log };
@@ -106,6 +108,8 @@ impl Outside for SteadyWorld {
         ensures others { (no_faults self.new ≡ no_faults self.old)
             × (no_faults self.new ≡ no_faults self.old) }
         ensures source_fault { OnErr result (Rose (no_faults self.old) (no_faults self.new)) }
+        ensures intact { OnOk result (never_failed self.new ≡ false) }
+        ensures fails { OnErr result (never_failed self.new ≡ true) }
         ensures still { self.new.fits ≡ true → self.old.fits ≡ true }
         ensures told { self.new.fits ≡ true
             → Took (steady_view self.old) (steady_view self.new) buf.new result }
@@ -132,6 +136,8 @@ impl Outside for SteadyWorld {
         ensures others { (no_faults self.new ≡ no_faults self.old)
             × (no_faults self.new ≡ no_faults self.old) }
         ensures sink_fault { OnErr result (Rose (no_faults self.old) (no_faults self.new)) }
+        ensures intact { OnOk result (never_failed self.new ≡ false) }
+        ensures fails { OnErr result (never_failed self.new ≡ true) }
         ensures still { self.new.fits ≡ true → self.old.fits ≡ true }
         ensures told { self.new.fits ≡ true
             → Gave (steady_view self.old) (steady_view self.new) bytes.now result }
@@ -155,6 +161,8 @@ impl Outside for SteadyWorld {
         ensures others { (no_faults self.new ≡ no_faults self.old)
             × (no_faults self.new ≡ no_faults self.old) }
         ensures disk_fault { OnErr result (Rose (no_faults self.old) (no_faults self.new)) }
+        ensures intact { OnOk result (never_failed self.new ≡ false) }
+        ensures fails { OnErr result (never_failed self.new ≡ true) }
         ensures still { self.new.fits ≡ true → self.old.fits ≡ true }
         ensures told { self.new.fits ≡ true
             → Sized (steady_view self.old) (steady_view self.new) file result }
@@ -170,6 +178,8 @@ impl Outside for SteadyWorld {
         ensures others { (no_faults self.new ≡ no_faults self.old)
             × (no_faults self.new ≡ no_faults self.old) }
         ensures disk_fault { OnErr result (Rose (no_faults self.old) (no_faults self.new)) }
+        ensures intact { OnOk result (never_failed self.new ≡ false) }
+        ensures fails { OnErr result (never_failed self.new ≡ true) }
         ensures still { self.new.fits ≡ true → self.old.fits ≡ true }
         ensures told { self.new.fits ≡ true
             → Read (steady_view self.old) (steady_view self.new) file at buf.new result }
@@ -186,6 +196,8 @@ impl Outside for SteadyWorld {
         ensures others { (no_faults self.new ≡ no_faults self.old)
             × (no_faults self.new ≡ no_faults self.old) }
         ensures disk_fault { OnErr result (Rose (no_faults self.old) (no_faults self.new)) }
+        ensures intact { OnOk result (never_failed self.new ≡ false) }
+        ensures fails { OnErr result (never_failed self.new ≡ true) }
         ensures still { self.new.fits ≡ true → self.old.fits ≡ true }
         ensures told { self.new.fits ≡ true
             → Wrote (steady_view self.old) (steady_view self.new) file at bytes.now result }
@@ -209,6 +221,8 @@ impl Outside for SteadyWorld {
         ensures others { (no_faults self.new ≡ no_faults self.old)
             × (no_faults self.new ≡ no_faults self.old) }
         ensures disk_fault { OnErr result (Rose (no_faults self.old) (no_faults self.new)) }
+        ensures intact { OnOk result (never_failed self.new ≡ false) }
+        ensures fails { OnErr result (never_failed self.new ≡ true) }
         ensures still { self.new.fits ≡ true → self.old.fits ≡ true }
         ensures told { self.new.fits ≡ true
             → Synced (steady_view self.old) (steady_view self.new) file result }

@@ -1,9 +1,10 @@
-//! A run of the program in a world: what it does with its words, the line that it says where it doesn't end well, and the
-//! number that it ends with. Begin at `perform`.
+//! How a run of the program ends: how it ends where its words aren't known, the line that is said where it doesn't end well, and
+//! the number that it ends with. Begin at `line_of`. No memory is taken and no file touched.
 #![tactic(auto)]
 
+mod base_16;
+mod ending;
 mod message;
-mod performing;
 
-pub use message::{message_of, say};
-pub use performing::{exit_of, perform};
+pub use ending::{exit_of, status_without_words};
+pub use message::{Line, line_of, say};

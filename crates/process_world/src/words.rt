@@ -1,4 +1,6 @@
 //! The words that the program was started with.
+ghost use Rattle.std.specs.Prelude.{◌≡◌, ◌↔◌};
+
 use std::alloc::Global;
 use std::env;
 use std::io::ErrorKind;
@@ -20,8 +22,17 @@ pub enum WordsError {
 pub fn words_of<R: Env + AllocGlobal>(rt: &R) -> Result<Vec<String>, WordsError> {
     match env::args(rt) {
         Ok(all) => rest_of(rt.alloc(), all),
-        Err(error) if error.kind() == ErrorKind::OutOfMemory => Err(WordsError::NoMemory),
-        Err(_) => Err(WordsError::NotText),
+        Err(error) => Err(cause_of(error.kind())),
+    }
+}
+
+// Why the words aren't known, where reading them failed with an error of this kind.
+fn cause_of(kind: ErrorKind) -> WordsError
+    ensures { (result ≡ WordsError.NoMemory) ↔ (kind ≡ ErrorKind.OutOfMemory) }
+{
+    match kind {
+        ErrorKind::OutOfMemory => WordsError::NoMemory,
+        _ => WordsError::NotText,
     }
 }
 

@@ -11,8 +11,9 @@ use grid_base::{NoMemory, Reply};
 use line_grammar::{Command, LineError, read_line};
 use realm_insert::Engine;
 use rose_query::answer_alone;
+use side_parallel::{Jobs, answer_all};
 use std::alloc::Global;
-use std::thread::{self, Threads};
+use std::thread::Threads;
 
 /// What these lines are answered, one after another, in one reply. A line that is too long is none here.
 /// Each line is a job with its place as its number, in a thread of its own where there are several.
@@ -27,40 +28,44 @@ pub fn answer_batch<R: Threads + Sync, G: Gate>(
     ensures answer { IfOk result
         (λ reply. AreJoined (TellsLine state.now.state) lines.now reply) }
 {
-    if lines.len() == 1 {
-        return answer_job(alloc, gate, state, &lines[0], 0);
-    }
-    let answers = thread::map_indices(
-        rt,
+    let batch = Batch {
         alloc,
-        lines.len(),
-        &|job: usize| -> Result<Reply, NoMemory>
-            requires { (state.now.spent ≡ false) × (job < length lines.now) }
-            ensures { IfOk result
-                (λ reply. TellsLine state.entry.now.state (slice_index_or lines.entry.now job None) reply) }
-        { answer_job(alloc, gate, state, &lines[job], job) },
-    )?;
-    joined(alloc, answers)
+        gate,
+        state,
+        lines,
+    };
+    if lines.len() == 1 {
+        return batch.answer(0);
+    }
+    let replies = answer_all(rt, alloc, &batch, lines.len())?;
+    joined(alloc, &replies)
 }
 
-// Answers a line between the two calls of the gate.
-fn answer_job<G: Gate>(
+// The lines of a batch, each a job that passes the gate.
+#[derive_where(Clone, Copy)]
+struct Batch<'a, G> {
     alloc: Global,
-    gate: &G,
-    state: &Engine,
-    line: &Option<Line>,
-    job: usize,
-) -> Result<Reply, NoMemory>
-    requires ready { state.now.spent ≡ false }
-    ensures { IfOk result (λ reply. TellsLine state.now.state line.now reply) }
-{
-    gate.enter(job);
-    let reply = answer_in_batch(alloc, state, line);
-    gate.leave(job);
-    reply
+    gate: &'a G,
+    state: &'a Engine,
+    lines: &'a [Option<Line>],
 }
 
-fn answer_in_batch(alloc: Global, state: &Engine, line: &Option<Line>) -> Result<Reply, NoMemory>
+impl<'a, G: Gate> Jobs for Batch<'a, G> {
+    ghost is_job = { λ batch k. (batch.state.now.spent ≡ false) × (k < length batch.lines.now) };
+
+    ghost is_text = { λ batch k reply.
+        TellsLine batch.state.now.state (slice_index_or batch.lines.now k None) reply };
+
+    // Answers the line between the two calls of the gate.
+    fn answer(&self, k: usize) -> Result<Reply, NoMemory> {
+        self.gate.enter(k);
+        let reply = answer_line(self.alloc, self.state, &self.lines[k]);
+        self.gate.leave(k);
+        reply
+    }
+}
+
+fn answer_line(alloc: Global, state: &Engine, line: &Option<Line>) -> Result<Reply, NoMemory>
     requires ready { state.now.spent ≡ false }
     ensures { IfOk result (λ reply. TellsLine state.now.state line.now reply) }
 {

@@ -1,25 +1,25 @@
 -- This file shows what two files stand for while a record is appended to the newest.
-use Rattle.std.proofs.Common.{◌≡◌, ◌≢◌, ◌⊎◌, inl, inr, ⊎_elim, ℕ, ◌+◌, ◌≤◌, Bool, List, [], ◌∷◌, ◌++◌, length, take}
-use Rattle.std.proofs.Common.{Some, refl, sym, ◌∙◌, ap, subst, arith}
-use Rattle.std.specs.Prelude.{Result, Ok, Err, OnOk, IfOk}
+use Rattle.std.proofs.Common.{◌≡◌, ◌≢◌, inl, inr, ⊎_elim, ℕ, ◌+◌, ◌≤◌, List, [], ◌∷◌, ◌++◌, length, take}
+use Rattle.std.proofs.Common.{◌∙◌, ap, arith}
+use Rattle.std.specs.Prelude.{Result, Ok, Err, OnOk}
 use Rattle.outside_world.specs.declared.world.FileName.{FileName}
-use Rattle.outside_world.specs.View.{View}
-use Rattle.outside_world.proofs.Moments.{only_wider}
+use Rattle.outside_world.specs.View.{View, IsStable}
 use Rattle.record_codec.specs.declared.record.Record.{Record}
 use Rattle.record_codec.specs.Fitting.{IsRecord}
 use Rattle.record_codec.specs.Spelling.{record_text}
 use Rattle.realm_journal.specs.declared.error.JournalError.{JournalError}
-use Rattle.realm_journal.specs.Appending.{IsShut, IsPart, Appended}
-use Rattle.realm_journal.specs.Gates.{IsClosedAt, IsWholeAt}
+use Rattle.realm_journal.specs.Gates.{IsClosedAt, HasClosedAt, IsWholeAt}
+use Rattle.realm_journal.specs.Appending.{IsPart, Appended}
 use Rattle.realm_pages.specs.Generations.{gate_of}
 use Rattle.realm_files.specs.Meaning.{Meaning}
-use Rattle.realm_files.specs.Stands.{Files, StandsOn, StandsFor, numbered}
-use Rattle.realm_files.specs.Keeping.{at_gate, AllRest}
-use Rattle.realm_files.specs.Writing.{Committed, with_gate}
+use Rattle.realm_files.specs.Stands.{Files, StandsOn, numbered}
+use Rattle.realm_files.specs.Keeping.{at_gate, RestsAt, AllRest}
+use Rattle.realm_files.specs.Writing.{with_gate, RestsBetween, Committed}
 use Rattle.realm_files.specs.declared.place.Place.{Place}
-use Rattle.realm_files.proofs.Pairs.{put, put_here, put_there, put_left}
 use Rattle.realm_files.proofs.Fronts.{led_reach, led_front, led_more, whole_closed, whole_within}
 use Rattle.realm_files.proofs.NewestFronts.{newest_front}
+use Rattle.realm_files.proofs.Runs.{leaves_by_writing}
+use Rattle.realm_files.proofs.Rests.{stable_by_writing}
 
 module _ {S : Type 0} (m : Meaning S) where
   -- other files with the same bytes before the next gate, and the same otherwise
@@ -33,7 +33,7 @@ module _ {S : Type 0} (m : Meaning S) where
     reach = led_reach m stands.first stands.records gate (was place.file) state place.next stands.lead.0
 
     -- where the gate is closed they stand for the same state,
-    pub stands_front : IsClosedAt place.next (files place.file) → StandsOn m files state place
+    stands_front : IsClosedAt place.next (files place.file) → StandsOn m files state place
     stands_front closed = record {
       payload = stands.payload;
       newest = newest_front (numbered place.generation stands.payload) was files place.file place.next reach others front stands.newest;
@@ -47,7 +47,7 @@ module _ {S : Type 0} (m : Meaning S) where
     }
 
     -- and where a record stands whole behind it, for the state after it
-    pub stands_more : (after : S) (r : Record) → IsRecord r → m.leads state r after
+    stands_more : (after : S) (r : Record) → IsRecord r → m.leads state r after
         → IsWholeAt place.next (record_text r) (files place.file)
         → StandsOn m files after (with_gate place (place.next + 1 + length (record_text r)))
     stands_more after r is_record leads whole = record {
@@ -63,78 +63,55 @@ module _ {S : Type 0} (m : Meaning S) where
       );
     }
 
-  -- at rest the next gate is closed in each image, and within its file
-  pub shut_at_rest : (v : View) (state : S) (place : Place) → ((f : FileName) → v.image f (v.reads f))
-      → AllRest m (at_gate state place) v → IsShut v place.file place.next
-  shut_at_rest v state place reads rest = record {
-    within = (rest v.reads reads).reach.1 refl;
-    closed = λ c image.
-        let files = put v.reads place.file c in
-        let stands = (rest files (put_left v v.reads place.file c image (λ f differ. reads f))).stands in
-        subst (λ l. IsClosedAt place.next l) (put_here v.reads place.file c) stands.lead.1;
-  }
+    -- each time the gate of the next record is within its file
+    pub rests_front : HasClosedAt place.next (files place.file) → RestsAt m (at_gate state place) files
+    rests_front closed = record { stands = stands_front closed.1; reach = (omega (arith, closed.0), λ _. closed.0) }
 
-  -- while a record is appended, the files stand for the state before it or after it
-  module _ (old : View) (state after : S) (place : Place) (r : Record) (is_record : IsRecord r) (leads : m.leads state r after)
+    rests_more : (after : S) (r : Record) → IsRecord r → m.leads state r after
+        → IsWholeAt place.next (record_text r) (files place.file)
+        → RestsAt m (at_gate after (with_gate place (place.next + 1 + length (record_text r)))) files
+    rests_more after r is_record leads whole =
+        let within = whole_within place.next (record_text r) (files place.file) whole in
+        record { stands = stands_more after r is_record leads whole; reach = (omega (arith, within), λ _. within) }
+
+  -- while a record is appended, the files rest before it or behind it
+  module _ {old : View} {state : S} (after : S) {place : Place} (r : Record) (is_record : IsRecord r) (leads : m.leads state r after)
       (rest : AllRest m (at_gate state place) old) where
-    abbrev StandForEither : Files → Type 0
-    StandForEither files = StandsFor m files state ⊎ StandsFor m files after
+    abbrev behind : Place
+    behind = with_gate place (place.next + 1 + length (record_text r))
 
     module _ (files : Files) (others : (f : FileName) → f ≢ place.file → old.image f (files f))
         (part : IsPart old place.file place.next (record_text r) (files place.file)) where
-      abbrev was : Files
-      was = put files place.file part.was
+      apart : (f : FileName) → f ≢ place.file → files f ≡ old.reads f
+      apart f differ = rest.stable f (files f) (others f differ)
 
-      stood : StandsOn m was state place
-      stood = (rest was (put_left old files place.file part.was part.could others)).stands
+      front : take place.next (files place.file) ≡ take place.next (old.reads place.file)
+      front = part.front ∙ ap (λ l. take place.next l) (rest.stable place.file part.was part.could)
 
-      apart : (f : FileName) → f ≢ place.file → files f ≡ was f
-      apart f differ = sym (put_there files place.file part.was f differ)
+      rests_behind : IsWholeAt place.next (record_text r) (files place.file) → RestsAt m (at_gate after behind) files
+      rests_behind whole = rests_more old.reads files state place rest.rests.stands apart front after r is_record leads whole
 
-      front : take place.next (files place.file) ≡ take place.next (was place.file)
-      front = part.front ∙ ap (λ l. take place.next l) (sym (put_here files place.file part.was))
-
-      either_way : StandForEither files
-      either_way =
+      rests_between : RestsBetween m (at_gate state place) (at_gate after behind) files
+      rests_between has =
           ⊎_elim
-          (λ closed. inl (Some place, stands_front was files state place stood apart front closed))
-          (λ whole. inr (
-            Some (with_gate place (place.next + 1 + length (record_text r))),
-            stands_more was files state place stood apart front after r is_record leads whole,
-          ))
+          (λ closed. inl (inl (rests_front old.reads files state place rest.rests.stands apart front closed)))
+          (λ whole. inr (rests_behind whole))
           part.gate
 
-      behind : IsWholeAt place.next (record_text r) (files place.file)
-          → StandsOn m files after (with_gate place (place.next + 1 + length (record_text r)))
-      behind whole = stands_more was files state place stood apart front after r is_record leads whole
-
-    pub committed : (new : View) (has_gate : Bool) (result : Result ℕ JournalError)
+    pub committed : {new : View} (result : Result ℕ JournalError) → ((f : FileName) → new.image f (new.reads f))
         → Appended old new place.file place.next (record_text r) result
-        → IfOk result (λ next. next ≡ place.next + 1 + length (record_text r)) → Committed m old new has_gate state after place result
-    committed new has_gate result appended placed = record {
-      takes = appended.writes.takes;
-      given = appended.writes.given;
-      crash = only_wider appended.writes.crash (λ a is. (is.given, λ _. either_way a.files is.others is.named));
-      rest = at_ok result appended.whole placed;
-      either = λ _ files images.
-          either_way files (λ f differ. appended.writes.others f (files f) differ (images f))
-          (appended.writes.named (files place.file) (images place.file));
+        → Committed m old new (at_gate state place) (at_gate after behind) result
+    committed {new} result reads appended = record {
+      written = leaves_by_writing appended.writes rests_between;
+      rest = at_ok result appended.whole appended.stable;
     }
       where
-        rests_after : ((c : List ℕ) → new.image place.file c → IsWholeAt place.next (record_text r) c)
-            → AllRest m (at_gate after (with_gate place (place.next + 1 + length (record_text r)))) new
-        rests_after wholes = λ files images.
-            let whole = wholes (files place.file) (images place.file) in
-            let within = whole_within place.next (record_text r) (files place.file) whole in
-            record {
-              stands = behind files (λ f differ. appended.writes.others f (files f) differ (images f))
-                  (appended.writes.named (files place.file) (images place.file)) whole;
-              reach = (omega (arith, within), λ _. within);
-            }
-
         at_ok : (result : Result ℕ JournalError)
             → OnOk result ((c : List ℕ) → new.image place.file c → IsWholeAt place.next (record_text r) c)
-            → IfOk result (λ next. next ≡ place.next + 1 + length (record_text r))
-            → IfOk result (λ next. AllRest m (at_gate after (with_gate place next)) new)
-        at_ok (Ok n) whole is = subst (λ k. AllRest m (at_gate after (with_gate place k)) new) (sym is) (rests_after whole)
-        at_ok (Err e) whole is = tt
+            → OnOk result (IsStable new place.file) → OnOk result (AllRest m (at_gate after behind) new)
+        at_ok (Ok n) whole stable = record {
+          stable = stable_by_writing appended.writes rest.stable stable;
+          rests = rests_behind new.reads (λ f differ. appended.writes.others f (new.reads f) differ (reads f))
+              (appended.writes.named (new.reads place.file) (reads place.file)) (whole (new.reads place.file) (reads place.file));
+        }
+        at_ok (Err e) whole stable = tt

@@ -4,10 +4,12 @@ pub mod Pairs
 pub mod Fronts
 -- and so does the newest file
 pub mod NewestFronts
+-- runs of calls that take and give nothing
+pub mod Runs
+-- files at rest
+pub mod Rests
 -- what files stand for while a record is appended
 pub mod Appends
--- what they stand for while a missing gate is added
-pub mod MissingGates
 -- what they stand for while the next generation is put on the other
 pub mod Renewals
 -- from a gate on a file has one row of records
@@ -20,3 +22,5 @@ pub mod Scans
 pub mod Syncs
 -- what file A stood for alone
 pub mod Alones
+-- the gate before a record is made ready
+pub mod ReadyGates

@@ -1,5 +1,6 @@
 -- This file shows that two files have one reading: one state with one place, or one damage.
-use Rattle.std.proofs.Common.{◌≡◌, inl, inr, ℕ, ◌+◌, List, length, Option, Some, None, refl, sym, ◌∙◌, ap, subst}
+use Rattle.std.proofs.Common.{◌≡◌, inl, inr, ℕ, ◌+◌, ◌<◌, Bool, true, List, length, Option, Some, None}
+use Rattle.std.proofs.Common.{refl, sym, ◌∙◌, ap, subst}
 use Rattle.outside_world.specs.declared.world.FileName.{FileName}
 use Rattle.record_codec.specs.declared.record.Record.{Record}
 use Rattle.realm_journal.specs.Gates.{IsOpenAt}
@@ -10,10 +11,17 @@ use Rattle.realm_pages.specs.declared.damage.Damage.TheVariants.{BadSnapshot, Ba
 use Rattle.realm_pages.proofs.FilesOnce.{generation_once, no_damage, damage_once, damage_counts}
 use Rattle.realm_files.specs.Meaning.{Meaning}
 use Rattle.realm_files.specs.Rows.{AreLed, LacksRecord}
-use Rattle.realm_files.specs.Stands.{Files, StandsOn, StandsAt, StandsFor, numbered}
+use Rattle.realm_files.specs.Stands.{Files, StandsOn, StandsAt, StandsFor, ReachesTo, numbered}
+use Rattle.realm_files.specs.Keeping.{Kept, RestsAt, KnowsGate, StandsGated}
 use Rattle.realm_files.specs.Damages.{IsNoState, HasBadRecord, IsDamaged}
 use Rattle.realm_files.specs.declared.place.Place.{Place}
 use Rattle.realm_files.proofs.LedOnce.{closed_lacks, one_row}
+
+-- where files reach to a gate that is there, this is known
+gate_known : (files : Files) {has_gate : Bool} (place : Option Place) → ReachesTo files place true → ReachesTo files place has_gate
+    → ((p : Place) → place ≡ Some p → p.next < length (files p.file) → has_gate ≡ true) → has_gate ≡ true
+gate_known files None there reach knows = reach
+gate_known files (Some p) there reach knows = knows p refl (there.1 refl)
 
 module _ {S : Type 0} (m : Meaning S) (opens_once : (payload : List ℕ) (s t : S) → m.opens payload s → m.opens payload t → s ≡ t)
     (leads_once : (s a b : S) (r : Record) → m.leads s r a → m.leads s r b → a ≡ b) (files : Files) where
@@ -76,6 +84,13 @@ module _ {S : Type 0} (m : Meaning S) (opens_once : (payload : List ℕ) (s t : 
   stands_once s t (Some p) (Some q) one also =
       let (file, generation, state, next, count) = rows_once (row_stands one) (row_stands also) in
       (state, ap (λ x. Some x) (same_place p q file (ap (λ (g : Generation). g.number) generation) next))
+
+  -- where they reach to a next gate that is there in one reading, it is there in each that knows it
+  pub has_gate : {state : S} {kept : Kept S} → StandsGated m files state → RestsAt m kept files → KnowsGate kept files
+      → kept.has_gate ≡ true
+  has_gate {state} {kept} (place, gated) rests knows =
+      let same = (stands_once state kept.state place kept.place gated.stands rests.stands).1 in
+      gate_known files kept.place (subst (λ p. ReachesTo files p true) same gated.reach) rests.reach knows
 
   -- ---- or one damage
 

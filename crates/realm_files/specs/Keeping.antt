@@ -1,7 +1,6 @@
 -- What is kept of the files between two changes.
 use Rattle.std.specs.Prelude.{◌≡◌, ◌<◌, Bool, true, length, Option, Some}
-use Rattle.outside_world.specs.declared.world.FileName.{FileName}
-use Rattle.outside_world.specs.View.{View}
+use Rattle.outside_world.specs.View.{View, AllStable}
 use Rattle.realm_files.specs.Meaning.{Meaning}
 use Rattle.realm_files.specs.Stands.{Files, StandsAt, ReachesTo}
 use Rattle.realm_files.specs.declared.place.Place.{Place}
@@ -17,19 +16,21 @@ pub record Kept (S : Type 0) : Type 0 where
 abbrev pub at_gate : {S : Type 0} → S → Place → Kept S
 at_gate state place = record { state = state; place = Some place; has_gate = true }
 
--- the files stand for this state and place, and reach to the next gate
+-- the files stand for the state and place that are kept, and reach to the next gate
 pub record RestsAt {S : Type 0} (m : Meaning S) (kept : Kept S) (files : Files) : Type 0 where
   pub stands : StandsAt m files kept.state kept.place
   pub reach : ReachesTo files kept.place kept.has_gate
 
--- each pair of files that a crash may leave now is so
-abbrev pub InEachImage : View → (Files → Type 0) → Type 0
-InEachImage v IsSo = (files : Files) → ((f : FileName) → v.image f (files f)) → IsSo files
-
--- and rests at what is kept
-abbrev pub AllRest : {S : Type 0} → Meaning S → Kept S → View → Type 0
-AllRest m kept v = InEachImage v (RestsAt m kept)
+-- A crash now leaves each file as it reads, and so they rest at what is kept.
+pub record AllRest {S : Type 0} (m : Meaning S) (kept : Kept S) (v : View) : Type 0 where
+  pub stable : AllStable v
+  pub rests : RestsAt m kept v.reads
 
 -- where the byte of the next gate is within its file, this is known
 abbrev pub KnowsGate : {S : Type 0} → Kept S → Files → Type 0
 KnowsGate kept files = (place : Place) → kept.place ≡ Some place → place.next < length (files place.file) → kept.has_gate ≡ true
+
+-- the files stand for the state, and the byte of their next gate is there; or neither counts, and the state is the empty one
+abbrev pub StandsGated : {S : Type 0} → Meaning S → Files → S → Type 0
+StandsGated m files state =
+    (place : Option Place) × RestsAt m (record { state = state; place = place; has_gate = true }) files

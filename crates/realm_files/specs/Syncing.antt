@@ -1,20 +1,18 @@
 -- Files that are synced before they are read.
-use Rattle.std.specs.Prelude.{◌≡◌, ◌≤◌, ℕ, List, Result, OnOk}
+use Rattle.std.specs.Prelude.{◌≡◌, ◌⊎◌, ◌≤◌, ℕ, Result, OnOk}
 use Rattle.outside_world.specs.declared.world.FileName.{FileName}
 use Rattle.outside_world.specs.declared.world.Failed.{Failed}
-use Rattle.outside_world.specs.View.{View, Moment}
+use Rattle.outside_world.specs.View.{View, Moment, MayLeave, AllStable}
 use Rattle.realm_journal.specs.Reading.{OnlyAsks}
 
--- from some moment of the run on, each crash leaves both files as they were read
+-- From some moment of the run on, each crash leaves both files as they were read; before it, each leaves what it
+-- could leave at the call.
 pub record IsOpened (old new : View) : Type 0 where
   pub since : ℕ
   pub begun : old.moment ≤ since
   pub by_now : since ≤ new.moment
+  pub before : (m : Moment) → new.left_since old.moment m → MayLeave old m ⊎ new.left_since since m
   pub settled : (m : Moment) → new.left_since since m → (m.given ≡ old.given) × ((f : FileName) → m.files f ≡ old.reads f)
-
--- a crash now leaves each file as it reads
-abbrev pub AllStable : View → Type 0
-AllStable v = (f : FileName) (c : List ℕ) → v.image f c → c ≡ v.reads f
 
 -- both were synced, and nothing else happened; or the disk failed
 pub record Synced (old new : View) (result : Result Unit Failed) : Type 0 where

@@ -1,14 +1,16 @@
 -- What each kind of writing does to the files, and what a crash may leave meanwhile.
-use Rattle.std.specs.Prelude.{◌≡◌, ◌⊎◌, ◌+◌, ℕ, Bool, true, List, Option, Some, None, Result, IfOk, OnOk}
+use Rattle.std.specs.Prelude.{◌≡◌, ◌⊎◌, ◌+◌, ℕ, true, List, Option, Some, None, Result, OnOk}
 use Rattle.outside_world.specs.declared.world.FileName.{FileName}
 use Rattle.outside_world.specs.declared.world.FileName.TheVariants.{A, B}
-use Rattle.outside_world.specs.View.{View, Moment}
+use Rattle.outside_world.specs.View.{View}
 use Rattle.outside_world.specs.Since.{TakesNone, LeavesOnly}
 use Rattle.realm_pages.specs.Generations.{gate_of}
 use Rattle.realm_files.specs.Meaning.{Meaning}
-use Rattle.realm_files.specs.Stands.{StandsFor, numbered}
-use Rattle.realm_files.specs.Keeping.{Kept, at_gate, InEachImage, AllRest}
+use Rattle.realm_files.specs.Stands.{Files, numbered}
+use Rattle.realm_files.specs.Keeping.{Kept, at_gate, RestsAt, AllRest}
 use Rattle.realm_files.specs.declared.place.Place.{Place}
+
+-- ---- places
 
 -- the same file and generation, with the next gate there
 abbrev pub with_gate : Place → ℕ → Place
@@ -22,15 +24,6 @@ first_place = record { file = A; generation = 1; next = 4096 }
 abbrev pub place_or_first : Option Place → Place
 place_or_first None = first_place
 place_or_first (Some place) = place
-
--- ---- states that stay
-
--- a run of calls while which the files stand for one state
-pub record Stays {S : Type 0} (m : Meaning S) (old new : View) (state : S) : Type 0 where
-  pub takes : TakesNone old new
-  pub given : new.given ≡ old.given
-  pub crash : LeavesOnly old new (λ a. (a.given ≡ old.given) × StandsFor m a.files state)
-  pub now : InEachImage new (λ files. StandsFor m files state)
 
 -- the other of the two files
 abbrev pub other_file : FileName → FileName
@@ -59,47 +52,56 @@ renewed_place place payload = record {
   next = gate_of (numbered (next_generation place) payload);
 }
 
--- The next generation was put on the other file, and the files stood for one state all the time; or the disk failed before
--- it was whole.
-pub record Renewed {S : Type 0} {T E : Type 0} (m : Meaning S) (old new : View) (state : S) (place : Place)
+-- ---- a run of calls
+
+-- each pair of files that a crash may leave now is so
+abbrev pub InEachImage : View → (Files → Type 0) → Type 0
+InEachImage v AreSo = (files : Files) → ((f : FileName) → v.image f (files f)) → AreSo files
+
+-- A run of calls that takes and gives nothing: each crash since leaves such files, and so does a crash now.
+pub record LeavesFiles (old new : View) (AreSo : Files → Type 0) : Type 0 where
+  pub takes : TakesNone old new
+  pub given : new.given ≡ old.given
+  pub crash : LeavesOnly old new (λ a. (a.given ≡ old.given) × AreSo a.files)
+  pub now : InEachImage new AreSo
+
+-- ---- the next generation
+
+-- meanwhile the files rest at the first or at the second, whether or not the next gate was there
+abbrev pub IsReplaced : {S : Type 0} → Meaning S → View → View → Kept S → Kept S → Type 0
+IsReplaced m old new start after = LeavesFiles old new (λ files. RestsAt m start files ⊎ RestsAt m after files)
+
+-- the next generation was put on the other file, and all rests at it; or the disk failed before it was whole
+pub record Renewed {S : Type 0} {T E : Type 0} (m : Meaning S) (old new : View) (start after : Kept S)
     (result : Result T E) : Type 0 where
-  pub stays : Stays m old new state
-  pub rest : OnOk result (AllRest m (at_gate state place) new)
+  pub replaced : IsReplaced m old new start after
+  pub rest : OnOk result (AllRest m after new)
+
+-- ---- the gate before a record
+
+-- The files rest at what is kept; or at its next gate, once that is there: behind a first generation where no file counted.
+abbrev pub RestsFrom : {S : Type 0} → Meaning S → Kept S → Files → Type 0
+RestsFrom m kept files = RestsAt m kept files ⊎ RestsAt m (at_gate kept.state (place_or_first kept.place)) files
+
+-- The gate at this place is there, closed: a generation was put before it, its byte was added, or nothing was to be done;
+-- or the disk failed before that. Where the gate's byte was missing, nothing is said of what crashes leave meanwhile.
+pub record Readied {S : Type 0} {E : Type 0} (m : Meaning S) (old new : View) (kept : Kept S) (place : Place)
+    (result : Result Unit E) : Type 0 where
+  pub leaves : LeavesFiles old new (λ files. kept.has_gate ≡ true → RestsFrom m kept files)
+  pub rest : OnOk result (AllRest m (at_gate kept.state place) new)
 
 -- ---- a record
 
--- a moment while one change is written: nothing is given, and where the next gate is there, the files stand for the
--- state before or after it
-abbrev pub IsCommitting : {S : Type 0} → Meaning S → View → Bool → S → S → Moment → Type 0
-IsCommitting m old has_gate state after a =
-    (a.given ≡ old.given) × (has_gate ≡ true → StandsFor m a.files state ⊎ StandsFor m a.files after)
+-- where the next gate is there, the files rest at the first, or behind the record at the second
+abbrev pub RestsBetween : {S : Type 0} → Meaning S → Kept S → Kept S → Files → Type 0
+RestsBetween m start after files = start.has_gate ≡ true → RestsFrom m start files ⊎ RestsAt m after files
 
--- A gate that was missing was added, or the disk failed before that. Of what crashes meanwhile leave of the
--- files nothing is said.
-pub record AddedGate {S : Type 0} {E : Type 0} (m : Meaning S) (old new : View) (state : S) (place : Place)
-    (result : Result Unit E) : Type 0 where
-  pub takes : TakesNone old new
-  pub given : new.given ≡ old.given
-  pub crash : LeavesOnly old new (λ a. a.given ≡ old.given)
-  pub rest : OnOk result (AllRest m (at_gate state place) new)
+-- a change leads from the first of these to the second: so it is while it is written, and now
+abbrev pub IsWritten : {S : Type 0} → Meaning S → View → View → Kept S → Kept S → Type 0
+IsWritten m old new start after = LeavesFiles old new (RestsBetween m start after)
 
--- The record is stable, and its next gate is there; or the disk failed, and whatever a crash now leaves stands for the
--- state before or after. Where the gate was missing, nothing is said of what crashes leave of the files before the
--- record is stable.
-pub record Committed {S : Type 0} {E : Type 0} (m : Meaning S) (old new : View) (has_gate : Bool) (state after : S)
-    (place : Place) (result : Result ℕ E) : Type 0 where
-  pub takes : TakesNone old new
-  pub given : new.given ≡ old.given
-  pub crash : LeavesOnly old new (IsCommitting m old has_gate state after)
-  pub rest : IfOk result (λ next. AllRest m (at_gate after (with_gate place next)) new)
-  pub either : has_gate ≡ true → InEachImage new (λ files. StandsFor m files state ⊎ StandsFor m files after)
-
--- While a change leads from the first of these to the second nothing is taken or given. Where the next gate is
--- there, each crash since the begin leaves files that stand for the state before or after, and so does a
--- crash now.
-pub record IsWritten {S : Type 0} (m : Meaning S) (old new : View) (start after : Kept S) : Type 0 where
-  pub takes : TakesNone old new
-  pub given : new.given ≡ old.given
-  pub crash : LeavesOnly old new (IsCommitting m old start.has_gate start.state after.state)
-  pub either : start.has_gate ≡ true
-      → InEachImage new (λ files. StandsFor m files start.state ⊎ StandsFor m files after.state)
+-- its record is stable, and the next gate is there; or the disk failed before that
+pub record Committed {S : Type 0} {E : Type 0} (m : Meaning S) (old new : View) (start after : Kept S)
+    (result : Result ℕ E) : Type 0 where
+  pub written : IsWritten m old new start after
+  pub rest : OnOk result (AllRest m after new)

@@ -1,5 +1,5 @@
 -- This file shows that an engine may begin with the empty drawing.
-use Rattle.std.proofs.Common.{◌≡◌, ℕ, ◌<◌, ◌≤◌, None, Some, List, [], refl, ap, sym, subst, ◌∙◌, arith}
+use Rattle.std.proofs.Common.{◌≡◌, ℕ, ◌<◌, ◌≤◌, None, Some, List, [], All, refl, ap, sym, subst, ◌∙◌, arith}
 use Rattle.std.specs.FinMap as map
 use Rattle.std.specs.Ordering.{nat_cmp}
 use Rattle.std.proofs.lemmas.List.Elements.{All-nil}
@@ -12,6 +12,8 @@ use Rattle.realm_drawing.specs.Chains.{HasValidChain}
 use Rattle.realm_drawing.specs.Keyed.{KeyedDrawing, empty_drawing, keyed}
 use Rattle.realm_drawing.proofs.Elements.{Any-nil}
 use Rattle.realm_index.specs.Index.{Entries}
+use Rattle.record_codec.specs.Traces.{IsTrace}
+use Rattle.state_check.specs.Tabled.{AreAscending}
 use Rattle.realm_insert.specs.Kept.{IsAtRest, IsSettled}
 use Rattle.line_grammar.specs.Spellable.{IsName}
 use Rattle.value_table.specs.Table.{NamedValues}
@@ -50,10 +52,14 @@ empty_is_settled d index values traces is_d is_index is_values is_traces = recor
   rest = subst (λ (e : KeyedDrawing). IsAtRest e index) (sym is_d) (empty_at_rest index is_index);
   values_fit = subst (AreValuesOf d.drawing) (sym is_values)
       (All-nil (λ entry. IsName entry.0 × HasParts d.drawing entry.1.kind entry.1.parts));
+  parts_ascend = subst (λ (v : NamedValues). All (λ entry. AreAscending entry.1.parts) v) (sym is_values)
+      (All-nil (λ entry. AreAscending entry.1.parts));
   ids = subst (λ (e : KeyedDrawing). HasIdsBelow 1 e.drawing) (sym is_d)
       (All-nil (λ (o : Original). (1 ≤ o.id) × (o.id < 1)));
   first_id = omega arith;
   most_ids = omega arith;
   most_changes = omega arith;
   latest = subst (AreLatest 0) (sym is_traces) (record { count = refl; numbers = λ i other within. absurd (omega (arith, within)) });
+  traces_fit = subst (λ (l : List KeptTrace). All (λ kept. IsTrace kept.steps) l) (sym is_traces)
+      (All-nil (λ kept. IsTrace kept.steps));
 }

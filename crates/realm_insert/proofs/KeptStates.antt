@@ -1,12 +1,13 @@
 -- This file shows that what an engine keeps is a valid state, and has a text.
-use Rattle.std.proofs.Common.{◌≡◌, ℕ, ◌+◌, ◌<◌, ◌≤◌, ◌^◌, List, [], ◌∷◌, ◌++◌, length, get_or, take, map, All, AllPairs, refl, sym, ap, subst}
+use Rattle.std.proofs.Common.{◌≡◌, ℕ, ◌+◌, ◌-◌, ◌<◌, ◌^◌, List, [], ◌∷◌, ◌++◌, length, get_or, take, All, AllPairs, sym, ap, subst}
 use Rattle.std.proofs.Common.{◌∙◌, arith}
 use Rattle.std.proofs.lemmas.List.{take_more, map-append}
-use Rattle.std.proofs.lemmas.List.Elements.{All-nil, All-push, All-more}
+use Rattle.std.proofs.lemmas.List.Elements.{All-nil, All-push, All-drop}
 use Rattle.grid_base.specs.Point.{IsBefore}
 use Rattle.grid_base.specs.Drawing.{Drawing}
 use Rattle.grid_base.specs.declared.kinds.Kind.{Kind}
 use Rattle.grid_base.specs.declared.kinds.Kind.TheVariants as kinds
+use Rattle.grid_base.specs.declared.kinds.Step.{Step}
 use Rattle.grid_base.proofs.RealmLaw.{drawn_realm_by}
 use Rattle.line_grammar.specs.Spellable.{IsName}
 use Rattle.realm_drawing.specs.Ids.{IsAscending}
@@ -15,23 +16,22 @@ use Rattle.realm_index.specs.Index.{Entries}
 use Rattle.record_codec.specs.Payload.{AreOfKind, IsKeptTrace}
 use Rattle.record_codec.specs.Traces.{IsTrace}
 use Rattle.record_codec.specs.declared.snapshot.Kept.{Kept}
-use Rattle.state_check.specs.Tabled.{AreAscending, kept_parts}
+use Rattle.state_check.specs.Tabled.{kept_parts}
 use Rattle.value_geometry.specs.Parts.{HasParts}
 use Rattle.value_table.specs.Table.{NamedValues, HasDistinctNames}
 use Rattle.value_table.specs.declared.value.Parts.{Parts}
 use Rattle.value_table.specs.declared.value.Parts.TheVariants as parts
 use Rattle.realm_insert.specs.Kept.{IsSettled}
 use Rattle.realm_insert.specs.Snapshots.{IsValidState, traces_in, kept_steps}
-use Rattle.realm_insert.specs.State.{KeptTrace, kept_trace}
+use Rattle.realm_insert.specs.State.{KeptTrace, kept_trace, latest}
 use Rattle.realm_insert.specs.Values.{AreValuesOf}
 use Rattle.realm_insert.proofs.PreparedChanges.{state_of as state_with}
 
 -- ---- valid states
 pub is_valid_state : (d : KeyedDrawing) (index : Entries) (values : NamedValues) (next_id changes : ℕ) (traces : List KeptTrace)
     → IsSettled d index values next_id changes traces → AllPairs IsBefore d.drawing.points → IsAscending d.drawing.originals
-    → HasDistinctNames values → All (λ entry. AreAscending entry.1.parts) values → All (λ kept. IsTrace kept.steps) traces
-    → IsValidState (state_with d.drawing next_id values changes traces)
-is_valid_state d index values next_id changes traces kept ascend rise apart parts_ascend fit = record {
+    → HasDistinctNames values → IsValidState (state_with d.drawing next_id values changes traces)
+is_valid_state d index values next_id changes traces kept ascend rise apart = record {
   most_changes = kept.most_changes;
   first_id = kept.first_id;
   most_ids = kept.most_ids;
@@ -42,9 +42,9 @@ is_valid_state d index values next_id changes traces kept ascend rise apart part
   realm = drawn_realm_by d.drawing kept.rest.settled;
   distinct = apart;
   values_fit = kept.values_fit;
-  parts_ascend = parts_ascend;
+  parts_ascend = kept.parts_ascend;
   latest = kept.latest;
-  traces_fit = fit;
+  traces_fit = kept.traces_fit;
 }
 
 -- states with the same parts are one
@@ -72,17 +72,23 @@ values_of_kinds d values fit = λ k entry within.
     (has.0, of_kind d _ _ has.1)
 
 -- ---- traces
+-- the latest traces have texts, as those before and the new one do
+pub latest_fit : (traces new : List KeptTrace) (number : ℕ) (steps : List Step) → All (λ kept. IsTrace kept.steps) traces
+    → IsTrace steps → new ≡ latest (traces ++ kept_trace number steps ∷ []) → All (λ kept. IsTrace kept.steps) new
+latest_fit traces new number steps fit text is =
+    let Fits = λ (kept : KeptTrace). IsTrace kept.steps in
+    let all = traces ++ kept_trace number steps ∷ [] in
+    subst (All Fits) (sym is) (All-drop Fits (length all - 16) all (All-push Fits traces (kept_trace number steps) fit text))
+
 -- the copies are the first i of the traces, each with a text
 pub record AreCopied (list : List KeptTrace) (i : ℕ) (copies : List Kept) : Type 0 where
   pub are : traces_in copies ≡ take i list
   pub fit : All IsKeptTrace copies
-  pub texts : All (λ kept. IsTrace kept.steps) (take i list)
 
 pub none_copied : (list : List KeptTrace) (copies : List Kept) → copies ≡ [] → AreCopied list 0 copies
 none_copied list copies is = record {
   are = ap traces_in is;
   fit = subst (All IsKeptTrace) (sym is) (All-nil IsKeptTrace);
-  texts = All-nil (λ kept. IsTrace kept.steps);
 }
 
 -- one more
@@ -97,5 +103,4 @@ one_more_copied list i kept copies new within is small text pushed was = record 
     number = small;
     steps = (omega (arith, text.few), text.each);
   }));
-  texts = All-more (λ kept. IsTrace kept.steps) list i kept within was.texts (subst (λ (k : KeptTrace). IsTrace k.steps) is text);
 }

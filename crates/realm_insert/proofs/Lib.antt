@@ -60,6 +60,8 @@ pub mod EvenCycles
 pub mod ChangedValues
 -- the value that a change defines
 pub mod NewValues
+-- that the parts of values ascend, after a change too
+pub mod AscendingParts
 -- that a change by an operator draws what is drawn already
 pub mod DrawnAlready
 -- an index in which all pieces are put

@@ -33,13 +33,13 @@ one_geometry d v (L ss) (R ts) is also up up_too = let kind : kinds.Lines ≡ ki
 one_geometry d v (R ss) (P qs) is also up up_too = let kind : kinds.Regions ≡ kinds.Points = sym is.0 ∙ also.0 in absurd cc
 one_geometry d v (R ss) (L ts) is also up up_too = let kind : kinds.Regions ≡ kinds.Lines = sym is.0 ∙ also.0 in absurd cc
 
-one_named : (s : State) (name : List ℕ) (g h : Geometry) → IsGeometryNamed s name (Some g) → IsGeometryNamed s name (Some h)
+pub one_named : (s : State) (name : List ℕ) (g h : Geometry) → IsGeometryNamed s name (Some g) → IsGeometryNamed s name (Some h)
     → IsAscending g → IsAscending h → g ≡ h
 one_named s name g h (v, named, is) (w, other, also) up up_too =
     let same : v ≡ w = cc in
     one_geometry s.drawing w g h (subst (λ (u : Value). IsGeometryOf s.drawing u g) same is) also up up_too
 
-one_second : (s : State) (second : Option (List ℕ)) (b c : Option Geometry) → IsSecondMadeOf s second b
+pub one_second : (s : State) (second : Option (List ℕ)) (b c : Option Geometry) → IsSecondMadeOf s second b
     → IsSecondMadeOf s second c → IfSome b IsAscending → IfSome c IsAscending → b ≡ c
 one_second s None None None is also up up_too = refl
 one_second s None (Some b) c is also up up_too = absurd is
@@ -49,7 +49,7 @@ one_second s (Some name) (Some b) None is also up up_too = absurd also
 one_second s (Some name) (Some b) (Some c) is also up up_too = ap Some (one_named s name b c is also up up_too)
 
 -- ---- what they make
-one_of_named : (op : Op) (first : List ℕ) (second : Option (List ℕ)) (s : State) (g h : Geometry)
+pub one_of_named : (op : Op) (first : List ℕ) (second : Option (List ℕ)) (s : State) (g h : Geometry)
     → IsMadeOfNamed op first second s g → IsMadeOfNamed op first second s h → g ≡ h
 one_of_named op first second s g h one other =
     let are = one.are_operands in

@@ -1,9 +1,9 @@
 -- This file shows when a snapshot keeps a valid state, and that an engine may begin with it.
-use Rattle.std.proofs.Common.{◌≡◌, ℕ, ◌+◌, ◌-◌, ◌<◌, ◌≤◌, min, List, [], ◌∷◌, ◌++◌, length, get_or, take, map, All, refl, sym, ap, subst}
+use Rattle.std.proofs.Common.{◌≡◌, ℕ, ◌+◌, ◌<◌, min, List, [], ◌∷◌, ◌++◌, length, get_or, take, All, sym, ap, subst}
 use Rattle.std.proofs.Common.{◌∙◌, inl, inr, arith}
 use Rattle.std.proofs.lemmas.Bool.{cases_lt}
 use Rattle.std.proofs.lemmas.List.{take_more, get_or-map, length-map, map-append}
-use Rattle.grid_base.specs.Drawing.{Drawing, IsDrawnRealm}
+use Rattle.grid_base.specs.Drawing.{Drawing}
 use Rattle.grid_base.proofs.Elements.{same_place}
 use Rattle.realm_drawing.specs.Keyed.{KeyedDrawing}
 use Rattle.realm_index.specs.Index.{Entries}
@@ -12,11 +12,11 @@ use Rattle.record_codec.specs.declared.snapshot.Kept.{Kept}
 use Rattle.record_codec.specs.declared.snapshot.Snapshot.{Snapshot}
 use Rattle.state_check.specs.Drawable.{drawing_with}
 use Rattle.state_check.specs.Numbers.{HaveFitting}
-use Rattle.state_check.specs.Tabled.{entries_of}
+use Rattle.state_check.specs.Tabled.{AreAscending, entries_of}
 use Rattle.value_table.specs.Table.{NamedValues}
 use Rattle.realm_insert.specs.Kept.{IsSettled}
 use Rattle.realm_insert.specs.Snapshots.{state_of, traces_in, IsValidState, HasValidParts, IsRestored}
-use Rattle.realm_insert.specs.State.{State, KeptTrace, HasIdsBelow, AreLatest, kept_trace}
+use Rattle.realm_insert.specs.State.{KeptTrace, HasIdsBelow, AreLatest, kept_trace}
 use Rattle.realm_insert.specs.Values.{AreValuesOf}
 use Rattle.realm_insert.proofs.PreparedChanges.{state_of as state_with}
 
@@ -53,16 +53,19 @@ is_valid s fitting parts latest fit = record {
 -- an engine may begin with what was restored
 pub begins : (s : Snapshot) (d : KeyedDrawing) (index : Entries) (values : NamedValues) (traces : List KeptTrace)
     → IsRestored s d index values → HaveFitting s.changes s.next_id s.originals → traces ≡ traces_in s.traces
-    → AreLatest s.changes traces → IsSettled d index values s.next_id s.changes traces
-begins s d index values traces restored fitting same latest = record {
+    → AreLatest s.changes traces → All (λ kept. IsTrace kept.steps) traces → IsSettled d index values s.next_id s.changes traces
+begins s d index values traces restored fitting same latest texts = record {
   rest = restored.rest;
   values_fit = subst (λ (e : Drawing). AreValuesOf e values) (sym restored.drawing)
       (subst (AreValuesOf (drawing_with s.points s.originals)) (sym restored.named) restored.parts.tabled.fit);
+  parts_ascend = subst (λ (v : NamedValues). All (λ entry. AreAscending entry.1.parts) v) (sym restored.named)
+      restored.parts.tabled.ascend;
   ids = subst (HasIdsBelow s.next_id) (sym restored.drawing) fitting.1;
   first_id = fitting.0.1;
   most_ids = fitting.0.2;
   most_changes = fitting.0.0;
   latest = latest;
+  traces_fit = texts;
 }
 
 -- and then its state is the one that was kept

@@ -106,7 +106,7 @@ one_failure s c trace m n (changed, is_changed, fails) (other, is_other, also) =
     one_number changed trace m n fails (subst (λ (d : Drawing). Misfits d trace n) same also)
 
 -- what has no cause isn't refused
-none_is_first : (list : List Refusal) (c : Change) (s : State) (word : Refusal) → HasNoneOf list c s → IsFirstOf list c s word → ⊥
+pub none_is_first : (list : List Refusal) (c : Change) (s : State) (word : Refusal) → HasNoneOf list c s → IsFirstOf list c s word → ⊥
 none_is_first [] c s word none first = first
 none_is_first (r ∷ list) c s word none (inl here) = none.0 here.0
 none_is_first (r ∷ list) c s word none (inr later) = none_is_first list c s word none.1 later.1

@@ -1,5 +1,5 @@
 -- Snapshots of states, and which states are valid.
-use Rattle.std.specs.Prelude.{◌≡◌, ℕ, ◌≤◌, ◌^◌, List, map, All, AllPairs}
+use Rattle.std.specs.Prelude.{◌≡◌, ◌≤◌, ◌^◌, List, map, All, AllPairs}
 use Rattle.grid_base.specs.Point.{IsBefore}
 use Rattle.grid_base.specs.Drawing.{IsDrawnRealm}
 use Rattle.realm_drawing.specs.Chains.{AllValid}

@@ -31,7 +31,7 @@ use crate::refusal::{ChangeError, Refusal, ReplayError};
 use crate::restoring::{numbers_in, restored};
 use crate::settling::SettleError;
 use crate::snapshot_error::SnapshotError;
-use grid_base::{NoMemory, Step};
+use grid_base::{NoMemory, Point, Step};
 use line_grammar::Change;
 use realm_drawing::Drawing;
 use realm_index::Index;
@@ -145,11 +145,13 @@ impl Engine {
     }
 
     /// The whole state, which is valid.
-    pub fn snapshot(&self, alloc: Global) -> Result<Snapshot, NoMemory>
+    pub fn snapshot(&self) -> Result<Snapshot, NoMemory>
         requires ready { self.now.spent ≡ false }
         ensures kept { IfOk result (λ s. IsSnapshot s × (state_of s ≡ self.now.state)) }
         ensures valid { IfOk result (λ s. IsValidState (state_of s)) }
     {
+        self.is_valid();
+        let alloc = self.alloc;
         let drawing = self.drawing();
         let points = explicit_points(alloc, drawing)?;
         let originals = copied_originals(alloc, drawing, self.next_id())?;
@@ -163,6 +165,16 @@ impl Engine {
             values: ListOf::new(values),
             traces: ListOf::new(traces),
         })
+    }
+
+    /// The state is valid: a law of what the engine keeps. Nothing is done but to look here and there.
+    pub fn is_valid(&self)
+        requires ready { self.now.spent ≡ false }
+        ensures valid { IsValidState self.now.state }
+    {
+        let drawing = &self.drawing;
+        let (_, _) = (drawing.chain(0), drawing.is_explicit(&Point::at(0, 0)));
+        let _ = self.table.len();
     }
 
     /// Whether want of memory ended a change, so that the engine can't be used any more.
@@ -389,7 +401,10 @@ fn count(
     ensures latest { OnOk result (AreLatest changes.new traces.new.items) }
     ensures traces { OnOk result
         (traces.new.items ≡ latest (traces.old.items ++ kept_trace (changes.old + 1) trace.now ∷ [])) }
+    ensures fits { IsTrace trace.now }
 {
+    // That each step has a text is known where they are read.
+    let _steps = trace.steps();
     let number = *changes + 1;
     let trace = trace.copied(alloc)?;
     if traces.len() == MOST_TRACES {
@@ -491,7 +506,6 @@ fn push_trace(alloc: Global, traces: &mut Vec<LastTrace>, kept: &Kept) -> Result
 fn copied_traces(alloc: Global, list: &[LastTrace]) -> Result<Vec<Kept>, NoMemory>
     ensures same { IfOk result (λ v. traces_in v.items ≡ list.now) }
     ensures fits { IfOk result (λ v. IsList HasKeptText v.items) }
-    ensures texts { IfOk result (λ v. All (λ kept. IsTrace kept.steps) list.now) }
 {
     let mut copies = Vec::new(alloc);
     for kept in list {

@@ -3,13 +3,14 @@ use Rattle.std.proofs.Common.{◌≡◌, ℕ, ◌+◌, ◌<◌, List, [], ◌∷
 use Rattle.std.specs.Prelude.{IsErr}
 use Rattle.outside_world.specs.declared.world.FileName.{FileName}
 use Rattle.outside_world.specs.declared.world.Failed.{Failed}
-use Rattle.outside_world.specs.View.{View}
+use Rattle.outside_world.specs.View.{View, IsStable}
 use Rattle.outside_world.specs.Calls.{overwritten, Wrote, Synced}
 use Rattle.outside_world.specs.Since.{WritesOnly}
 use Rattle.outside_world.proofs.FileRuns.{writes_none, writes_write, writes_sync}
 use Rattle.realm_journal.specs.Gates.{open_gate, IsWholeAt}
 use Rattle.realm_journal.specs.declared.error.JournalError.{JournalError}
 use Rattle.realm_journal.specs.Appending.{IsShut, IsPart, Appended}
+use Rattle.realm_journal.proofs.StableFiles.{synced_stable}
 use Rattle.realm_journal.proofs.TornGates.{block_of, torn_behind, behind, reaches, torn_gate, open_whole}
 
 -- what is written is known in other words
@@ -24,13 +25,13 @@ not_ok n is = cc
 pub appended_part : {old new : View} {file : FileName} {at : ℕ} {text : List ℕ} (r : Result ℕ JournalError) → IsErr r
     → WritesOnly old new file (IsPart old file at text) → Appended old new file at text r
 appended_part (Ok n) no_error writes = absurd (not_ok n no_error)
-appended_part (Err e) is_error writes = record { writes = writes; whole = tt }
+appended_part (Err e) is_error writes = record { writes = writes; whole = tt; stable = tt }
 
 -- or with the text whole
 pub appended_whole : {old new : View} {file : FileName} {at : ℕ} {text : List ℕ} (n : ℕ)
     → WritesOnly old new file (IsPart old file at text) → ((c : List ℕ) → new.image file c → IsWholeAt at text c)
-    → Appended old new file at text (Ok n)
-appended_whole n writes whole = record { writes = writes; whole = whole }
+    → IsStable new file → Appended old new file at text (Ok n)
+appended_whole n writes whole lasts = record { writes = writes; whole = whole; stable = lasts }
 
 module _ (a b : View) (file : FileName) (at : ℕ) (text : List ℕ) (shut : IsShut a file at) where
   abbrev block : List ℕ
@@ -41,7 +42,7 @@ module _ (a b : View) (file : FileName) (at : ℕ) (text : List ℕ) (shut : IsS
 
   -- nothing stands there yet
   at_start : Part a
-  at_start = writes_none (λ c i. record { was = c; could = i; front = refl; gate = inl (shut.closed c i) })
+  at_start = writes_none (λ c i. record { was = c; could = i; front = refl; gate = inl (shut c i) })
 
   -- the text is written
   pub behind_gate : (r : Result Unit Failed) → Wrote a b file (at + 1) block r → Part b
@@ -52,7 +53,11 @@ module _ (a b : View) (file : FileName) (at : ℕ) (text : List ℕ) (shut : IsS
   pub behind_synced : (c : View) (r s : Result Unit Failed) → Wrote a b file (at + 1) block r → Synced b c file s → Part c
   behind_synced c r s call next = writes_sync (behind_gate r call) next
 
-  module _ (c d : View) (x y : Unit {0}) (call : Wrote a b file (at + 1) block (Ok x)) (next : Synced b c file (Ok y)) where
+  module _ (current : a.image file (a.reads file)) (c d : View) (x y : Unit {0}) (call : Wrote a b file (at + 1) block (Ok x))
+      (next : Synced b c file (Ok y)) where
+    within : at < length (a.reads file)
+    within = (shut (a.reads file) current).0
+
     abbrev rest : List ℕ
     rest = drop (at + 1 + length block) (a.reads file)
 
@@ -60,19 +65,16 @@ module _ (a b : View) (file : FileName) (at : ℕ) (text : List ℕ) (shut : IsS
     stands = next.leaves.files.reads file ∙ call.written
 
     reach : at < length (c.reads file)
-    reach = subst (λ (l : List ℕ). at < length l) (sym stands) (reaches at block (a.reads file) shut.within)
+    reach = subst (λ (l : List ℕ). at < length l) (sym stands) (reaches at block (a.reads file) within)
 
     after : drop (at + 1) (c.reads file) ≡ block ++ rest
-    after = ap (λ (l : List ℕ). drop (at + 1) l) stands ∙ behind at block (a.reads file) shut.within
-
-    only : (e : List ℕ) → c.image file e → e ≡ c.reads file
-    only e i = next.stable e i ∙ sym (next.leaves.files.reads file)
+    after = ap (λ (l : List ℕ). drop (at + 1) l) stands ∙ behind at block (a.reads file) within
 
     -- the gate is opened
     pub gate_opened : (s : Result Unit Failed) → Wrote c d file at (open_gate ∷ []) s → Part d
     gate_opened s third =
         let so_far : Part c = behind_synced c (Ok x) (Ok y) call next in
-        writes_write so_far third (λ e i. torn_gate a c file at text rest e (c.reads file) so_far.named only reach after (third.images e i))
+        writes_write so_far third (λ e i. torn_gate a c file at text rest e (c.reads file) so_far.named (synced_stable next) reach after (third.images e i))
 
     -- and synced
     pub gate_synced : (e : View) (s t : Result Unit Failed) → Wrote c d file at (open_gate ∷ []) s → Synced d e file t → Part e

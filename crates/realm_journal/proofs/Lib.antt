@@ -1,5 +1,7 @@
 -- which record a block is the text of
 pub mod Preparing
+-- that what was synced is stable
+pub mod StableFiles
 -- what torn writes leave of a file with a gate
 pub mod TornGates
 -- where an append ends

@@ -1,5 +1,5 @@
 -- This file shows how records are read one after another.
-use Rattle.std.proofs.Common.{◌≡◌, ℕ, ◌+◌, ◌-◌, ◌<◌, ◌≤◌, Bool, true, false, List, [], ◌∷◌, ◌++◌, length, take, drop, get_or}
+use Rattle.std.proofs.Common.{◌≡◌, ℕ, ◌+◌, ◌-◌, ◌^◌, ◌<◌, ◌≤◌, min, Bool, true, false, List, [], ◌∷◌, ◌++◌, length, take, drop, get_or}
 use Rattle.std.proofs.Common.{refl, sym, ◌∙◌, ap, subst, arith, length-drop, length-append, ⊎_elim}
 use Rattle.std.specs.Prelude.{IsTrue, Option, Some, None, IfSome}
 use Rattle.std.proofs.lemmas.Bool.{cases_lt}
@@ -89,6 +89,18 @@ scans_bad file bytes at rs end is so_far opened none =
         is_bad = λ _. (gate_behind file bytes at end is ∙ opened, subst (λ l. BeginsWithNone l) behind none);
       };
     }
+
+-- a place within the bytes of a file is told in 64 bits
+pub place_told : (file bytes : List ℕ) (at end told : ℕ) → at < 2 ^ 64 → length file < 2 ^ 64 → bytes ≡ drop at file
+    → end ≤ length bytes → told ≡ min (at + end) (2 ^ 64 - 1) → at + end ≡ told
+place_told file bytes at end told fits short is within saturated =
+    omega (arith, fits, short, within, saturated, ap length is, length-drop at file)
+
+-- what is told of records and of their end is what was found
+pub scans_as : {file : List ℕ} {at : ℕ} {list rs : List Record} {told end : ℕ} {bad : Bool} → list ≡ rs → end ≡ told
+    → Scans file at rs end bad → Scans file at list told bad
+scans_as {file} {at} {list} {end = end} {bad} same place scans =
+    subst (λ k. Scans file at list k bad) place (subst (λ l. Scans file at l end bad) (sym same) scans)
 
 -- a gate that isn't open within the bytes is closed
 pub closed_unless : (bytes : List ℕ) (end : ℕ) (test : Bool) → ((end < length bytes) × IsOpenAt end bytes → IsTrue test)

@@ -5,7 +5,7 @@ use Rattle.std.proofs.lemmas.List.{length-take-le, take_at, drop_at, get_or_at}
 use Rattle.std.specs.Prelude.{Result, Ok, Err, IsErr}
 use Rattle.outside_world.specs.declared.world.FileName.{FileName}
 use Rattle.outside_world.specs.declared.world.Failed.{Failed}
-use Rattle.outside_world.specs.View.{View}
+use Rattle.outside_world.specs.View.{View, IsStable}
 use Rattle.outside_world.specs.Disk.{IsByteByByte}
 use Rattle.outside_world.specs.Calls.{overwritten, Wrote, Synced}
 use Rattle.outside_world.specs.Since.{WritesOnly}
@@ -13,7 +13,8 @@ use Rattle.outside_world.proofs.Mixtures.{written_byte}
 use Rattle.outside_world.proofs.FileRuns.{writes_none, writes_write, writes_sync}
 use Rattle.realm_journal.specs.declared.error.JournalError.{JournalError}
 use Rattle.realm_journal.specs.Gates.{open_gate, closed_gate}
-use Rattle.realm_journal.specs.Shutting.{IsStable, NeedsShutting, IsShutting, Shut}
+use Rattle.realm_journal.specs.Shutting.{NeedsShutting, IsShutting, Shut}
+use Rattle.realm_journal.proofs.StableFiles.{synced_stable}
 
 -- it ends with a fault of the disk
 not_ok : (x : Unit {0}) → IsErr {T = Unit {0}} {E = JournalError} (Ok x) → ⊥
@@ -82,15 +83,16 @@ module _ {a b : View} {file : FileName} {at : ℕ} (by_bytes : IsByteByByte a) (
       → Synced b c file (Ok y) → Shut a c file at (Ok z)
   shut_whole {c} within call next =
       let reads : c.reads file ≡ overwritten at (closed_gate ∷ []) (a.reads file) = next.leaves.files.reads file ∙ call.written in
-      let lasts : IsStable c file = λ e i. next.stable e i ∙ sym (next.leaves.files.reads file) in
+      let lasts : IsStable c file = synced_stable next in
       record {
         writes = shut_synced call next;
-        shut = record {
-          within = subst (λ (l : List ℕ). at < length l) (sym reads) (reach_of at (a.reads file) within);
-          closed = λ e i is_open.
-              let gate : get_or e at 0 ≡ closed_gate = ap (λ l. get_or l at 0) (lasts e i ∙ reads) ∙ gate_of at (a.reads file) within in
-              cc;
-        };
+        shut = λ e i.
+            let is : e ≡ overwritten at (closed_gate ∷ []) (a.reads file) = lasts e i ∙ reads in (
+              subst (λ (l : List ℕ). at < length l) (sym is) (reach_of at (a.reads file) within),
+              λ is_open.
+                  let gate : get_or e at 0 ≡ closed_gate = ap (λ l. get_or l at 0) is ∙ gate_of at (a.reads file) within in
+                  cc,
+            );
         stable = lasts;
         front = ap (λ l. take at l) reads ∙ front_of at (a.reads file) within;
         behind = ap (λ l. drop (at + 1) l) reads ∙ behind_of at (a.reads file) within;

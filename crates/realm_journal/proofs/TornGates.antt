@@ -6,7 +6,7 @@ use Rattle.std.proofs.lemmas.List.{get_or-take, take-take, take_all, drop_at, dr
 use Rattle.outside_world.specs.declared.world.FileName.{FileName}
 use Rattle.outside_world.specs.View.{View}
 use Rattle.outside_world.specs.Calls.{Torn, overwritten}
-use Rattle.realm_journal.specs.Gates.{open_gate, closed_gate, IsClosedAt, IsWholeAt}
+use Rattle.realm_journal.specs.Gates.{open_gate, closed_gate, HasClosedAt, IsWholeAt}
 use Rattle.realm_journal.specs.Appending.{IsShut, IsPart}
 
 -- a text with a closed gate after it
@@ -25,12 +25,14 @@ same_front at c d same =
 -- the text is written behind the gate, which stays closed
 pub torn_behind : (old : View) (file : FileName) (at n : ℕ) (text c : List ℕ) → IsShut old file at
     → (d : List ℕ) × old.image file d × Torn (at + 1) n d c → IsPart old file at text c
-torn_behind old file at n text c shut (d, could, torn) = record {
-  was = d;
-  could = could;
-  front = same_front at c d torn.before;
-  gate = inl (λ is_open. shut.closed d could (sym (same_gate at c d torn.before) ∙ is_open));
-}
+torn_behind old file at n text c shut (d, could, torn) =
+    let (within, closed) = shut d could in
+    record {
+      was = d;
+      could = could;
+      front = same_front at c d torn.before;
+      gate = inl (omega (arith, within, torn.no_shorter), λ is_open. closed (sym (same_gate at c d torn.before) ∙ is_open));
+    }
 
 -- what was written whole stands behind the gate,
 pub behind : (at : ℕ) (block old : List ℕ) → at < length old
@@ -48,11 +50,11 @@ pub whole : (at : ℕ) (text rest c : List ℕ) → drop at c ≡ open_gate ∷ 
 whole at text rest c is = (rest, is ∙ ap (λ (l : List ℕ). open_gate ∷ l) (append_assoc text (closed_gate ∷ []) rest))
 
 either_way : (at : ℕ) (text rest c : List ℕ) → at < length c → drop (at + 1) c ≡ block_of text ++ rest
-    → IsClosedAt at c ⊎ IsWholeAt at text c
+    → HasClosedAt at c ⊎ IsWholeAt at text c
 either_way at text rest c within after = elim (cases_eq (get_or c at 0) open_gate) [
   | inl is ↦ inr (whole at text rest c
       (drop_more c at 0 within ∙ ap (λ (b : ℕ). b ∷ drop (at + 1) c) is ∙ ap (λ (l : List ℕ). open_gate ∷ l) after))
-  | inr other ↦ inl other
+  | inr other ↦ inl (within, other)
 ]
 
 -- the gate is opened: it is closed, or the text behind it counts

@@ -1,5 +1,5 @@
 -- Gates: what stands behind a gate counts where the gate is open.
-use Rattle.std.specs.Prelude.{◌≡◌, ◌≢◌, ℕ, List, ◌∷◌, ◌++◌, length, take, drop, slice_index_or}
+use Rattle.std.specs.Prelude.{◌≡◌, ◌≢◌, ◌<◌, ℕ, List, ◌∷◌, ◌++◌, length, take, drop, slice_index_or}
 
 -- the byte of an open gate; every other byte is a closed one
 abbrev pub open_gate : ℕ
@@ -20,6 +20,10 @@ IsOpenAt at file = slice_index_or file at 0 ≡ open_gate
 -- the gate at this place is closed, as each is that lies past the end
 abbrev pub IsClosedAt : ℕ → List ℕ → Type 0
 IsClosedAt at file = slice_index_or file at 0 ≢ open_gate
+
+-- a closed gate stands at this place, within the file
+abbrev pub HasClosedAt : ℕ → List ℕ → Type 0
+HasClosedAt at file = (at < length file) × IsClosedAt at file
 
 -- the gate is open, and behind it stand these bytes whole, and then a closed gate within the file
 abbrev pub IsWholeAt : ℕ → List ℕ → List ℕ → Type 0

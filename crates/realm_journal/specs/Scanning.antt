@@ -34,4 +34,4 @@ pub record Scans (file : List ℕ) (at : ℕ) (list : List Record) (end : ℕ) (
 -- they were read, or the disk failed or memory ran out
 pub record Scanned (old new : View) (file : FileName) (at : ℕ) (result : Result Scan ScanError) : Type 0 where
   pub asks : OnlyAsks old new
-  pub scan : IfOk result (λ s. Scans (old.reads file) at s.list.items s.end s.bad)
+  pub scan : IfOk result (λ s. Scans (old.reads file) at s.list s.end s.bad)

@@ -1,15 +1,11 @@
 -- A gate that is shut before anything is written behind it.
 use Rattle.std.specs.Prelude.{◌≡◌, ◌⊎◌, ◌+◌, ◌<◌, ℕ, List, length, take, drop, Result, OnOk}
 use Rattle.outside_world.specs.declared.world.FileName.{FileName}
-use Rattle.outside_world.specs.View.{View}
+use Rattle.outside_world.specs.View.{View, IsStable}
 use Rattle.outside_world.specs.Since.{WritesOnly}
 use Rattle.realm_journal.specs.Gates.{IsOpenAt, IsClosedAt}
 use Rattle.realm_journal.specs.Appending.{IsShut}
 use Rattle.realm_journal.specs.declared.error.JournalError.{JournalError}
-
--- each crash leaves of the file what it reads as, as after a sync
-abbrev pub IsStable : View → FileName → Type 0
-IsStable v file = (c : List ℕ) → v.image file c → c ≡ v.reads file
 
 -- the gate is missing at the end of the file, or open
 abbrev pub NeedsShutting : ℕ → List ℕ → Type 0

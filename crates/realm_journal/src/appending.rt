@@ -1,6 +1,6 @@
 //! Appends: a text is written behind a closed gate with a closed gate after it, and synced; then its gate is
 //! opened, and synced. One write for all would not do: a crash could leave the gate open and the text torn.
-ghost use Rattle.std.specs.Prelude.{◌≡◌, ◌<◌, ◌+◌, ◌^◌, length, OnErr, IfOk};
+ghost use Rattle.std.specs.Prelude.{◌≡◌, ◌<◌, ◌+◌, ◌^◌, false, length, OnOk, OnErr, IfOk};
 ghost use Rattle.outside_world.specs.Counts.{Rose};
 ghost use Rattle.outside_world.specs.GoesOn.{GoesOn};
 ghost use Rattle.record_codec.specs.Spelling.{record_text};
@@ -21,10 +21,12 @@ pub fn append<W: Outside>(
 ) -> Result<u64, JournalError>
     requires room { at < 2 ^ 61 }
     requires gate { W.tells world.old → IsShut (W.view world.old) file at }
+    requires intact { W.failed world.old ≡ false }
     ensures place { IfOk result (λ next. next ≡ at + 1 + length (record_text p.now)) }
     ensures told { W.tells world.new
         → Appended (W.view world.old) (W.view world.new) file at (record_text p.now) result }
     ensures disk_fault { OnErr result (Rose (W.disk_faults world.old) (W.disk_faults world.new)) }
+    ensures intact { OnOk result (W.failed world.new ≡ false) }
     ensures goes_on { GoesOn ⟦<W as Outside>⟧ world.old world.new }
 {
     append_block(world, file, at, p.block())
@@ -39,10 +41,12 @@ pub fn append_block<W: Outside>(
 ) -> Result<u64, JournalError>
     requires room { at < 2 ^ 61 }
     requires gate { W.tells world.old → IsShut (W.view world.old) file at }
+    requires intact { W.failed world.old ≡ false }
     ensures place { IfOk result (λ next. next ≡ at + 1 + length block.now) }
     ensures told { W.tells world.new
         → Appended (W.view world.old) (W.view world.new) file at block.now result }
     ensures disk_fault { OnErr result (Rose (W.disk_faults world.old) (W.disk_faults world.new)) }
+    ensures intact { OnOk result (W.failed world.new ≡ false) }
     ensures goes_on { GoesOn ⟦<W as Outside>⟧ world.old world.new }
 {
     let whole = block.whole();

@@ -1,5 +1,5 @@
 //! Reads a file from a place on to its end.
-ghost use Rattle.std.specs.Prelude.{◌≡◌, length, drop, IfOk, IsErrOf};
+ghost use Rattle.std.specs.Prelude.{◌≡◌, false, IsErrOf};
 ghost use Rattle.outside_world.specs.Counts.{Rose};
 ghost use Rattle.outside_world.specs.GoesOn.{GoesOn};
 ghost use Rattle.realm_journal.specs.Reading.{ReadFrom};
@@ -15,9 +15,11 @@ pub fn read_from<W: Outside>(
     file: FileName,
     at: u64,
 ) -> Result<Vec<u8>, ScanError>
+    requires intact { W.failed world.old ≡ false }
     ensures told { W.tells world.new → ReadFrom (W.view world.old) (W.view world.new) file at result }
     ensures disk_fault { IsErrOf result ScanError.Disk
         → Rose (W.disk_faults world.old) (W.disk_faults world.new) }
+    ensures intact { ¬ (IsErrOf result ScanError.Disk) → W.failed world.new ≡ false }
     ensures goes_on { GoesOn ⟦<W as Outside>⟧ world.old world.new }
 {
     let size = world.size(file)?;

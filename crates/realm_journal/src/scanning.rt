@@ -1,5 +1,5 @@
 //! Reads records one after another, until a gate is closed or no whole record follows it.
-ghost use Rattle.std.specs.Prelude.{◌≡◌, ◌<◌, ◌↔◌, ◌^◌, ℕ, List, length, drop, IsTrue, IfOk, IsErrOf};
+ghost use Rattle.std.specs.Prelude.{◌≡◌, ◌<◌, ◌↔◌, ◌^◌, ℕ, List, false, length, drop, IsTrue, IfOk, IsErrOf};
 ghost use Rattle.outside_world.specs.Counts.{Rose};
 ghost use Rattle.outside_world.specs.GoesOn.{GoesOn};
 ghost use Rattle.realm_journal.specs.Gates.{IsOpenAt};
@@ -9,8 +9,9 @@ use crate::OPEN;
 use crate::error::ScanError;
 use crate::reading::read_from;
 use crate::records::Scan;
+use grid_base::NoMemory;
 use outside_world::{FileName, Outside};
-use record_codec::decode;
+use record_codec::{ListOf, decode};
 use std::alloc::Global;
 
 /// The records of a file from the gate at a place on.
@@ -20,23 +21,21 @@ pub fn scan<W: Outside>(
     file: FileName,
     at: u64,
 ) -> Result<Scan, ScanError>
-    requires room { at < 2 ^ 61 }
+    requires intact { W.failed world.old ≡ false }
     ensures told { W.tells world.new → Scanned (W.view world.old) (W.view world.new) file at result }
     ensures disk_fault { IsErrOf result ScanError.Disk
         → Rose (W.disk_faults world.old) (W.disk_faults world.new) }
+    ensures intact { ¬ (IsErrOf result ScanError.Disk) → W.failed world.new ≡ false }
     ensures goes_on { GoesOn ⟦<W as Outside>⟧ world.old world.new }
 {
     let bytes = read_from(alloc, world, file, at)?;
-    scan_bytes(alloc, &bytes, at)
+    Ok(scan_bytes(alloc, &bytes, at)?)
 }
 
-/// The records of these bytes, which stand in a file from a place on.
-pub fn scan_bytes(alloc: Global, bytes: &[u8], at: u64) -> Result<Scan, ScanError>
-    requires room { at < 2 ^ 61 }
-    requires size { length bytes.now < 2 ^ 63 }
-    ensures scan { IfOk result (λ s. (file : List ℕ) → bytes.now ≡ drop at file
-        → Scans file at s.list.items s.end s.bad) }
-    ensures no_fault { IsErrOf result ScanError.Disk → ⊥ }
+/// The records of these bytes, which stand in a file from a place on. A length has 64 bits.
+pub fn scan_bytes(alloc: Global, bytes: &[u8], at: u64) -> Result<Scan, NoMemory>
+    ensures scan { IfOk result (λ s. (file : List ℕ) → length file < 2 ^ 64 → bytes.now ≡ drop at file
+        → Scans file at s.list s.end s.bad) }
 {
     let mut list = Vec::new(alloc);
     let mut end = 0;
@@ -44,8 +43,8 @@ pub fn scan_bytes(alloc: Global, bytes: &[u8], at: u64) -> Result<Scan, ScanErro
         match decode(alloc, &bytes[end + 1..])? {
             None => {
                 return Ok(Scan {
-                    list,
-                    end: at + end as u64,
+                    list: ListOf::new(list),
+                    end: at.saturating_add(end as u64),
                     bad: true,
                 });
             }
@@ -56,8 +55,8 @@ pub fn scan_bytes(alloc: Global, bytes: &[u8], at: u64) -> Result<Scan, ScanErro
         }
     }
     Ok(Scan {
-        list,
-        end: at + end as u64,
+        list: ListOf::new(list),
+        end: at.saturating_add(end as u64),
         bad: false,
     })
 }

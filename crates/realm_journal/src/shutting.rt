@@ -1,7 +1,7 @@
 //! Shuts a gate: where it is missing or open a closed one is written, and the file is synced in any case. A gate
 //! that reads as closed isn't written again: until the sync the write could leave an open one, and what stands
 //! behind it was never meant to count.
-ghost use Rattle.std.specs.Prelude.{◌≤◌, ◌<◌, ◌^◌, length, OnErr};
+ghost use Rattle.std.specs.Prelude.{◌≡◌, ◌≤◌, ◌<◌, ◌^◌, false, length, OnOk, OnErr};
 ghost use Rattle.outside_world.specs.Counts.{Rose};
 ghost use Rattle.outside_world.specs.GoesOn.{GoesOn};
 ghost use Rattle.realm_journal.specs.Shutting.{NeedsShutting, Shut};
@@ -14,8 +14,10 @@ use outside_world::{FileName, Outside};
 pub fn shut_gate<W: Outside>(world: &mut W, file: FileName, at: u64) -> Result<(), JournalError>
     requires room { at < 2 ^ 61 }
     requires within { W.tells world.old → at ≤ length ((W.view world.old).reads file) }
+    requires intact { W.failed world.old ≡ false }
     ensures told { W.tells world.new → Shut (W.view world.old) (W.view world.new) file at result }
     ensures disk_fault { OnErr result (Rose (W.disk_faults world.old) (W.disk_faults world.new)) }
+    ensures intact { OnOk result (W.failed world.new ≡ false) }
     ensures goes_on { GoesOn ⟦<W as Outside>⟧ world.old world.new }
 {
     let mut gate = [CLOSED];
@@ -32,8 +34,10 @@ fn write_closed<W: Outside>(world: &mut W, file: FileName, at: u64) -> Result<()
     requires room { at < 2 ^ 61 }
     requires within { W.tells world.old → at ≤ length ((W.view world.old).reads file) }
     requires needed { W.tells world.old → NeedsShutting at ((W.view world.old).reads file) }
+    requires intact { W.failed world.old ≡ false }
     ensures told { W.tells world.new → Shut (W.view world.old) (W.view world.new) file at result }
     ensures disk_fault { OnErr result (Rose (W.disk_faults world.old) (W.disk_faults world.new)) }
+    ensures intact { OnOk result (W.failed world.new ≡ false) }
     ensures goes_on { GoesOn ⟦<W as Outside>⟧ world.old world.new }
 {
     world.write_at(file, at, &[CLOSED])?;

@@ -6,7 +6,7 @@ use Rattle.outside_world.specs.declared.world.FileName.{FileName}
 use Rattle.outside_world.specs.declared.world.FileName.TheVariants.{A, B}
 use Rattle.outside_world.specs.View.{View}
 use Rattle.outside_world.proofs.Moments.{only_wider}
-use Rattle.realm_pages.specs.declared.error.SwitchError.{SwitchError}
+use Rattle.realm_journal.specs.declared.error.JournalError.{JournalError as SwitchError}
 use Rattle.realm_pages.specs.Generations.{Generation}
 use Rattle.realm_pages.specs.Files.{Counts, HoldsAlone}
 use Rattle.realm_pages.specs.Damages.{CountsWith, IsNewest}

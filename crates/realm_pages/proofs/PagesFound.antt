@@ -1,16 +1,20 @@
 -- This file shows what is found once the pages of the newest file are read.
-use Rattle.std.proofs.Common.{◌≡◌, inl, inr, ⊎_elim, ℕ, List, length, ◌∙◌, ap, subst, arith}
-use Rattle.std.specs.Prelude.{Some, None, Ok, Err, Vec}
+use Rattle.std.proofs.Common.{◌≡◌, inl, inr, ⊎_elim, ℕ, List, length, sym, ◌∙◌, ap, subst, arith}
+use Rattle.std.specs.Prelude.{Option, Some, None, IfSome, Ok, Err, Vec}
 use Rattle.std.specs.declared.alloc.Global.{Global}
 use Rattle.outside_world.specs.declared.world.FileName.{FileName}
 use Rattle.outside_world.specs.View.{View}
 use Rattle.record_codec.specs.declared.header.Header.{Header}
-use Rattle.realm_pages.specs.Generations.{page_count, header_of, gate_behind}
+use Rattle.record_codec.specs.declared.snapshot.Snapshot.{Snapshot}
+use Rattle.record_codec.specs.Payload.{IsSnapshot, payload}
+use Rattle.realm_journal.specs.Reading.{OnlyAsks}
+use Rattle.realm_pages.specs.Generations.{Generation, page_count, header_of, gate_behind, gate_of}
 use Rattle.realm_pages.specs.Files.{HasHead, HoldsFirst}
 use Rattle.realm_pages.specs.Damages.{IsNewest, HasPageFault}
 use Rattle.realm_pages.specs.Choosing.{Chosen}
 use Rattle.realm_pages.specs.ReadingPages.{PagesRead}
-use Rattle.realm_pages.specs.Finding.{IsFound, FoundNewest}
+use Rattle.realm_pages.specs.Finding.{HoldsNewest, IsFound, FoundNewest}
+use Rattle.realm_pages.specs.declared.damage.Damage.TheVariants.{BadSnapshot}
 use Rattle.realm_pages.specs.declared.error.PagesError.{PagesError}
 use Rattle.realm_pages.specs.declared.error.PagesError.TheVariants.{Damaged}
 use Rattle.realm_pages.specs.declared.found.Found.{Found}
@@ -25,7 +29,7 @@ not_chosen {e = e} chosen = record {
   found = λ found is. absurd (cc);
   damaged = λ d told.
       let same : e ≡ Damaged d = cc in
-      ⊎_elim (λ lacks. inl lacks) (λ twins. inr (inl twins)) (chosen.damaged d (ap (λ x. Err x) same));
+      ⊎_elim (λ lacks. inl (inl lacks)) (λ twins. inl (inr (inl twins))) (chosen.damaged d (ap (λ x. Err x) same));
 }
 
 -- or as neither counts
@@ -46,13 +50,13 @@ broken {file = file} {head} {e} chosen read = record {
   found = λ found is. absurd (cc);
   damaged = λ d told.
       let same : e ≡ Damaged d = cc in
-      inr (inr (record {
+      inl (inr (inr (record {
         file = file;
         head = head;
         newest = chosen.choice;
         fault = subst (λ l. HasPageFault file l head.length head.pages d) (chosen.asks.files.reads file)
             (read.fault d (ap (λ x. Err x) same));
-      }));
+      })));
 }
 
 -- a payload as long as the head says has this head,
@@ -66,29 +70,70 @@ head_is head file bytes has hold =
     let of_length : ℕ → Header = λ n. record { generation = head.generation; pages = page_count n; length = n } in
     ap of_pages count ∙ ap of_length long
 
--- or it is found
-pub found : {old mid new : View} {file : FileName} {head : Header} (payload : Vec ℕ Global) → Chosen old mid (Ok (Some (file, head)))
-    → PagesRead mid new file head (Ok payload)
-    → FoundNewest old new
-    (Ok (Some (record { file = file; generation = head.generation; payload = payload; end = gate_behind head.pages })))
-found {old} {file = file} {head} payload chosen read =
-    let hold = subst (λ l. HoldsFirst l head.length head.pages payload.items) (chosen.asks.files.reads file) read.hold in
-    let same = head_is head (old.reads file) payload.items chosen.choice.counts.head hold in
-    let it : Found = record { file = file; generation = head.generation; payload = payload; end = gate_behind head.pages } in
-    let is_found : IsFound old.reads it = record {
-      holds = record {
-        newest = subst (λ h. IsNewest old.reads file h) same chosen.choice;
-        holds = record {
-          counts = chosen.choice.counts.counts;
-          head = subst (λ h. HasHead (old.reads file) h) same chosen.choice.counts.head;
-          pages = subst (λ (h : Header). HoldsFirst (old.reads file) h.length h.pages payload.items) same hold;
-        };
-      };
-      end = ap (λ (h : Header). gate_behind h.pages) same;
-    } in
-    record {
-      asks = asks_then chosen.asks read.asks;
+module _ {old mid new : View} {file : FileName} {head : Header} (pages : Vec ℕ Global) (chosen : Chosen old mid (Ok (Some (file, head))))
+    (read : PagesRead mid new file head (Ok pages)) where
+  abbrev asked : OnlyAsks old new
+  asked = asks_then chosen.asks read.asks
+
+  -- its pages hold a generation,
+  abbrev held : Generation
+  held = record { number = head.generation; payload = pages.items }
+
+  hold : HoldsFirst (old.reads file) head.length head.pages pages.items
+  hold = subst (λ l. HoldsFirst l head.length head.pages pages.items) (chosen.asks.files.reads file) read.hold
+
+  head_of_held : head ≡ header_of held
+  head_of_held = head_is head (old.reads file) pages.items chosen.choice.counts.head hold
+
+  holds_newest : HoldsNewest old.reads file held
+  holds_newest = record {
+    newest = subst (λ h. IsNewest old.reads file h) head_of_held chosen.choice;
+    holds = record {
+      counts = chosen.choice.counts.counts;
+      head = subst (λ h. HasHead (old.reads file) h) head_of_held chosen.choice.counts.head;
+      pages = subst (λ (h : Header). HoldsFirst (old.reads file) h.length h.pages pages.items) head_of_held hold;
+    };
+  }
+
+  -- of which a state is read, or none,
+  module _ (bytes : List ℕ) (same : bytes ≡ pages.items) (o : Option Snapshot) where
+    pub bad_payload : o ≡ None → ((s : Snapshot) → IsSnapshot s → bytes ≡ payload s → o ≡ Some s)
+        → FoundNewest old new (Err (Damaged (BadSnapshot file)))
+    bad_payload nothing only = record {
+      asks = asked;
       none = λ is. absurd (cc);
-      found = λ other is. let one : it ≡ other = cc in subst (λ x. IsFound old.reads x) one is_found;
-      damaged = λ d is. absurd (cc);
+      found = λ found is. absurd (cc);
+      damaged = λ d told. inr (record {
+        file = file;
+        generation = held;
+        newest = holds_newest;
+        none = λ s is_snapshot is. let read_again : o ≡ Some s = only s is_snapshot (same ∙ is) in cc;
+        is = cc;
+      });
     }
+
+    module _ (s : Snapshot) where
+      abbrev it : Found
+      it = record { file = file; generation = head.generation; snapshot = s; end = gate_behind head.pages }
+
+      abbrev numbered : List ℕ → Generation
+      numbered l = record { number = head.generation; payload = l }
+
+      is_found : IsSnapshot s → pages.items ≡ payload s → IsFound old.reads it
+      is_found is_snapshot is = record {
+        is_snapshot = is_snapshot;
+        holds = subst (λ l. HoldsNewest old.reads file (numbered l)) is holds_newest;
+        end = ap (λ (h : Header). gate_behind h.pages) head_of_held ∙ ap (λ l. gate_of (numbered l)) is;
+      }
+
+      pub found : o ≡ Some s → IfSome o (λ s. IsSnapshot s × (bytes ≡ payload s)) → FoundNewest old new (Ok (Some it))
+      found some shown =
+          let (is_snapshot, is) = subst (λ x. IfSome x (λ s. IsSnapshot s × (bytes ≡ payload s))) some shown in
+          record {
+            asks = asked;
+            none = λ told. absurd (cc);
+            found = λ other told.
+                let one : it ≡ other = cc in
+                subst (λ x. IsFound old.reads x) one (is_found is_snapshot (sym same ∙ is));
+            damaged = λ d told. absurd (cc);
+          }

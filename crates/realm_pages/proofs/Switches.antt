@@ -3,7 +3,7 @@ use Rattle.std.proofs.Common.{◌≡◌, inl, inr, ⊎_elim, ℕ, ◌+◌, ◌*�
 use Rattle.std.proofs.Common.{refl, sym, ◌∙◌, ap, arith, append_assoc, length-append}
 use Rattle.std.proofs.Math.Nat.{le_refl}
 use Rattle.std.proofs.lemmas.List.{take_at, drop_at, drop-drop, get_or_at}
-use Rattle.std.proofs.lemmas.Result.{IfOk-at_ok}
+use Rattle.std.proofs.lemmas.Result.{on_ok_weaker}
 use Rattle.std.specs.Prelude.{Result, Ok, Err, IsErr}
 use Rattle.outside_world.specs.declared.world.FileName.{FileName}
 use Rattle.outside_world.specs.View.{View}
@@ -15,7 +15,6 @@ use Rattle.realm_journal.specs.declared.error.JournalError.{JournalError}
 use Rattle.realm_journal.specs.Gates.{open_gate, closed_gate, IsWholeAt}
 use Rattle.realm_journal.specs.Appending.{IsPart, Appended}
 use Rattle.realm_journal.specs.Shutting.{IsShutting, Shut}
-use Rattle.realm_pages.specs.declared.error.SwitchError.{SwitchError}
 use Rattle.realm_pages.specs.Generations.{Generation, page_count, header_of, gate_of, part_behind, pages_of, generation_text}
 use Rattle.realm_pages.specs.Files.{page_at, HoldsAlone}
 use Rattle.realm_pages.specs.Switching.{IsSwitching, Switched}
@@ -88,7 +87,7 @@ module _ (g : Generation) where
   shutting c (inr barred) =
       inr (inl (λ counts. ⊎_elim (λ closed. closed counts.is_open) (λ short. omega (arith, short, counts.has_more)) barred.gate))
 
-  pub shut_switching : {a b : View} {file : FileName} {r : Result Unit JournalError} → Shut a b file 0 r
+  shut_switching : {a b : View} {file : FileName} {r : Result Unit JournalError} → Shut a b file 0 r
       → WritesOnly a b file (IsSwitching a file g)
   shut_switching shut = writes_wider shutting shut.writes
 
@@ -103,25 +102,26 @@ module _ (g : Generation) where
     appending : (e : List ℕ) → IsPart b file 0 text e → IsSwitching a file g e
     appending e part =
         ⊎_elim
-        (λ closed. inr (inl (λ counts. closed counts.is_open)))
+        (λ closed. inr (inl (λ counts. closed.1 counts.is_open)))
         (λ whole. inr (inr (whole_holds e whole)))
         part.gate
 
-    pub append_switching : WritesOnly a c file (IsSwitching a file g)
+    append_switching : WritesOnly a c file (IsSwitching a file g)
     append_switching = writes_then (shut_switching shut) (writes_wider appending appended.writes)
 
-    -- it ends with the generation whole,
-    pub switched : {n m : ℕ} → s ≡ Ok n → Switched a c file g (Ok m)
-    switched ok = record {
+    -- it ends as the append does,
+    pub switched : Switched a c file g s
+    switched = record {
       writes = append_switching;
-      whole = λ e image. whole_holds e (IfOk-at_ok (λ _. (d : List ℕ) → c.image file d → IsWholeAt 0 text d) ok appended.whole e image);
+      whole = on_ok_weaker s (λ whole e image. whole_holds e (whole e image)) appended.whole;
+      stable = appended.stable;
     }
 
--- or with a fault of the disk
-not_ok : (n : ℕ) → IsErr {T = ℕ} {E = SwitchError} (Ok n) → ⊥
+-- or where the gate isn't shut
+not_ok : (n : ℕ) → IsErr {T = ℕ} {E = JournalError} (Ok n) → ⊥
 not_ok n is = cc
 
-pub switched_part : {old new : View} {file : FileName} {g : Generation} (r : Result ℕ SwitchError) → IsErr r
-    → WritesOnly old new file (IsSwitching old file g) → Switched old new file g r
-switched_part (Ok n) no_error writes = absurd (not_ok n no_error)
-switched_part (Err e) is_error writes = record { writes = writes; whole = tt }
+pub not_shut : {a b : View} {file : FileName} {g : Generation} {e : Result Unit JournalError} (r : Result ℕ JournalError) → IsErr r
+    → Shut a b file 0 e → Switched a b file g r
+not_shut (Ok n) no_error shut = absurd (not_ok n no_error)
+not_shut {g = g} (Err e) is_error shut = record { writes = shut_switching g shut; whole = tt; stable = tt }

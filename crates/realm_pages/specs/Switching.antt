@@ -1,24 +1,26 @@
 -- A generation that is put on a file, and what a crash may leave meanwhile.
 use Rattle.std.specs.Prelude.{◌≡◌, ◌⊎◌, ◌<◌, ℕ, List, Result, OnOk}
 use Rattle.outside_world.specs.declared.world.FileName.{FileName}
-use Rattle.outside_world.specs.View.{View}
+use Rattle.outside_world.specs.View.{View, IsStable}
 use Rattle.outside_world.specs.Since.{WritesOnly, LeavesOnly}
 use Rattle.realm_pages.specs.Generations.{Generation}
 use Rattle.record_codec.specs.declared.header.Header.{Header}
 use Rattle.realm_pages.specs.Files.{Counts, HasHead, HoldsAlone}
 use Rattle.realm_pages.specs.Damages.{IsNewest}
 use Rattle.realm_pages.specs.Finding.{HoldsNewest}
-use Rattle.realm_pages.specs.declared.error.SwitchError.{SwitchError}
+use Rattle.realm_journal.specs.declared.error.JournalError.{JournalError as SwitchError}
 
 -- the file is as a crash could leave it before, or it doesn't count, or it holds the generation and no record
 abbrev pub IsSwitching : View → FileName → Generation → List ℕ → Type 0
 IsSwitching old file g c = old.image file c ⊎ ((Counts c → ⊥) ⊎ HoldsAlone c g)
 
--- it was put there and stands whole in whatever a crash may leave, or the disk failed before that
+-- it was put there and stands whole in whatever a crash may leave, which is just what is read; or the disk failed
+-- before that
 pub record Switched (old new : View) (file : FileName) (g : Generation)
     (result : Result ℕ SwitchError) : Type 0 where
   pub writes : WritesOnly old new file (IsSwitching old file g)
   pub whole : OnOk result ((c : List ℕ) → new.image file c → HoldsAlone c g)
+  pub stable : OnOk result (IsStable new file)
 
 -- ---- the newest of the two files meanwhile
 

@@ -19,7 +19,7 @@ pub enum Damage {
         file: FileName,
         page: u64,
     },
-    /// The payload is that of no state. Only who reads payloads tells this.
+    /// The payload is that of no state. Who makes an engine of the state tells this too, where it isn't valid.
     #[error("file {file:?}: the payload is that of no state")]
     BadSnapshot {
         file: FileName,

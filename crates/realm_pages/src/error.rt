@@ -2,28 +2,13 @@
 ghost use Rattle.std.specs.Prelude.{◌≡◌};
 
 use crate::damage::Damage;
+use grid_base::NoMemory;
 use outside_world::Failed;
-use realm_journal::JournalError;
 use std::alloc::AllocError;
 use thiserror::Error;
 
 /// Why a generation isn't put on a file.
-#[derive(Clone, Copy, Debug, PartialEq, Eq, Error)]
-pub enum SwitchError {
-    /// The disk failed.
-    #[error("disk fault")]
-    Disk,
-}
-
-impl From<JournalError> for SwitchError {
-    ghost use Rattle.realm_pages.specs.declared.error.SwitchError.TheVariants.{Disk};
-
-    ghost from_gives = { λ _ e. e ≡ Disk };
-
-    fn from(_: JournalError) -> SwitchError {
-        SwitchError::Disk
-    }
-}
+pub use realm_journal::JournalError as SwitchError;
 
 /// Why the newest generation isn't found.
 #[derive(Clone, Copy, Debug, PartialEq, Eq, Error)]
@@ -55,6 +40,16 @@ impl From<AllocError> for PagesError {
     ghost from_gives = { λ _ e. e ≡ NoMemory };
 
     fn from(_: AllocError) -> PagesError {
+        PagesError::NoMemory
+    }
+}
+
+impl From<NoMemory> for PagesError {
+    ghost use Rattle.realm_pages.specs.declared.error.PagesError.TheVariants.{NoMemory};
+
+    ghost from_gives = { λ _ e. e ≡ NoMemory };
+
+    fn from(_: NoMemory) -> PagesError {
         PagesError::NoMemory
     }
 }

@@ -1,11 +1,13 @@
 //! What is found on the files.
 use outside_world::FileName;
+use record_codec::Snapshot;
 
-/// The newest file, the number of its generation, its payload, and the place of its first record's gate.
+/// The newest file, the number of its generation, the state of its payload, and the place of its first record's
+/// gate.
 #[derive(Debug, Drop)]
 pub struct Found {
     pub file: FileName,
     pub generation: u64,
-    pub payload: Vec<u8>,
+    pub snapshot: Snapshot,
     pub end: u64,
 }

@@ -1,5 +1,5 @@
 //! Which of two files is the newest, by their heads.
-ghost use Rattle.std.specs.Prelude.{◌≡◌, ◌↔◌, ℕ, List, take, IsTrue, IfOk, IfSome};
+ghost use Rattle.std.specs.Prelude.{◌≡◌, ◌↔◌, ℕ, List, false, take, IsTrue, IfOk, IfSome};
 ghost use Rattle.std.specs.Option.{ForSome};
 ghost use Rattle.std.specs.Prelude.{IsErrOf, MatchResult};
 ghost use Rattle.record_codec.specs.Heads.{IsHeader};
@@ -19,10 +19,12 @@ use record_codec::{Header, decode_header};
 
 /// The newest file and its head, by the heads of both files; none where neither counts.
 pub(crate) fn choose<W: Outside>(world: &mut W) -> Result<Option<(FileName, Header)>, PagesError>
+    requires intact { W.failed world.old ≡ false }
     ensures told { W.tells world.new → Chosen (W.view world.old) (W.view world.new) result }
     ensures is_header { IfOk result (λ o. IfSome o (λ c. IsHeader c.1)) }
     ensures disk_fault { IsErrOf result PagesError.Disk
         → Rose (W.disk_faults world.old) (W.disk_faults world.new) }
+    ensures intact { ¬ (IsErrOf result PagesError.Disk) → W.failed world.new ≡ false }
     ensures goes_on { GoesOn ⟦<W as Outside>⟧ world.old world.new }
 {
     let a = read_head(world, FileName::A)?;
@@ -58,10 +60,12 @@ fn newer(a: Option<Header>, b: Option<Header>) -> Result<Option<(FileName, Heade
 
 // The head of a file; none where it doesn't count.
 fn read_head<W: Outside>(world: &mut W, file: FileName) -> Result<Option<Header>, PagesError>
+    requires intact { W.failed world.old ≡ false }
     ensures told { W.tells world.new → HeadRead (W.view world.old) (W.view world.new) file result }
     ensures is_header { IfOk result (λ o. IfSome o IsHeader) }
     ensures disk_fault { IsErrOf result PagesError.Disk
         → Rose (W.disk_faults world.old) (W.disk_faults world.new) }
+    ensures intact { ¬ (IsErrOf result PagesError.Disk) → W.failed world.new ≡ false }
     ensures goes_on { GoesOn ⟦<W as Outside>⟧ world.old world.new }
 {
     let mut front = [0; 4096];

@@ -1,6 +1,6 @@
 //! Reads the pages of a file in large pieces. The payload grows by the pages that were found good, so a number
 //! that a file claims takes no memory before the file is known to be that long.
-ghost use Rattle.std.specs.Prelude.{◌≡◌, ◌≢◌, ◌+◌, ◌*◌, ◌<◌, ◌≤◌, ◌^◌, ℕ, List, length, take, drop, min};
+ghost use Rattle.std.specs.Prelude.{◌≡◌, ◌≢◌, ◌+◌, ◌*◌, ◌<◌, ◌≤◌, ◌^◌, ℕ, List, false, length, take, drop, min};
 ghost use Rattle.std.specs.Prelude.{Err, IfOk, OnOk, IsErrOf, MatchResult};
 ghost use Rattle.outside_world.specs.Counts.{Rose};
 ghost use Rattle.outside_world.specs.GoesOn.{GoesOn};
@@ -35,11 +35,13 @@ pub(crate) fn read_pages<W: Outside>(
     file: FileName,
     head: &Header,
 ) -> Result<Vec<u8>, PagesError>
-    requires { IsHeader head.now }
+    requires head { IsHeader head.now }
+    requires intact { W.failed world.old ≡ false }
     ensures told { W.tells world.new
         → PagesRead (W.view world.old) (W.view world.new) file head.now result }
     ensures disk_fault { IsErrOf result PagesError.Disk
         → Rose (W.disk_faults world.old) (W.disk_faults world.new) }
+    ensures intact { ¬ (IsErrOf result PagesError.Disk) → W.failed world.new ≡ false }
     ensures goes_on { GoesOn ⟦<W as Outside>⟧ world.old world.new }
 {
     let mut payload = Vec::new(alloc);
@@ -63,10 +65,12 @@ fn read_piece<W: Outside>(
 ) -> Result<Vec<u8>, PagesError>
     requires place { 4096 * (before + 1) < 2 ^ 64 }
     requires few { count ≤ 256 }
+    requires intact { W.failed world.old ≡ false }
     ensures told { W.tells world.new
         → PieceRead (W.view world.old) (W.view world.new) file before count result }
     ensures disk_fault { IsErrOf result PagesError.Disk
         → Rose (W.disk_faults world.old) (W.disk_faults world.new) }
+    ensures intact { ¬ (IsErrOf result PagesError.Disk) → W.failed world.new ≡ false }
     ensures no_damage { (damage : Damage) → result ≢ Err (PagesError.Damaged damage) }
     ensures goes_on { GoesOn ⟦<W as Outside>⟧ world.old world.new }
 {

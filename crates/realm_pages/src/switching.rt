@@ -1,7 +1,7 @@
 //! Puts a generation on a file: gate 0 is shut, so that the file doesn't count; head, pages and the closed gate
 //! of the first record are written behind it and synced; then gate 0 is opened. So what counts is the file as it
 //! was or the whole generation, whatever a crash leaves, and the other file isn't touched.
-ghost use Rattle.std.specs.Prelude.{◌≡◌, OnErr, IfOk};
+ghost use Rattle.std.specs.Prelude.{◌≡◌, false, OnOk, OnErr, IfOk};
 ghost use Rattle.outside_world.specs.Counts.{Rose};
 ghost use Rattle.outside_world.specs.GoesOn.{GoesOn};
 ghost use Rattle.realm_pages.specs.Generations.{gate_of};
@@ -19,6 +19,7 @@ pub fn switch_to<W: Outside>(
     file: FileName,
     p: &PreparedPages,
 ) -> Result<u64, SwitchError>
+    requires intact { W.failed world.old ≡ false }
     ensures place { IfOk result (λ gate. gate ≡ gate_of p.now) }
     ensures told { W.tells world.new
         → Switched (W.view world.old) (W.view world.new) file p.now result }
@@ -29,8 +30,9 @@ pub fn switch_to<W: Outside>(
         → KeepsNewest (W.view world.old) (W.view world.new) file p.now result }
 
     ensures disk_fault { OnErr result (Rose (W.disk_faults world.old) (W.disk_faults world.new)) }
+    ensures intact { OnOk result (W.failed world.new ≡ false) }
     ensures goes_on { GoesOn ⟦<W as Outside>⟧ world.old world.new }
 {
     shut_gate(world, file, 0)?;
-    Ok(append_block(world, file, 0, p.block())?)
+    append_block(world, file, 0, p.block())
 }

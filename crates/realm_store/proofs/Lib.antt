@@ -2,8 +2,10 @@
 pub mod LedOnce
 -- what a payload without bytes opens
 pub mod EmptyStates
--- what rests before a record is written behind its gate
-pub mod WaitingGates
+-- what files without a byte stand for
+pub mod EmptyFiles
+-- what the next gate is, and how it is made ready
+pub mod ReadyGates
 -- what a commit makes and leaves
 pub mod Commits
 -- what a checkpoint makes

@@ -1,23 +1,28 @@
 -- This file shows what two files stand for that were read, and whose records were made again.
-use Rattle.std.proofs.Common.{◌≡◌, inl, inr, ℕ, ◌+◌, ◌<◌, ◌≤◌, Bool, true, false, List, [], ◌∷◌, ◌++◌, length, drop, Some}
+use Rattle.std.proofs.Common.{◌≡◌, inl, inr, ⊎_elim, ℕ, ◌+◌, ◌-◌, ◌<◌, ◌≤◌, Bool, true, false, List, [], ◌∷◌, ◌++◌, length, drop, Some}
 use Rattle.std.proofs.Common.{refl, sym, ◌∙◌, ap, subst, arith, length-append, length-drop}
 use Rattle.std.proofs.lemmas.List.{append-nil}
 use Rattle.std.specs.Prelude.{◌↔◌, IsTrue, Option, Result, Ok, Err, IfOk}
 use Rattle.outside_world.specs.View.{View, Moment, MayLeave}
 use Rattle.record_codec.specs.declared.record.Record.{Record}
+use Rattle.record_codec.specs.declared.snapshot.Snapshot.{Snapshot}
+use Rattle.record_codec.specs.Payload.{IsSnapshot, payload}
+use Rattle.record_codec.specs.Spelling.{record_text}
+use Rattle.record_codec.proofs.SnapshotLemmas.{one_state as one_snapshot}
 use Rattle.realm_insert.specs.State.{State, SpendableState}
+use Rattle.realm_insert.specs.Snapshots.{state_of, IsValidState}
 use Rattle.realm_journal.specs.Reading.{OnlyAsks}
 use Rattle.realm_journal.specs.Scanning.{IsScan, Scans}
 use Rattle.realm_pages.specs.Generations.{gate_of}
-use Rattle.realm_pages.specs.Finding.{HoldsNewest, IsFound, FoundNewest, generation_found}
+use Rattle.realm_pages.specs.Finding.{HoldsNewest, IsFound, HasBadPayload, FoundNewest, generation_found}
 use Rattle.realm_pages.specs.declared.damage.Damage.{Damage}
 use Rattle.realm_pages.specs.declared.damage.Damage.TheVariants.{BadSnapshot, BadRecord}
 use Rattle.realm_pages.specs.declared.found.Found.{Found}
 use Rattle.realm_pages.specs.declared.error.PagesError.{PagesError}
-use Rattle.realm_pages.specs.declared.error.PagesError.TheVariants as pages
+use Rattle.realm_pages.specs.declared.error.PagesError.TheVariants.{Disk, Damaged, NoMemory}
 use Rattle.realm_pages.proofs.Asks.{asks_then}
 use Rattle.realm_files.specs.Rows.{AreRecords, StopsAt}
-use Rattle.realm_files.specs.Damages.{EndsBadly}
+use Rattle.realm_files.specs.Damages.{IsNoState, EndsBadly}
 use Rattle.realm_files.specs.Stands.{Files, numbered}
 use Rattle.realm_files.specs.Keeping.{KnowsGate}
 use Rattle.realm_files.specs.Syncing.{Synced}
@@ -33,9 +38,6 @@ use Rattle.realm_store.specs.Replaying.{LeadOn, IsRest, Replayed}
 use Rattle.realm_store.specs.Damages.{IsDamaged}
 use Rattle.realm_store.specs.Opening.{LeadsTo, IsBadRow, OpensRow, Opened}
 use Rattle.realm_store.specs.Starting.{Started}
-use Rattle.realm_store.specs.StartErrors.{newest_error}
-use Rattle.realm_store.specs.declared.error.StartError.{StartError}
-use Rattle.realm_store.specs.declared.error.StartError.TheVariants.{Disk, Damaged, NoMemory}
 
 -- ---- the records of one file
 
@@ -55,6 +57,13 @@ stops_at reached engine count bad before [] is bad_then rest =
     bad_then most
 stops_at reached engine count bad before (r ∷ left) is bad_then rest = rest
 
+-- a scan goes forward
+scan_behind : (file : List ℕ) (rs : List Record) (at end : ℕ) → IsScan file at rs end → at ≤ end
+scan_behind file [] at end is = omega (arith, is)
+scan_behind file (r ∷ rs) at end (is, written, later) =
+    let behind = scan_behind file rs (at + 1 + length (record_text r)) end later in
+    omega (arith, behind)
+
 bad_unless : (b test : Bool) → (b ≡ false → IsTrue test) → test ≡ false → b ≡ true
 bad_unless true test shown failed = refl
 bad_unless false test shown failed = let yes : test ≡ true = shown refl in absurd cc
@@ -71,13 +80,14 @@ module _ (file bytes : List ℕ) (start : State) (place : Place) (records seen :
   scanned = subst (λ l. IsScan file place.next l end) made.in_order scan.records
 
   pub row_leads : (store : SpendableKept) (next : Place) (has_gate : Bool) → (length records ≤ count) × (bad ≡ false)
-      → (IsTrue has_gate ↔ (end < place.next + length bytes)) → next ≡ with_gate place end
+      → (IsTrue has_gate ↔ (end - place.next < length bytes)) → next ≡ with_gate place end
       → store.kept ≡ record { state = engine.state; place = Some next; has_gate = has_gate } → OpensRow file start place (Ok store)
   row_leads store next has_gate all gate is_next is =
       let most = subst (λ l. length l ≤ count) made.in_order all.0 in
       let lead = all_led start made.reached engine count made.before made.left made.count_is most made.lead made.rest in
       let rows = led meaning file (made.before ++ made.left) start engine.state place.next end scanned lead in
       let size : place.next + length bytes ≡ length file = omega (arith, ap length bytes_are, length-drop place.next file, within) in
+      let forward = scan_behind file records place.next end scan.records in
       let kept : Kept = record { state = engine.state; place = Some (with_gate place end); has_gate = has_gate } in
       let kept_is : store.kept ≡ kept =
       is ∙ (λ i. record { state = engine.state; place = Some (is_next i); has_gate = has_gate }) in
@@ -87,7 +97,7 @@ module _ (file bytes : List ℕ) (start : State) (place : Place) (records seen :
         lead = (rows, scan.ends.closed all.1);
         place_is = refl;
         within = scan_within file records place.next end scan.records within;
-        gate = (λ has. subst (λ n. end < n) size (gate.0 has), λ lt. gate.1 (subst (λ n. end < n) (sym size) lt));
+        gate = (λ has. omega (arith, size, forward, gate.0 has), λ lt. gate.1 (omega (arith, size, forward, lt)));
       } in
       record { leads = subst (λ k. LeadsTo file start place k) (sym kept_is) leads; damaged = λ d no. absurd cc }
 
@@ -124,41 +134,60 @@ disk_undamaged d is = cc
 memory_undamaged : (d : Damage) → NoMemory ≡ Damaged d → ⊥
 memory_undamaged d is = cc
 
-opened_cut : {old new : View} (e : StartError) → OnlyAsks old new → ((d : Damage) → e ≡ Damaged d → ⊥) → Opened old new (Err e)
+opened_cut : {old new : View} (e : PagesError) → OnlyAsks old new → ((d : Damage) → e ≡ Damaged d → ⊥) → Opened old new (Err e)
 opened_cut e asks never = record {
   asks = asks;
   stands = tt;
   damaged = λ d is. let one : e ≡ Damaged d = cc in absurd (never d one);
 }
 
--- the newest is at fault
-pub newest_unfound : {old new : View} (e : PagesError) → FoundNewest old new (Err e) → Opened old new (Err (newest_error e))
-newest_unfound pages.Disk found = opened_cut Disk found.asks disk_undamaged
-newest_unfound pages.NoMemory found = opened_cut NoMemory found.asks memory_undamaged
-newest_unfound (pages.Damaged damage) found = opened_damaged found.asks (inl (found.damaged damage refl))
+-- the newest is at fault, or its payload is that of no snapshot
+no_snapshot : {files : Files} {damage : Damage} → HasBadPayload damage files → IsNoState meaning files damage
+no_snapshot bad = record {
+  file = bad.file;
+  generation = bad.generation;
+  newest = bad.newest;
+  none = λ state opens. bad.none opens.snapshot opens.is_snapshot opens.is_payload;
+  is = bad.is;
+}
 
--- the payload is that of no state
-pub payload_bad : {old new : View} {found : Found} {damage : Damage} → OnlyAsks old new → IsFound old.reads found
-    → (damage ≡ BadSnapshot found.file) × ((state : State) → Opens found.payload.items state → ⊥) → IsDamaged damage old.reads
-payload_bad {found = found} asks is bad = inr (inl (record {
+pub newest_unfound : {old new : View} (e : PagesError) → FoundNewest old new (Err e) → Opened old new (Err e)
+newest_unfound Disk found = opened_cut Disk found.asks disk_undamaged
+newest_unfound NoMemory found = opened_cut NoMemory found.asks memory_undamaged
+newest_unfound (Damaged damage) found =
+    opened_damaged found.asks (⊎_elim (λ bad. inl bad) (λ bad. inr (inl (no_snapshot bad))) (found.damaged damage refl))
+
+-- the state of the newest isn't valid,
+not_valid : {files : Files} {found : Found} {damage : Damage} → IsFound files found
+    → (damage ≡ BadSnapshot found.file) × (IsValidState (state_of found.snapshot) → ⊥) → IsDamaged damage files
+not_valid {found = found} is bad = inr (inl (record {
   file = found.file;
   generation = generation_found found;
   newest = is.holds;
-  none = bad.1;
+  none = λ state opens.
+      let same = one_snapshot found.snapshot opens.snapshot is.is_snapshot opens.is_snapshot opens.is_payload in
+      bad.1 (subst (λ s. IsValidState (state_of s)) (sym same) opens.valid);
   is = bad.0;
 }))
 
-pub payload_unopened : {old new : View} {found : Found} {bytes : List ℕ} {e : StartError} → OnlyAsks old new → IsFound old.reads found
-    → bytes ≡ found.payload.items
-    → ((d : Damage) → e ≡ Damaged d → (d ≡ BadSnapshot found.file) × ((state : State) → Opens bytes state → ⊥))
+pub unopened : {old new : View} {found : Found} {e : PagesError} → OnlyAsks old new → IsFound old.reads found
+    → ((d : Damage) → e ≡ Damaged d → (d ≡ BadSnapshot found.file) × (IsValidState (state_of found.snapshot) → ⊥))
     → Opened old new (Err e)
-payload_unopened {found = found} {e = e} asks is same damaged = record {
+unopened {e = e} asks is damaged = record {
   asks = asks;
   stands = tt;
-  damaged = λ d told.
-      let one : e ≡ Damaged d = cc in
-      let (file, none) = damaged d one in
-      payload_bad asks is (file, λ state opens. none state (subst (λ l. Opens l state) (sym same) opens));
+  damaged = λ d told. let one : e ≡ Damaged d = cc in not_valid is (damaged d one);
+}
+
+-- or it is opened
+pub opens_state : {snapshot : Snapshot} {state : State} → IsSnapshot snapshot → state ≡ state_of snapshot
+    → IsValidState (state_of snapshot) → Opens (payload snapshot) state
+opens_state {snapshot} is same valid = record {
+  snapshot = snapshot;
+  is_snapshot = is;
+  is_payload = refl;
+  state_is = same;
+  valid = valid;
 }
 
 module _ {old new : View} {payload : List ℕ} {start : State} {place : Place} (asks : OnlyAsks old new)
@@ -191,7 +220,7 @@ module _ {old new : View} {payload : List ℕ} {start : State} {place : Place} (
       )
 
   -- what is opened of its row is opened of both files
-  pub row_opened : (r : Result SpendableKept StartError) → OpensRow (old.reads place.file) start place r → Opened old new r
+  pub row_opened : (r : Result SpendableKept PagesError) → OpensRow (old.reads place.file) start place r → Opened old new r
   row_opened (Ok store) row = record { asks = asks; stands = row_rests row.leads; damaged = λ d no. absurd cc }
   row_opened (Err e) row = record {
     asks = asks;
@@ -211,7 +240,7 @@ module _ {old new : View} {payload : List ℕ} {start : State} {place : Place} (
   }
 
 -- calls that only ask before change nothing of it
-pub opened_behind : {old mid new : View} {r : Result SpendableKept StartError} → OnlyAsks old mid → Opened mid new r → Opened old new r
+pub opened_behind : {old mid new : View} {r : Result SpendableKept PagesError} → OnlyAsks old mid → Opened mid new r → Opened old new r
 opened_behind {old} {mid} {r = r} asks opened =
     let same : mid.reads ≡ old.reads = same_files asks.files.reads in
     record {
@@ -221,7 +250,7 @@ opened_behind {old} {mid} {r = r} asks opened =
     }
 
 -- the newest was found, and opened then
-pub found_behind : {old mid new : View} {found : Found} {f : Result (Option Found) PagesError} {r : Result SpendableKept StartError}
+pub found_behind : {old mid new : View} {found : Found} {f : Result (Option Found) PagesError} {r : Result SpendableKept PagesError}
     → FoundNewest old mid f → f ≡ Ok (Some found) → (IsFound mid.reads found → Opened mid new r) → Opened old new r
 found_behind {found = found} one is then =
     let same = same_files one.asks.files.reads in
@@ -229,21 +258,23 @@ found_behind {found = found} one is then =
 
 -- ---- the start of a store
 
-module _ {old mid new : View} {x : Unit {0}} (synced : Synced old mid (Ok x)) (only : (a : Moment) → mid.left_since mid.moment a → MayLeave mid a)
-    (r : Result SpendableKept StartError) (files : Opened mid new r) where
+module _ {old mid new : View} {x : Unit {0}} (synced : Synced old mid (Ok x))
+    (only_old : (a : Moment) → old.left_since old.moment a → MayLeave old a)
+    (only_mid : (a : Moment) → mid.left_since mid.moment a → MayLeave mid a)
+    (r : Result SpendableKept PagesError) (files : Opened mid new r) where
   -- they were, and then read
   pub started : Started old new r
   started =
       let all = opened_behind synced.asks files in
       record {
         asks = all.asks;
-        opened = λ _. opened synced files.asks only;
+        opened = λ _. opened synced files.asks only_old only_mid;
         stands = all.stands;
         damaged = all.damaged;
       }
 
 -- whatever a crash may leave is what was read
-pub rests_read : {T : Type 0} {old mid new : View} {x : Unit {0}} (r : Result SpendableKept StartError)
+pub rests_read : {T : Type 0} {old mid new : View} {x : Unit {0}} (r : Result SpendableKept PagesError)
     → (T → Synced old mid (Ok x) × Opened mid new r) → IfOk r (λ store. T → AllRest store.kept new)
-rests_read (Ok store) told = λ t. let (synced, files) = told t in all_rest meaning synced files.asks files.stands.0
+rests_read (Ok store) told = λ t. let (synced, files) = told t in all_rest synced files.asks meaning files.stands.0
 rests_read (Err e) told = tt

@@ -1,30 +1,31 @@
--- What the writing of a change does to the files, and what a crash may leave meanwhile.
-use Rattle.std.specs.Prelude.{◌≢◌, ℕ, Bool, List, Result, Err, OnOk}
+-- What the writing of a change and of a generation does to the files, and what a crash may leave meanwhile.
+use Rattle.std.specs.Prelude.{ℕ, Result, OnOk}
 use Rattle.outside_world.specs.View.{View}
 use Rattle.realm_journal.specs.declared.error.JournalError.{JournalError}
-use Rattle.realm_insert.specs.State.{State}
-use Rattle.realm_files.specs.Writing as files
 use Rattle.realm_files.specs.declared.place.Place.{Place}
+use Rattle.realm_files.specs.Writing as files
 use Rattle.realm_store.specs.Stands.{meaning}
 use Rattle.realm_store.specs.Keeping.{Kept, AllRest}
-use Rattle.realm_store.specs.declared.error.CommitError.{CommitError}
-use Rattle.realm_store.specs.declared.error.CommitError.TheVariants.{NoMemory}
 
--- the record is stable, and its next gate is at this place of the file; or the disk failed, and whatever a crash now
--- leaves stands for the state before or after
-abbrev pub Committed : View → View → Bool → State → State → Place → Result ℕ JournalError → Type 0
-Committed = files.Committed meaning
+-- the gate at this place is there, closed; or the disk failed before that
+abbrev pub Readied : View → View → Kept → Place → Result Unit JournalError → Type 0
+Readied = files.Readied meaning
 
--- while a change leads from the first of these to the second, each crash leaves files that stand for the state before or
--- after, where the next gate was there
+-- While a change leads from the first of these to the second, each crash leaves files that rest at the first, at its next gate,
+-- or at the second, where the next gate was there; and so does a crash now.
 abbrev pub IsWritten : View → View → Kept → Kept → Type 0
 IsWritten = files.IsWritten meaning
 
--- a run of calls while which the files stand for one state
-abbrev pub Stays : View → View → State → Type 0
-Stays = files.Stays meaning
-
--- The record of a change was written, and all rests; or the disk failed meanwhile, or memory ran out before.
-pub record Keeps (old new : View) (start after : Kept) (result : Result (List ℕ) CommitError) : Type 0 where
+-- the record of a change was written, and all rests behind it; or the disk failed meanwhile
+pub record Keeps (old new : View) (start after : Kept) (result : Result Unit JournalError) : Type 0 where
+  pub written : IsWritten old new start after
   pub rest : OnOk result (AllRest after new)
-  pub written : result ≢ Err NoMemory → IsWritten old new start after
+
+-- the next generation was put on the other file, or the disk failed before it was whole
+abbrev pub Renewed : View → View → Kept → Kept → Result ℕ JournalError → Type 0
+Renewed = files.Renewed meaning
+
+-- while the next generation leads from the first of these to the second, each crash leaves files that rest at one of them, and
+-- so does a crash now
+abbrev pub IsReplaced : View → View → Kept → Kept → Type 0
+IsReplaced = files.IsReplaced meaning

@@ -14,8 +14,10 @@ pub mod Replies
 pub mod Making
 -- the gate behind which the next record is to be written
 pub mod NextGates
--- what the writing of a change does
+-- what the writing of a change and of a generation does
 pub mod Committing
+-- a change that is made and waits to be written
+pub mod ReadyChanges
 -- what a checkpoint makes of what is kept
 pub mod Renewing
 -- what the start of a store tells
@@ -24,5 +26,3 @@ pub mod Starting
 pub mod Replaying
 -- what is opened of the files when a store is started
 pub mod Opening
--- why files that can't be read start no store
-pub mod StartErrors

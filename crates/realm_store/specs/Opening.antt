@@ -14,8 +14,8 @@ use Rattle.realm_files.specs.declared.place.Place.{Place}
 use Rattle.realm_store.specs.Stands.{meaning}
 use Rattle.realm_store.specs.Keeping.{Kept, SpendableKept, RestsAt}
 use Rattle.realm_store.specs.Damages.{IsDamaged}
-use Rattle.realm_store.specs.declared.error.StartError.{StartError}
-use Rattle.realm_store.specs.declared.error.StartError.TheVariants.{Damaged}
+use Rattle.realm_pages.specs.declared.error.PagesError.{PagesError as StartError}
+use Rattle.realm_pages.specs.declared.error.PagesError.TheVariants.{Damaged}
 
 -- the records of this file, from the gate of the place on, lead from the state to what is kept
 pub record LeadsTo (file : List ℕ) (start : State) (place : Place) (kept : Kept) : Type 0 where

@@ -1,5 +1,6 @@
 -- What the two files of a store stand for: a payload is that of a valid state, and records are changes.
-use Rattle.std.specs.Prelude.{◌≡◌, ℕ, List, Option}
+use Rattle.std.specs.Prelude.{◌≡◌, ℕ, List, [], Option}
+use Rattle.outside_world.specs.declared.world.FileName.{FileName}
 use Rattle.record_codec.specs.declared.snapshot.Snapshot.{Snapshot}
 use Rattle.record_codec.specs.Payload.{IsSnapshot, payload}
 use Rattle.realm_insert.specs.State.{State, empty_state}
@@ -29,3 +30,7 @@ StandsAt = files.StandsAt meaning
 -- files stand for a state
 abbrev pub StandsFor : Files → State → Type 0
 StandsFor = files.StandsFor meaning
+
+-- neither file has a byte
+abbrev pub AreEmpty : Files → Type 0
+AreEmpty files = (f : FileName) → files f ≡ []

@@ -7,8 +7,8 @@ use Rattle.realm_files.specs.Syncing.{IsOpened}
 use Rattle.realm_files.specs.Keeping.{KnowsGate}
 use Rattle.realm_store.specs.Keeping.{SpendableKept, RestsAt}
 use Rattle.realm_store.specs.Damages.{IsDamaged}
-use Rattle.realm_store.specs.declared.error.StartError.{StartError}
-use Rattle.realm_store.specs.declared.error.StartError.TheVariants.{Disk, Damaged}
+use Rattle.realm_pages.specs.declared.error.PagesError.{PagesError as StartError}
+use Rattle.realm_pages.specs.declared.error.PagesError.TheVariants.{Disk, Damaged}
 
 -- Both files were synced and read, and nothing else happened. What is kept is what the files stand for; or they
 -- are damaged as is told; or the disk failed or memory ran out.

@@ -1,69 +1,12 @@
-//! Why a store isn't started, why a change isn't committed, and why no checkpoint is made.
+//! Why a change isn't committed, and why no checkpoint is made.
 ghost use Rattle.std.specs.Prelude.{◌≡◌};
 ghost use Rattle.realm_store.specs.declared.error.CheckpointError.TheVariants.{Disk as Unrenewed, NoMemory as NoCheckpoint};
 ghost use Rattle.realm_store.specs.declared.error.CommitError.TheVariants.{Disk as Unwritten, NoMemory as NoCommit};
-ghost use Rattle.realm_store.specs.declared.error.StartError.TheVariants.{Disk as Unread, NoMemory as NoRoom};
-ghost use Rattle.realm_store.specs.StartErrors.{start_error, newest_error};
 
 use grid_base::NoMemory;
-use outside_world::Failed;
 use realm_insert::Refusal;
-use realm_journal::{JournalError, ScanError};
-use realm_pages::{Damage, PagesError};
+use realm_journal::JournalError;
 use thiserror::Error;
-
-/// Why a store isn't started. Nothing was written.
-#[derive(Clone, Copy, Debug, PartialEq, Eq, Error)]
-pub enum StartError {
-    /// The disk failed.
-    #[error("disk fault")]
-    Disk,
-    /// The files stand for no state.
-    #[error("the files are damaged: {0}")]
-    Damaged(Damage),
-    /// Memory ran out.
-    #[error("no memory")]
-    NoMemory,
-}
-
-impl From<NoMemory> for StartError {
-    ghost from_gives = { λ _ e. e ≡ NoRoom };
-
-    fn from(_: NoMemory) -> StartError {
-        StartError::NoMemory
-    }
-}
-
-impl From<Failed> for StartError {
-    ghost from_gives = { λ _ e. e ≡ Unread };
-
-    fn from(_: Failed) -> StartError {
-        StartError::Disk
-    }
-}
-
-impl From<ScanError> for StartError {
-    ghost from_gives = { λ why e. e ≡ start_error why };
-
-    fn from(why: ScanError) -> StartError {
-        match why {
-            ScanError::Disk => StartError::Disk,
-            ScanError::NoMemory => StartError::NoMemory,
-        }
-    }
-}
-
-impl From<PagesError> for StartError {
-    ghost from_gives = { λ why e. e ≡ newest_error why };
-
-    fn from(why: PagesError) -> StartError {
-        match why {
-            PagesError::Disk => StartError::Disk,
-            PagesError::Damaged(damage) => StartError::Damaged(damage),
-            PagesError::NoMemory => StartError::NoMemory,
-        }
-    }
-}
 
 /// Why a change isn't committed.
 #[derive(Clone, Copy, Debug, PartialEq, Eq, Error)]

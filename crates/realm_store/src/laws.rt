@@ -1,11 +1,13 @@
 //! Laws of what files stand for, for crates above: functions with nothing to do, whose contracts are the laws.
-ghost use Rattle.std.specs.Prelude.{◌≡◌, ℕ, List, Option};
-ghost use Rattle.realm_insert.specs.State.{State};
+ghost use Rattle.std.specs.Prelude.{◌≡◌, ℕ, true, List, Option};
+ghost use Rattle.realm_insert.specs.State.{State, empty_state};
 ghost use Rattle.realm_pages.specs.declared.damage.Damage.{Damage};
 ghost use Rattle.realm_files.specs.Alone.{StoodAt, alone, place_alone};
+ghost use Rattle.realm_files.specs.Keeping.{KnowsGate};
 ghost use Rattle.realm_files.specs.Stands.{Files};
 ghost use Rattle.realm_files.specs.declared.place.Place.{Place as Seen};
-ghost use Rattle.realm_store.specs.Stands.{meaning, StandsAt, StandsFor};
+ghost use Rattle.realm_store.specs.Stands.{meaning, StandsAt, StandsFor, AreEmpty};
+ghost use Rattle.realm_store.specs.Keeping.{Kept, RestsAt, StandsGated, nothing_kept};
 ghost use Rattle.realm_store.specs.Damages.{IsDamaged};
 
 /// Files stand for one state with one place, or have one damage.
@@ -21,4 +23,16 @@ pub fn one_reading()
 pub fn stands_alone()
     ensures { (file : List ℕ) (state : State) (next : Option ℕ) → StoodAt meaning file state next
         → StandsAt (alone file) state (place_alone next) }
+{}
+
+/// Two empty files stand for the empty state, and nothing is kept of them.
+pub fn empty_files_stand()
+    ensures stands { (files : Files) → AreEmpty files → StandsGated files empty_state }
+    ensures rests { (files : Files) → AreEmpty files → RestsAt nothing_kept files }
+{}
+
+/// What a start keeps of files that stand for a state with their next gate: this gate, and this state.
+pub fn gate_is_kept()
+    ensures { (files : Files) (state : State) (kept : Kept) → StandsGated files state → RestsAt kept files
+        → KnowsGate kept files → (kept.has_gate ≡ true) × (kept.state ≡ state) }
 {}

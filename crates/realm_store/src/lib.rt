@@ -15,7 +15,7 @@ mod replies;
 mod store;
 mod writing;
 
-pub use error::{CheckpointError, CommitError, StartError};
-pub use laws::{one_reading, stands_alone};
-pub use realm_pages::Damage;
+pub use error::{CheckpointError, CommitError};
+pub use laws::{empty_files_stand, gate_is_kept, one_reading, stands_alone};
+pub use realm_pages::{Damage, PagesError as StartError};
 pub use store::Store;

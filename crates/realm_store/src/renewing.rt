@@ -46,7 +46,7 @@ pub(crate) fn prepare_state(
     ensures number { IfOk result (λ pages. pages.number ≡ generation) }
     ensures opens { IfOk result (λ pages. Opens pages.payload engine.now.state) }
 {
-    let snapshot = engine.snapshot(alloc)?;
+    let snapshot = engine.snapshot()?;
     let payload = encode_snapshot(alloc, &snapshot)?;
     prepare_pages(alloc, generation, &payload)
 }

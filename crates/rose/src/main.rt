@@ -5,19 +5,21 @@ ghost use Rattle.std.specs.Prelude.{◌≡◌};
 ghost use Rattle.std.specs.Process.{exit_status};
 ghost use Rattle.rose_shell.specs.Status.{number_of};
 
-use process_run::{exit_of, perform, say};
+use process_run::{exit_of, say, status_without_words};
 use process_world::{FileWorld, words_of};
-use rose_shell::Status;
+use rose_shell::{Status, run};
 use std::process::ExitCode;
 
 fn main(rt: HostRuntime) -> ExitCode {
-    let copied: Result<HostRuntime, _> = rt.clone();
-    let status = match copied {
-        Ok(copy) => {
-            let mut world = FileWorld::new(copy);
-            perform(&rt, rt.alloc(), words_of(&rt), &mut world)
+    let status = match words_of(&rt) {
+        Ok(words) => {
+            let copied: Result<HostRuntime, _> = rt.clone();
+            match copied {
+                Ok(copy) => run(&rt, rt.alloc(), words.as_slice(), &mut FileWorld::new(copy)),
+                Err(_) => Status::NoMemory,
+            }
         }
-        Err(_) => Status::NoMemory,
+        Err(why) => status_without_words(why),
     };
     end_with(&rt, status)
 }

@@ -32,10 +32,17 @@ faces_shown s name (L lines) reply is told = inr (
   (λ none. none (is_named s name (L lines) is)),
   inl ((kind_of_one s name (L lines) (λ k. k ≢ Regions) is).1 lines_differ, told),
 )
-faces_shown s name (R border) reply is (faces, are, same) = inr (
+faces_shown s name (R border) reply is told = inr (
   (λ none. none (is_named s name (R border) is)),
   inr (
     (λ other. (kind_of_one s name (R border) (λ k. k ≢ Regions) is).0 other refl),
-    record { border = border; is_region = is; faces = faces; are_faces = are; reply_is = same },
+    record {
+      border = border;
+      is_region = is;
+      ascending = told.ascending;
+      faces = told.faces;
+      are_faces = told.are_faces;
+      reply_is = told.reply_is;
+    },
   ),
 )

@@ -2,6 +2,7 @@
 use Rattle.std.specs.Prelude.{◌≡◌, ◌≢◌, ℕ, List, Option, Some, IsSomeAnd}
 use Rattle.grid_base.specs.Segment.{GridSegment}
 use Rattle.grid_base.specs.declared.kinds.Kind.TheVariants.{Regions}
+use Rattle.rose_values.specs.Border.{AreSegmentsAscending}
 use Rattle.rose_values.specs.declared.geometry.Geometry.TheVariants.{R}
 use Rattle.r_faces.specs.FaceCycles.{AreFaces}
 use Rattle.r_faces.specs.declared.face.Face.{Face}
@@ -21,6 +22,7 @@ IsNoRegion name values = IsSomeAnd (value_named name values) (λ v. v.kind ≢ R
 pub record ShowsFaces (name : List ℕ) (state : State) (reply : List ℕ) : Type 0 where
   pub border : List GridSegment
   pub is_region : IsGeometryNamed state name (Some (R border))
+  pub ascending : AreSegmentsAscending border
   pub faces : List Face
   pub are_faces : AreFaces border faces
   pub reply_is : reply ≡ faces_reply faces

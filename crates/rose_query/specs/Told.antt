@@ -5,6 +5,7 @@ use Rattle.grid_base.specs.Segment.{GridSegment}
 use Rattle.rose_values.specs.declared.geometry.Geometry.{Geometry}
 use Rattle.rose_values.specs.declared.geometry.Geometry.TheVariants.{P, L, R}
 use Rattle.rose_values.specs.declared.operators.Num.{Num}
+use Rattle.rose_values.specs.Border.{AreSegmentsAscending}
 use Rattle.rose_values.specs.Geometry.{kind_of}
 use Rattle.rose_values.specs.Kinds.{measures}
 use Rattle.rose_predicates.specs.declared.answering.HoldsError.{HoldsError}
@@ -28,9 +29,12 @@ TellsMeasure num a b reply =
     ⊎ ((measures num (kind_of a) (option_map kind_of b) ≡ true)
     × (found : Option ℕ) × IsNumberOf num a b found × (reply ≡ number_reply found))
 
--- the reply lists the faces of the region with this border
-abbrev pub ListsFaces : List GridSegment → List ℕ → Type 0
-ListsFaces border reply = (faces : List Face) × AreFaces border faces × (reply ≡ faces_reply faces)
+-- the border ascends, and the reply lists the faces of its region
+pub record ListsFaces (border : List GridSegment) (reply : List ℕ) : Type 0 where
+  pub ascending : AreSegmentsAscending border
+  pub faces : List Face
+  pub are_faces : AreFaces border faces
+  pub reply_is : reply ≡ faces_reply faces
 
 -- the reply lists the faces of the value, or says that it is no region
 abbrev pub TellsFaces : Geometry → List ℕ → Type 0

@@ -35,9 +35,12 @@ fn tell_faces(alloc: Global, value: &Geometry) -> Result<Reply, NoMemory>
     }
 }
 
+// The same for a region, whose border ascends.
 fn tell_region(alloc: Global, region: &RegionsValue) -> Result<Reply, NoMemory>
     ensures { IfOk result (ListsFaces region.now) }
 {
+    // That the border ascends is known where it is asked for.
+    let _ascending = region.segments();
     let found = faces(alloc, region)?;
     list_faces(alloc, &found)
 }

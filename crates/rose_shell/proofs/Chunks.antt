@@ -3,11 +3,11 @@ use Rattle.std.proofs.Common.{◌≡◌, ℕ, ◌+◌, ◌<◌, List, [], ◌∷
 use Rattle.std.proofs.Common.{sym, ◌∙◌, ap, subst, append_assoc}
 use Rattle.std.proofs.lemmas.List.{append-nil}
 use Rattle.outside_world.specs.View.{View}
-use Rattle.rose_shell.specs.declared.feeding.Halt.{Halt}
-use Rattle.rose_shell.specs.declared.feeding.Halt.TheVariants as halts
+use Rattle.rose_shell.specs.declared.fault.Fault.{Fault}
+use Rattle.rose_shell.specs.declared.fault.Fault.TheVariants as faults
 use Rattle.rose_shell.specs.declared.waiting.Waiting.{Waiting}
 use Rattle.rose_shell.specs.Lines.{lines_from, part_from}
-use Rattle.rose_shell.specs.Desk.{Terms, AllRest}
+use Rattle.rose_shell.specs.Desk.{Terms, AllRestBy}
 use Rattle.rose_shell.specs.Loop.{IsWaiting, Went, Stopped}
 use Rattle.rose_shell.proofs.Cuts.{HasNoFeed, lines_from-append, part_from-append, lines_from-no_feed, part_from-no_feed}
 use Rattle.rose_shell.proofs.Cuts.{lines_from-line, split_at_feed}
@@ -37,7 +37,7 @@ part_at_end part done rest split none =
 
 module _ {S : Type 0} {terms : Terms S} (held : List (List ℕ)) where
   -- before the first line
-  pub nothing_heard : {v : View} {s : S} {waiting : Waiting} (part : List ℕ) → AllRest terms v s → IsWaiting waiting held
+  pub nothing_heard : {v : View} {s : S} {waiting : Waiting} (part : List ℕ) → AllRestBy terms v s → IsWaiting waiting held
       → Went terms ⊥ v v s s (held ++ lines_from part []) waiting
   nothing_heard {v} {s} {waiting} part rest waits =
       subst (λ (ls : List (List ℕ)). Went terms ⊥ v v s s ls waiting) (sym (append-nil held)) (went_none rest waits)
@@ -55,12 +55,12 @@ module _ {S : Type 0} {terms : Terms S} (held : List (List ℕ)) where
       subst (λ (ls : List (List ℕ)). Went terms ⊥ old new start end ls after) lines (went_then one first second)
 
   -- or halts the run, and what is left isn't read
-  pub stopped_line : {old mid new : View} {start between end : S} {before : Waiting} {chunk : List ℕ} {halt : Halt}
+  pub stopped_line : {old mid new : View} {start between end : S} {before : Waiting} {chunk : List ℕ} {fault : Fault}
       (part done line rest : List ℕ) → HasNoFeed line → chunk ≡ (done ++ (line ++ 10 ∷ [])) ++ rest
       → (first : Went terms ⊥ old mid start between (held ++ lines_from part done) before)
-      → Stopped terms ⊥ mid new between end (first.held ++ (part_from part done ++ line) ∷ []) halt
-      → Stopped terms ⊥ old new start end (held ++ lines_from part chunk) halt
-  stopped_line {old} {new = new} {start} {end = end} {chunk = chunk} {halt} part done line rest none split first second =
+      → Stopped terms ⊥ mid new between end (first.held ++ (part_from part done ++ line) ∷ []) fault
+      → Stopped terms ⊥ old new start end (held ++ lines_from part chunk) fault
+  stopped_line {old} {new = new} {start} {end = end} {chunk = chunk} {fault} part done line rest none split first second =
       let some = done ++ (line ++ 10 ∷ []) in
       let one = (part_from part done ++ line) ∷ [] in
       let more = lines_from (part_from part some) rest in
@@ -70,7 +70,7 @@ module _ {S : Type 0} {terms : Terms S} (held : List (List ℕ)) where
       let lines : ((held ++ lines_from part done) ++ one) ++ more ≡ held ++ lines_from part chunk =
       ap (λ (ls : List (List ℕ)). ls ++ more) (append_assoc held (lines_from part done) one)
       ∙ append_assoc held (lines_from part done ++ one) more ∙ ap (λ (ls : List (List ℕ)). held ++ ls) here in
-      subst (λ (ls : List (List ℕ)). Stopped terms ⊥ old new start end ls halt) lines
+      subst (λ (ls : List (List ℕ)). Stopped terms ⊥ old new start end ls fault) lines
       (stopped_more more (stopped_then one first second))
 
   -- no line more ends in the chunk
@@ -84,5 +84,5 @@ module _ {S : Type 0} {terms : Terms S} (held : List (List ℕ)) where
   -- and memory runs out for what is left
   pub stopped_end : {old new : View} {start end : S} {after : Waiting} {chunk : List ℕ} (part done rest : List ℕ) → chunk ≡ done ++ rest
       → HasNoFeed rest → Went terms ⊥ old new start end (held ++ lines_from part done) after
-      → Stopped terms ⊥ old new start end (held ++ lines_from part chunk) halts.NoMemory
+      → Stopped terms ⊥ old new start end (held ++ lines_from part chunk) faults.NoMemory
   stopped_end part done rest split none went = stopped_behind (went_end part done rest split none went)

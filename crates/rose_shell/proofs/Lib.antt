@@ -1,13 +1,7 @@
--- what the store answers to a change is an answer to its line
-mod ChangeAnswers
--- a batch whose number is out of range is refused
-mod RefusedBatches
--- runs of calls that leave the files as they were
-mod KeptFiles
 -- a store keeps its terms at the desk
 mod Stores
--- a checkpoint is an answer to its line
-mod Checkpoints
+-- the store's answers are those of a desk
+mod AtDesk
 -- an answer is one step
 mod Steps
 -- bytes are given call by call
@@ -32,10 +26,10 @@ mod Batches
 mod Chunks
 -- the loop goes on from take to take
 mod Takes
--- which halt a status tells of
-mod Halts
 -- the loop ends
 mod Exits
+-- what the status of its end says
+mod Ends
 -- what a crash leaves is counted by the changes
 mod Prefixes
 -- sessions of the store
@@ -50,3 +44,5 @@ mod Syncs
 mod Unstarted
 -- lines that are given after nothing but questions of the files
 mod Tellings
+-- each run goes on from what a crash of the one before has left
+mod Chains

@@ -1,26 +1,35 @@
 -- This file shows that a session that begins after the files were read is one from before.
-use Rattle.std.proofs.Common.{◌≡◌, inl, ⊎_elim, ℕ, ◌≤◌, false, List, ◌++◌, sym, ◌∙◌, ap, subst, arith}
+use Rattle.std.proofs.Common.{◌≡◌, inl, inr, ⊎_elim, ℕ, ◌≤◌, false, List, ◌++◌, sym, ◌∙◌, ap, subst, arith}
 use Rattle.std.specs.Prelude.{◌^◌}
-use Rattle.outside_world.specs.View.{View, Moment, MayLeave}
+use Rattle.outside_world.specs.View.{View, Asked, Moment, MayLeave}
 use Rattle.outside_world.specs.Since.{LeavesOnly}
 use Rattle.outside_world.proofs.Moments.{only_wider, only_then}
 use Rattle.realm_journal.specs.Reading.{OnlyAsks}
-use Rattle.realm_store.specs.Stands.{StandsFor}
-use Rattle.realm_store.specs.Keeping.{Kept, SpendableKept, RestsAt}
 use Rattle.realm_files.specs.Stands.{Files}
 use Rattle.realm_files.specs.Keeping.{KnowsGate}
 use Rattle.realm_files.specs.Syncing.{IsOpened}
 use Rattle.realm_files.proofs.Pairs.{same_files}
+use Rattle.realm_files.proofs.Rests.{stands_gated}
+use Rattle.realm_store.specs.Stands.{meaning}
+use Rattle.realm_store.specs.Keeping.{Kept, SpendableKept, RestsAt, StandsGated}
 use Rattle.rose_shell.specs.declared.status.Status.{Status}
-use Rattle.rose_shell.specs.Desk.{Terms}
-use Rattle.rose_shell.specs.Session.{Turn, replies, IsMoment, IsCutOff, Served}
+use Rattle.rose_shell.specs.declared.status.Status.TheVariants.{Done, Usage, SourceFault, SinkFault}
+use Rattle.rose_shell.specs.declared.status.Status.TheVariants.{DiskFault, Damaged, NoMemory, InputLimit}
+use Rattle.rose_shell.specs.Desk.{Terms, StandsBetween}
+use Rattle.rose_shell.specs.Turns.{Turn, end_of, files_after, replies}
+use Rattle.rose_shell.specs.Moments.{IsMoment, AreLeft, FollowsTurns}
+use Rattle.rose_shell.specs.Session.{IsAnswered, IsCutOff, Work, EndsBy, Served}
 use Rattle.rose_shell.specs.Running.{state_in, is_accepted, StandForState, IsCrashOf, HasServed, HasBegun, ready_store}
-use Rattle.rose_shell.proofs.KeptFiles.{keeps_then, keeps_by_asking}
 use Rattle.rose_shell.proofs.Prefixes.{start_is_prefix}
 
 -- what a crash could leave at the call counts as left before it
 module _ {old mid : View} (now : (t : ℕ) (m : Moment) → t ≤ old.moment → MayLeave old m → old.left_since t m)
-    (asks : OnlyAsks old mid) where
+    (only_now : (m : Moment) → old.left_since old.moment m → MayLeave old m)
+    (none_asked : (a : Asked) → old.asked_since old.moment a → ⊥) (asks : OnlyAsks old mid) where
+  -- the files read as they did
+  same_reads : mid.reads ≡ old.reads
+  same_reads = same_files asks.files.reads
+
   crash_behind : (new : View) (P : List ℕ → Moment → Type 0) → LeavesOnly mid new (P mid.given) → LeavesOnly old new (P old.given)
   crash_behind new P crash =
       only_then
@@ -30,6 +39,20 @@ module _ {old mid : View} (now : (t : ℕ) (m : Moment) → t ≤ old.moment →
       })
       asks.takes.later
       (only_wider crash (λ m is. subst (λ (g : List ℕ). P g m) asks.given is))
+
+  -- each take is one from before
+  answered_from : {S : Type 0} {budget : ℕ} {turns : List (Turn S)} (a : Asked) → IsAnswered mid budget turns a
+      → IsAnswered old budget turns a
+  answered_from a is = record {
+    bytes = is.bytes;
+    done = is.done;
+    others = is.others;
+    some = is.some;
+    taken = is.taken ∙ ap (λ (l : List ℕ). l ++ is.bytes) asks.takes.taken;
+    in_budget = is.in_budget;
+    answered = is.answered;
+    given = is.given ∙ ap (λ (l : List ℕ). l ++ replies is.done) asks.given;
+  }
 
   module _ {S : Type 0} {terms : Terms S} {new : View} {start : S} where
     cut_off_from : {turns : List (Turn S)} {unsent : List ℕ} → IsCutOff terms mid new start turns unsent
@@ -41,48 +64,61 @@ module _ {old mid : View} (now : (t : ℕ) (m : Moment) → t ≤ old.moment →
       none_given = cut.none_given;
       given_before = cut.given_before ∙ ap (λ (l : List ℕ). l ++ replies cut.before) asks.given;
       may_write = cut.may_write;
-      either = cut.either;
+      now = λ files image.
+          subst (λ (f : Files). StandsBetween terms.stands (end_of start cut.before) cut.last.after (files_after f cut.before) files)
+          same_reads (cut.now files image);
     }
 
+    -- and the files follow the same turns
+    files_from : {P : Type 0} {turns : List (Turn S)} → FollowsTurns terms P mid new start turns
+        → FollowsTurns terms P old new start turns
+    files_from {turns = turns} files = record {
+      crash = crash_behind new (λ given m. IsMoment terms.stands start old.reads turns given m)
+          (only_wider files.crash (λ m is.
+          subst (λ (f : Files). IsMoment terms.stands start f turns mid.given m) same_reads is));
+      still = subst (λ (f : Files). AreLeft start f turns) same_reads files.still;
+      reads = files.reads ∙ ap (λ (f : Files). files_after f turns) same_reads;
+      rest = files.rest;
+    }
+
+  -- however it ended
+  module _ {S : Type 0} (terms : Terms S) (new : View) (start : S) where
+    ended_from : (w : Work S) (budget : ℕ) (status : Status) → EndsBy terms mid new start w budget status
+        → EndsBy terms old new start w budget status
+    ended_from w budget Done is = is
+    ended_from w budget Usage is = is
+    ended_from w budget SourceFault is = is
+    ended_from w budget SinkFault is = is
+    ended_from w budget DiskFault is = cut_off_from is
+    ended_from w budget (Damaged d) is = is
+    ended_from w budget NoMemory is = is
+    ended_from w budget InputLimit is = is
+
+  module _ {S : Type 0} {terms : Terms S} {new : View} {start : S} where
     -- the bytes are the same, and so is the rest
     served_from : {end : S} {budget : ℕ} {status : Status} → Served terms mid new start end budget status
         → Served terms old new start end budget status
-    served_from served = record {
-      bytes = served.bytes;
-      turns = served.turns;
-      unread = served.unread;
-      unsent = served.unsent;
-      later = omega (arith, asks.takes.later, served.later);
-      left = sym asks.takes.left ∙ served.left;
-      taken = served.taken ∙ ap (λ (l : List ℕ). l ++ served.bytes) asks.takes.taken;
-      is_run = served.is_run;
-      of_lines = served.of_lines;
-      full = served.full;
-      whole = served.whole;
-      given = served.given ∙ ap (λ (l : List ℕ). l ++ replies served.turns) asks.given;
-      ends = served.ends;
-      asked = only_then (only_wider asks.takes.asked (λ a none. absurd none)) asks.takes.later
-          (only_wider served.asked (λ a is. record {
-            bytes = is.bytes;
-            done = is.done;
-            others = is.others;
-            some = is.some;
-            taken = is.taken ∙ ap (λ (l : List ℕ). l ++ is.bytes) asks.takes.taken;
-            in_budget = is.in_budget;
-            answered = is.answered;
-            given = is.given ∙ ap (λ (l : List ℕ). l ++ replies is.done) asks.given;
-          }));
-      crash = crash_behind new (λ given m. IsMoment terms.stands start served.turns given m) served.crash;
-      rest = served.rest;
-      still = λ stay. keeps_then asks.takes.later (keeps_by_asking asks) (served.still stay);
-      done = served.done;
-      source = served.source;
-      sink = served.sink;
-      disk = λ is. cut_off_from (served.disk is);
-      memory = served.memory;
-      limit = served.limit;
-      within = served.within;
-    }
+    served_from {budget = budget} {status} served =
+        let work = served.work in
+        let input = served.input in
+        record {
+          work = work;
+          input = record {
+            later = omega (arith, asks.takes.later, input.later);
+            left = sym asks.takes.left ∙ input.left;
+            taken = input.taken ∙ ap (λ (l : List ℕ). l ++ work.bytes) asks.takes.taken;
+            of_lines = input.of_lines;
+            full = input.full;
+            whole = input.whole;
+            within = input.within;
+          };
+          given = served.given ∙ ap (λ (l : List ℕ). l ++ replies work.turns) asks.given;
+          state = served.state;
+          asked = only_then (only_wider asks.takes.asked (λ a none. absurd none)) asks.takes.later
+              (only_wider served.asked answered_from);
+          files = files_from served.files;
+          ended = ended_from terms new start work budget status served.ended;
+        }
 
   module _ {new : View} {start : Kept} {end : SpendableKept} {status : Status} (opened : IsOpened old mid)
       (rests : RestsAt start old.reads) (knows : KnowsGate start old.reads) where
@@ -91,7 +127,7 @@ module _ {old mid : View} (now : (t : ℕ) (m : Moment) → t ≤ old.moment →
     unfolding served_from
     has_begun served =
         let first = ready_store start in
-        let turns = served.session.turns in
+        let turns = served.session.work.turns in
         record {
           start = start;
           rests = rests;
@@ -106,14 +142,23 @@ module _ {old mid : View} (now : (t : ℕ) (m : Moment) → t ≤ old.moment →
           };
           since = opened.since;
           begun = opened.begun;
-          by_now = omega (arith, opened.by_now, served.session.later);
+          by_now = omega (arith, opened.by_now, served.session.input.later);
+          before = λ m left.
+              ⊎_elim (λ past. inl (only_now m past)) (λ is. inr is)
+              ((files_from served.session.files).crash.nothing_else old.moment m (omega arith) left);
           settled = λ has m since.
               ⊎_elim
               (λ before. let is = opened.settled m before in
               start_is_prefix state_in is_accepted StandForState first turns old.given m is.0
-              (subst (λ (files : Files). StandsFor files start.state) (sym (same_files is.1)) (start.place, rests.stands)))
+              (subst (λ (files : Files). StandsGated files start.state) (sym (same_files is.1)) (stands_gated meaning has rests)))
               (λ during. subst (λ (g : List ℕ). IsCrashOf first turns g m) asks.given during)
               ((served.prefix has).nothing_else opened.since m opened.by_now since);
+          first_asked = λ a asked.
+              ⊎_elim
+              (λ past. absurd (none_asked a (⊎_elim (λ was. was) (λ never. absurd never)
+              (asks.takes.asked.nothing_else old.moment a (omega arith) past))))
+              (λ is. answered_from a is)
+              (served.session.asked.nothing_else old.moment a asks.takes.later asked);
         }
 
   -- the store that was started isn't spent

@@ -2,28 +2,30 @@
 use Rattle.std.proofs.Common.{◌≡◌, inl, inr, ℕ, zero, suc, ◌+◌, ◌-◌, ◌<◌, ◌≤◌, Bool, true, false, MatchBool}
 use Rattle.std.proofs.Common.{List, [], ◌∷◌, ◌++◌, length, refl, sym, ◌∙◌, ap, subst, arith, length-append}
 use Rattle.std.specs.Prelude.{if◌then◌else◌}
-use Rattle.outside_world.specs.declared.world.FileName.{FileName}
+use Rattle.std.proofs.lemmas.List.{append-nil}
 use Rattle.outside_world.specs.View.{Moment}
-use Rattle.rose_shell.specs.Desk.{Stands}
-use Rattle.rose_shell.specs.Session.{Turn, IsMoment}
-use Rattle.rose_shell.specs.Prefixes.{one_if, state_after, begun, IsCounted, StandsAround, IsPrefixMoment}
+use Rattle.realm_files.specs.Stands.{Files}
+use Rattle.rose_shell.specs.Desk.{FilesRule}
+use Rattle.rose_shell.specs.Turns.{Turn}
+use Rattle.rose_shell.specs.Moments.{IsMoment}
+use Rattle.rose_shell.specs.Prefixes.{one_if, state_after, replies_begun, IsCounted, StandsAround, IsPrefixMoment}
 
 -- as much was given as before, at least
-moment_longer : {S : Type 0} (stands : Stands S) (start : S) (turns : List (Turn S)) (given : List ℕ) (m : Moment)
-    → IsMoment stands start turns given m → length given ≤ length m.given
-moment_longer stands start [] given m is = omega (arith, ap length is.0)
-moment_longer stands start (turn ∷ turns) given m (inl before) = omega (arith, ap length before.0)
-moment_longer stands start (turn ∷ turns) given m (inr (inl (sent, unsent, split, is, stand))) =
+moment_longer : {S : Type 0} (stands : FilesRule S) (start : S) (files : Files) (turns : List (Turn S)) (given : List ℕ) (m : Moment)
+    → IsMoment stands start files turns given m → length given ≤ length m.given
+moment_longer stands start files [] given m is = omega (arith, ap length is.0)
+moment_longer stands start files (turn ∷ turns) given m (inl before) = omega (arith, ap length before.0)
+moment_longer stands start files (turn ∷ turns) given m (inr (inl (sent, unsent, split, is, stand, same))) =
     omega (arith, ap length is, length-append given sent)
-moment_longer stands start (turn ∷ turns) given m (inr (inr later)) =
-    omega (arith, moment_longer stands turn.after turns (given ++ turn.reply) m later, length-append given turn.reply)
+moment_longer stands start files (turn ∷ turns) given m (inr (inr later)) =
+    omega (arith, moment_longer stands turn.after turn.files turns (given ++ turn.reply) m later, length-append given turn.reply)
 
 module _ {S T : Type 0} (state_of : S → T) (is_change : S → Turn S → Bool) where
   abbrev After : S → List (Turn S) → ℕ → T
   After = state_after state_of is_change
 
   abbrev Begun : S → List (Turn S) → ℕ → ℕ
-  Begun = begun state_of is_change
+  Begun = replies_begun state_of is_change
 
   abbrev Counted : S → List (Turn S) → Type 0
   Counted = IsCounted state_of is_change
@@ -52,18 +54,18 @@ module _ {S T : Type 0} (state_of : S → T) (is_change : S → Turn S → Bool)
   after-other start turn turns zero is same = sym same ∙ sym (state_after-zero turn.after turns)
   after-other start turn turns (suc k) is same = ap (λ b. if b then After turn.after turns k else After turn.after turns (suc k)) is
 
-  module _ (stands_for : T → (FileName → List ℕ) → Type 0) where
-    abbrev Around : S → List (Turn S) → ℕ → (FileName → List ℕ) → Type 0
+  module _ (stands_for : T → Files → Type 0) where
+    abbrev Around : S → List (Turn S) → ℕ → Files → Type 0
     Around = StandsAround state_of is_change stands_for
 
-    around_change : (start : S) (turn : Turn S) (turns : List (Turn S)) (k : ℕ) (files : FileName → List ℕ)
+    around_change : (start : S) (turn : Turn S) (turns : List (Turn S)) (k : ℕ) (files : Files)
         → is_change start turn ≡ true → Around turn.after turns k files → Around start (turn ∷ turns) (suc k) files
     around_change start turn turns k files is (inl here) =
         inl (subst (λ t. stands_for t files) (sym (after-change start turn turns k is)) here)
     around_change start turn turns k files is (inr next) =
         inr (subst (λ t. stands_for t files) (sym (after-change start turn turns (suc k) is)) next)
 
-    around_other : (start : S) (turn : Turn S) (turns : List (Turn S)) (k : ℕ) (files : FileName → List ℕ)
+    around_other : (start : S) (turn : Turn S) (turns : List (Turn S)) (k : ℕ) (files : Files)
         → is_change start turn ≡ false → state_of turn.after ≡ state_of start
         → Around turn.after turns k files → Around start (turn ∷ turns) k files
     around_other start turn turns k files is same (inl here) =
@@ -72,7 +74,7 @@ module _ {S T : Type 0} (state_of : S → T) (is_change : S → Turn S → Bool)
         inr (subst (λ t. stands_for t files) (sym (after-other start turn turns (suc k) is same)) next)
 
     -- a state before any further change
-    around_now : (start : S) (turns : List (Turn S)) (files : FileName → List ℕ) → stands_for (state_of start) files
+    around_now : (start : S) (turns : List (Turn S)) (files : Files) → stands_for (state_of start) files
         → Around start turns zero files
     around_now start turns files stand = inl (subst (λ t. stands_for t files) (sym (state_after-zero start turns)) stand)
 
@@ -85,7 +87,7 @@ module _ {S T : Type 0} (state_of : S → T) (is_change : S → Turn S → Bool)
         (subst (λ k. Around start turns k m.files) (sym (begun-zero start turns)) (around_now start turns m.files stand))
 
     -- the next change was made, and its reply hasn't begun
-    around_next : (start : S) (turn : Turn S) (turns : List (Turn S)) (files : FileName → List ℕ) (c : Bool) → is_change start turn ≡ c
+    around_next : (start : S) (turn : Turn S) (turns : List (Turn S)) (files : Files) (c : Bool) → is_change start turn ≡ c
         → MatchBool c (0 < length turn.reply) (state_of turn.after ≡ state_of start) → stands_for (state_of turn.after) files
         → Around start (turn ∷ turns) zero files
     around_next start turn turns files true is counted stand =
@@ -93,8 +95,16 @@ module _ {S T : Type 0} (state_of : S → T) (is_change : S → Turn S → Bool)
     around_next start turn turns files false is counted stand =
         inl (subst (λ t. stands_for t files) counted stand)
 
+    next_is_prefix : (start : S) (turn : Turn S) (turns : List (Turn S)) (given : List ℕ) (m : Moment) → m.given ≡ given
+        → MatchBool (is_change start turn) (0 < length turn.reply) (state_of turn.after ≡ state_of start)
+        → stands_for (state_of turn.after) m.files → IsPrefixMoment state_of is_change stands_for start (turn ∷ turns) given m
+    next_is_prefix start turn turns given m is counted stand =
+        let none : 0 ≡ length m.given - length given = omega (arith, ap length is) in
+        subst (λ n. Around start (turn ∷ turns) (Begun start (turn ∷ turns) n) m.files) none
+        (around_next start turn turns m.files (is_change start turn) refl counted stand)
+
     -- its reply has begun
-    around_begun : (start : S) (turn : Turn S) (turns : List (Turn S)) (files : FileName → List ℕ) (n : ℕ) (c : Bool)
+    around_begun : (start : S) (turn : Turn S) (turns : List (Turn S)) (files : Files) (n : ℕ) (c : Bool)
         → is_change start turn ≡ c
         → MatchBool c (0 < length turn.reply) (state_of turn.after ≡ state_of start) → 0 < n → n ≤ length turn.reply
         → stands_for (state_of turn.after) files → Around start (turn ∷ turns) (Begun start (turn ∷ turns) n) files
@@ -114,7 +124,7 @@ module _ {S T : Type 0} (state_of : S → T) (is_change : S → Turn S → Bool)
         (around_other start turn turns zero files is counted (around_now turn.after turns files stand))
 
     -- and was given whole
-    around_later : (start : S) (turn : Turn S) (turns : List (Turn S)) (files : FileName → List ℕ) (n : ℕ) (c : Bool)
+    around_later : (start : S) (turn : Turn S) (turns : List (Turn S)) (files : Files) (n : ℕ) (c : Bool)
         → is_change start turn ≡ c
         → MatchBool c (0 < length turn.reply) (state_of turn.after ≡ state_of start) → length turn.reply ≤ n
         → Around turn.after turns (Begun turn.after turns (n - length turn.reply)) files
@@ -135,29 +145,27 @@ module _ {S T : Type 0} (state_of : S → T) (is_change : S → Turn S → Bool)
         subst (λ j. Around start (turn ∷ turns) j files) (sym k) (around_other start turn turns k' files is counted around)
 
     -- each moment stands for the state after the changes whose replies had begun, or after one more
-    pub moment_is_prefix : (stands : Stands S) → ((s : S) (files : FileName → List ℕ) → stands s files → stands_for (state_of s) files)
-        → (start : S) (turns : List (Turn S)) (given : List ℕ) (m : Moment) → IsMoment stands start turns given m
+    pub moment_is_prefix : (stands : FilesRule S) → ((s : S) (files : Files) → stands s files → stands_for (state_of s) files)
+        → (start : S) (files : Files) (turns : List (Turn S)) (given : List ℕ) (m : Moment) → IsMoment stands start files turns given m
         → Counted start turns → IsPrefixMoment state_of is_change stands_for start turns given m
-    moment_is_prefix stands kept start [] given m is counted = inl (kept start m.files is.1)
-    moment_is_prefix stands kept start (turn ∷ turns) given m (inl before) counted =
-        let none : 0 ≡ length m.given - length given = omega (arith, ap length before.0) in
-        subst (λ n. Around start (turn ∷ turns) (Begun start (turn ∷ turns) n) m.files) none
-        (around_now start (turn ∷ turns) m.files (kept start m.files before.1))
-    moment_is_prefix stands kept start (turn ∷ turns) given m (inr (inl ([], unsent, split, is, stand))) counted =
-        let none : 0 ≡ length m.given - length given = omega (arith, ap length is, length-append given []) in
-        subst (λ n. Around start (turn ∷ turns) (Begun start (turn ∷ turns) n) m.files) none
-        (around_next start turn turns m.files (is_change start turn) refl counted.0 (kept turn.after m.files stand))
-    moment_is_prefix stands kept start (turn ∷ turns) given m (inr (inl (b ∷ sent, unsent, split, is, stand))) counted =
+    moment_is_prefix stands kept start files [] given m is counted = inl (kept start m.files is.1)
+    moment_is_prefix stands kept start files (turn ∷ turns) given m (inl (is, (inl before, same))) counted =
+        start_is_prefix start (turn ∷ turns) given m is (kept start m.files before)
+    moment_is_prefix stands kept start files (turn ∷ turns) given m (inl (is, (inr after, same))) counted =
+        next_is_prefix start turn turns given m is counted.0 (kept turn.after m.files after)
+    moment_is_prefix stands kept start files (turn ∷ turns) given m (inr (inl ([], unsent, split, is, stand, same))) counted =
+        next_is_prefix start turn turns given m (is ∙ append-nil given) counted.0 (kept turn.after m.files stand)
+    moment_is_prefix stands kept start files (turn ∷ turns) given m (inr (inl (b ∷ sent, unsent, split, is, stand, same))) counted =
         around_begun start turn turns m.files (length m.given - length given) (is_change start turn) refl counted.0
         (omega (arith, ap length is, length-append given (b ∷ sent)))
         (omega (arith, ap length is, length-append given (b ∷ sent), ap length split, length-append (b ∷ sent) unsent))
         (kept turn.after m.files stand)
-    moment_is_prefix stands kept start (turn ∷ turns) given m (inr (inr later)) counted =
-        let longer = moment_longer stands turn.after turns (given ++ turn.reply) m later in
+    moment_is_prefix stands kept start files (turn ∷ turns) given m (inr (inr later)) counted =
+        let longer = moment_longer stands turn.after turn.files turns (given ++ turn.reply) m later in
         let size = length-append given turn.reply in
         let behind : length m.given - length (given ++ turn.reply) ≡ length m.given - length given - length turn.reply =
         omega (arith, longer, size) in
         around_later start turn turns m.files (length m.given - length given) (is_change start turn) refl counted.0
         (omega (arith, longer, size))
         (subst (λ n. Around turn.after turns (Begun turn.after turns n) m.files) behind
-        (moment_is_prefix stands kept turn.after turns (given ++ turn.reply) m later counted.1))
+        (moment_is_prefix stands kept turn.after turn.files turns (given ++ turn.reply) m later counted.1))

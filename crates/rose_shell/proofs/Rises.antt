@@ -4,14 +4,14 @@ use Rattle.std.specs.Prelude.{◌≢◌}
 use Rattle.outside_world.specs.Counts.{Rose}
 use Rattle.outside_world.specs.View.{View}
 use Rattle.realm_pages.specs.declared.damage.Damage.{Damage}
-use Rattle.realm_store.specs.declared.error.StartError.{StartError}
-use Rattle.realm_store.specs.declared.error.StartError.TheVariants as starts
+use Rattle.realm_pages.specs.declared.error.PagesError.{PagesError as StartError}
+use Rattle.realm_pages.specs.declared.error.PagesError.TheVariants as starts
 use Rattle.rose_shell.specs.declared.status.Status.{Status}
 use Rattle.rose_shell.specs.declared.status.Status.TheVariants.{Done, Usage, SourceFault, SinkFault}
 use Rattle.rose_shell.specs.declared.status.Status.TheVariants.{DiskFault, Damaged, NoMemory, InputLimit}
 use Rattle.rose_shell.specs.Desk.{Terms}
 use Rattle.rose_shell.specs.Session.{Served}
-use Rattle.rose_shell.specs.Loop.{status_unstarted}
+use Rattle.rose_shell.specs.Faults.{status_unstarted}
 
 -- a count that rose later has risen since
 pub rose_behind : {before mid now : ℕ} → before ≤ mid → Rose mid now → Rose before now
@@ -27,23 +27,24 @@ unstarted starts.NoMemory is no_fault whole = inr is
 
 -- a session that tells of no fault takes its input to the end where this is within the budget, unless memory runs out
 pub served_to_end : {S : Type 0} {terms : Terms S} {old new : View} {start end : S} {budget : ℕ} (status : Status)
-    → Served terms old new start end budget status → status ≢ Usage → ((d : Damage) → status ≢ Damaged d)
-    → status ≢ SourceFault → status ≢ SinkFault → status ≢ DiskFault → length old.left ≤ budget
+    → Served terms old new start end budget status → status ≢ SourceFault → status ≢ SinkFault → status ≢ DiskFault
+    → length old.left ≤ budget
     → (status ≡ Done) ⊎ (status ≡ NoMemory)
-served_to_end Done served usage damaged source sink disk within = inl refl
-served_to_end Usage served usage damaged source sink disk within = absurd (usage refl)
-served_to_end SourceFault served usage damaged source sink disk within = absurd (source refl)
-served_to_end SinkFault served usage damaged source sink disk within = absurd (sink refl)
-served_to_end DiskFault served usage damaged source sink disk within = absurd (disk refl)
-served_to_end (Damaged d) served usage damaged source sink disk within = absurd (damaged d refl)
-served_to_end NoMemory served usage damaged source sink disk within = inr refl
-served_to_end {new = new} InputLimit served usage damaged source sink disk within =
-    let over = served.limit refl in
+served_to_end Done served source sink disk within = inl refl
+served_to_end Usage served source sink disk within = absurd served.ended
+served_to_end SourceFault served source sink disk within = absurd (source refl)
+served_to_end SinkFault served source sink disk within = absurd (sink refl)
+served_to_end DiskFault served source sink disk within = absurd (disk refl)
+served_to_end (Damaged d) served source sink disk within = absurd served.ended
+served_to_end NoMemory served source sink disk within = inr refl
+served_to_end {new = new} InputLimit served source sink disk within =
+    let over = served.ended in
+    let input = served.input in
     absurd (omega (
       arith,
       within,
-      ap (λ (l : List ℕ). length l) served.left,
-      length-append served.bytes new.left,
+      ap (λ (l : List ℕ). length l) input.left,
+      length-append served.work.bytes new.left,
       ap (λ (l : List ℕ). length l) over.2,
       length-append over.0 over.1,
       over.3,

@@ -2,16 +2,18 @@
 use Rattle.std.proofs.Common.{◌≡◌, ℕ, ◌≤◌, List, [], ◌++◌, refl, sym, ◌∙◌, ap, subst, append_assoc}
 use Rattle.std.proofs.lemmas.List.{append-nil}
 use Rattle.outside_world.specs.View.{View, Moment}
-use Rattle.outside_world.specs.Since.{LeavesOnly}
-use Rattle.rose_shell.specs.declared.feeding.Halt.{Halt}
-use Rattle.rose_shell.specs.declared.feeding.Halt.TheVariants as halts
+use Rattle.rose_shell.specs.declared.fault.Fault.{Fault}
+use Rattle.rose_shell.specs.declared.fault.Fault.TheVariants as faults
 use Rattle.rose_shell.specs.declared.waiting.Waiting.{Waiting}
-use Rattle.rose_shell.specs.Desk.{Terms, AllRest, KeepsFiles}
-use Rattle.rose_shell.specs.Session.{Turn, IsRun, Stay, end_of, replies, lines_of, IsMoment, IsCutOff}
-use Rattle.rose_shell.specs.Loop.{IsWaiting, Went, WentAll, Stopped}
+use Rattle.realm_files.specs.Stands.{Files}
+use Rattle.rose_shell.specs.Desk.{Terms, AllRestBy}
+use Rattle.rose_shell.specs.Turns.{Turn, IsRun, end_of, files_after, replies, lines_of}
+use Rattle.rose_shell.specs.Moments.{IsMoment, AreLeft, FollowsTurns}
+use Rattle.rose_shell.specs.Session.{IsCutOff}
+use Rattle.rose_shell.specs.Loop.{IsWaiting, Went, StopsBy, Stopped}
 use Rattle.outside_world.proofs.Moments.{only_nothing, only_wider, only_then, none_taken, none_taken_then}
-use Rattle.rose_shell.proofs.KeptFiles.{keeps_files, keeps_then}
-use Rattle.rose_shell.proofs.Turns.{end_of-append, stay-append, replies-append, lines_behind, full_wider, full-append, run-append}
+use Rattle.rose_shell.proofs.Turns.{end_of-append, files_after-append, left-append, replies-append, lines_behind}
+use Rattle.rose_shell.proofs.Turns.{complete_wider, complete-append, run-append}
 use Rattle.rose_shell.proofs.Turns.{given_in_part_behind, cut_off_behind, moment_before, moment_behind}
 
 -- these turns were made, and their replies given whole
@@ -21,8 +23,18 @@ pub record Made {S : Type 0} (terms : Terms S) (old new : View) (start end : S)
   pub ends : end ≡ end_of start turns
   pub given : new.given ≡ old.given ++ replies turns
   pub later : old.moment ≤ new.moment
-  pub crash : LeavesOnly old new (IsMoment terms.stands start turns old.given)
-  pub still : Stay start turns → KeepsFiles old new
+  pub files : FollowsTurns terms Unit old new start turns
+
+-- the files follow, whatever is said of their rest
+pub follows_if : {S : Type 0} {terms : Terms S} {P Q : Type 0} {old new : View} {start : S} {turns : List (Turn S)} → (Q → P)
+    → FollowsTurns terms P old new start turns → FollowsTurns terms Q old new start turns
+follows_if weaker files =
+    record { crash = files.crash; still = files.still; reads = files.reads; rest = λ q. files.rest (weaker q) }
+
+-- no turn was made
+pub follows_none : {S : Type 0} {terms : Terms S} {P : Type 0} {v : View} {s : S} → AllRestBy terms v s
+    → FollowsTurns terms P v v s []
+follows_none rest = record { crash = only_nothing; still = tt; reads = refl; rest = λ _. rest }
 
 -- more turns behind these
 module _ {S : Type 0} {terms : Terms S} {old mid : View} {start between : S} {ts : List (Turn S)}
@@ -38,25 +50,38 @@ module _ {S : Type 0} {terms : Terms S} {old mid : View} {start between : S} {ts
       ap (λ (l : List ℕ). l ++ replies us) made.given ∙ append_assoc old.given (replies ts) (replies us)
       ∙ ap (λ (l : List ℕ). old.given ++ l) (sym (replies-append ts us))
 
-  moment_then : (m : Moment) → IsMoment terms.stands between us mid.given m → IsMoment terms.stands start (ts ++ us) old.given m
+  -- however these stop
+  pub stops_behind : (new : View) (end : S) (unsent : List ℕ) (fault : Fault) → StopsBy terms mid new between end us unsent fault
+      → StopsBy terms old new start end (ts ++ us) unsent fault
+  stops_behind new end unsent faults.Source stops = stops
+  stops_behind new end unsent faults.Sink stops = (stops.0 ∙ ends_then, given_in_part_behind ts stops.1)
+  stops_behind new end unsent faults.Disk stops =
+      cut_off_behind start ts made.given made.files.reads (subst (λ (s : S). IsCutOff terms mid new s us unsent) made.ends stops)
+  stops_behind new end unsent faults.NoMemory stops = stops
+
+  -- a moment of theirs, from the state, the files and the bytes at which these ended
+  moment_then : (m : Moment) → IsMoment terms.stands between mid.reads us mid.given m
+      → IsMoment terms.stands start old.reads (ts ++ us) old.given m
   moment_then m is =
-      moment_behind terms.stands start ts us old.given m
-      (subst (λ (s : S). IsMoment terms.stands s us (old.given ++ replies ts) m) made.ends
-      (subst (λ (g : List ℕ). IsMoment terms.stands between us g m) made.given is))
+      moment_behind terms.stands start old.reads ts us old.given m
+      (subst (λ (s : S). IsMoment terms.stands s (files_after old.reads ts) us (old.given ++ replies ts) m) made.ends
+      (subst (λ (f : Files). IsMoment terms.stands between f us (old.given ++ replies ts) m) made.files.reads
+      (subst (λ (g : List ℕ). IsMoment terms.stands between mid.reads us g m) made.given is)))
 
-  pub crash_then : (new : View) → LeavesOnly mid new (IsMoment terms.stands between us mid.given)
-      → LeavesOnly old new (IsMoment terms.stands start (ts ++ us) old.given)
-  crash_then new crash =
-      only_then (only_wider made.crash (moment_before terms.stands start ts us old.given)) made.later (only_wider crash moment_then)
-
-  pub still_then : {new : View} → (Stay between us → KeepsFiles mid new) → Stay start (ts ++ us) → KeepsFiles old new
-  still_then still stay =
-      let parts = stay-append start ts us stay in
-      keeps_then made.later (made.still parts.0) (still (subst (λ (s : S). Stay s us) (sym made.ends) parts.1))
+  pub files_then : {P : Type 0} {new : View} → FollowsTurns terms P mid new between us → FollowsTurns terms P old new start (ts ++ us)
+  files_then {new = new} more = record {
+    crash = only_then (only_wider made.files.crash (moment_before terms.stands start old.reads ts us old.given)) made.later
+        (only_wider more.crash moment_then);
+    still = left-append start old.reads ts us made.files.still
+        (subst (λ (s : S). AreLeft s (files_after old.reads ts) us) made.ends
+        (subst (λ (f : Files). AreLeft between f us) made.files.reads more.still));
+    reads = more.reads ∙ ap (λ (f : Files). files_after f us) made.files.reads ∙ sym (files_after-append old.reads ts us);
+    rest = λ p. subst (λ (s : S). AllRestBy terms new s) ends_then (more.rest p);
+  }
 
 module _ {S : Type 0} {terms : Terms S} where
   -- no line is answered, and all wait
-  pub went_none : {v : View} {s : S} {lines : List (List ℕ)} {waiting : Waiting} {none_left : Type 0} → AllRest terms v s
+  pub went_none : {v : View} {s : S} {lines : List (List ℕ)} {waiting : Waiting} {none_left : Type 0} → AllRestBy terms v s
       → IsWaiting waiting lines → Went terms none_left v v s s lines waiting
   went_none {v} {lines = lines} rest waits = record {
     turns = [];
@@ -68,14 +93,33 @@ module _ {S : Type 0} {terms : Terms S} where
     ends = refl;
     given = sym (append-nil v.given);
     takes = none_taken;
-    rest = rest;
-    crash = only_nothing;
-    still = λ _. keeps_files;
+    files = follows_none rest;
   }
 
+  -- where the input has ended the last batch may have fewer lines than it asks for
+  pub went_to_end : {old new : View} {start end : S} {lines : List (List ℕ)} {waiting : Waiting} {none_left : Type 0}
+      → Went terms ⊥ old new start end lines waiting → Went terms none_left old new start end lines waiting
+  went_to_end went = record {
+    turns = went.turns;
+    held = went.held;
+    is_run = went.is_run;
+    full = complete_wider (λ never. absurd never) went.turns went.full;
+    waits = went.waits;
+    of_lines = went.of_lines;
+    ends = went.ends;
+    given = went.given;
+    takes = went.takes;
+    files = went.files;
+  }
+
+  -- and the files are at rest
+  pub rest_behind : {old new : View} {start end : S} {lines : List (List ℕ)} {waiting : Waiting} {none_left : Type 0}
+      → Went terms none_left old new start end lines waiting → AllRestBy terms new end
+  rest_behind {new = new} went = subst (λ (s : S). AllRestBy terms new s) (sym went.ends) (went.files.rest tt)
+
   -- memory runs out before any line is answered
-  pub stopped_none : {v : View} {s : S} {none_left : Type 0} (lines : List (List ℕ)) → AllRest terms v s
-      → Stopped terms none_left v v s s lines halts.NoMemory
+  pub stopped_none : {v : View} {s : S} {none_left : Type 0} (lines : List (List ℕ)) → AllRestBy terms v s
+      → Stopped terms none_left v v s s lines faults.NoMemory
   stopped_none lines rest = record {
     turns = [];
     unread = lines;
@@ -85,66 +129,53 @@ module _ {S : Type 0} {terms : Terms S} where
     of_lines = refl;
     given = refl;
     takes = none_taken;
-    rest = λ _. rest;
-    crash = only_nothing;
-    still = λ _. keeps_files;
-    sink = λ is. absurd (cc);
-    disk = λ is. absurd (cc);
-    memory = λ _. refl;
+    files = follows_none rest;
+    ended = refl;
   }
 
   -- the sink fails
-  pub stopped_at : {old new : View} {start end : S} {lines : List (List ℕ)} {halt : Halt} {none_left : Type 0} → halt ≡ halts.Sink
-      → Stopped terms none_left old new start end lines halts.Sink → Stopped terms none_left old new start end lines halt
+  pub stopped_at : {old new : View} {start end : S} {lines : List (List ℕ)} {fault at : Fault} {none_left : Type 0} → fault ≡ at
+      → Stopped terms none_left old new start end lines at → Stopped terms none_left old new start end lines fault
   stopped_at {old} {new} {start} {end} {lines} {none_left = none_left} is stopped =
-      subst (λ (h : Halt). Stopped terms none_left old new start end lines h) (sym is) stopped
+      subst (λ (h : Fault). Stopped terms none_left old new start end lines h) (sym is) stopped
 
   -- memory runs out when these lines are answered, but for those that wait
   pub stopped_behind : {old new : View} {start end : S} {lines : List (List ℕ)} {waiting : Waiting} {none_left : Type 0}
-      → Went terms ⊥ old new start end lines waiting → Stopped terms none_left old new start end lines halts.NoMemory
+      → Went terms ⊥ old new start end lines waiting → Stopped terms none_left old new start end lines faults.NoMemory
   stopped_behind {new = new} went = record {
     turns = went.turns;
     unread = went.held;
     unsent = [];
     is_run = went.is_run;
-    full = full_wider (λ never. absurd never) went.turns went.full;
+    full = complete_wider (λ never. absurd never) went.turns went.full;
     of_lines = went.of_lines;
     given = append-nil new.given ∙ went.given;
     takes = went.takes;
-    rest = λ _. subst (λ (s : S). AllRest terms new s) went.ends went.rest;
-    crash = went.crash;
-    still = went.still;
-    sink = λ is. absurd (cc);
-    disk = λ is. absurd (cc);
-    memory = λ _. refl;
+    files = follows_if (λ _. tt) went.files;
+    ended = refl;
   }
 
   -- more lines that aren't read
-  pub stopped_more : {old new : View} {start end : S} {lines : List (List ℕ)} {halt : Halt} {none_left : Type 0}
-      (more : List (List ℕ)) → Stopped terms ⊥ old new start end lines halt
-      → Stopped terms none_left old new start end (lines ++ more) halt
+  pub stopped_more : {old new : View} {start end : S} {lines : List (List ℕ)} {fault : Fault} {none_left : Type 0}
+      (more : List (List ℕ)) → Stopped terms ⊥ old new start end lines fault
+      → Stopped terms none_left old new start end (lines ++ more) fault
   stopped_more more stopped = record {
     turns = stopped.turns;
     unread = stopped.unread ++ more;
     unsent = stopped.unsent;
     is_run = stopped.is_run;
-    full = full_wider (λ never. absurd never.0) stopped.turns stopped.full;
+    full = complete_wider (λ never. absurd never.0) stopped.turns stopped.full;
     of_lines = sym (append_assoc (lines_of stopped.turns) stopped.unread more) ∙ ap (λ (l : List (List ℕ)). l ++ more) stopped.of_lines;
     given = stopped.given;
     takes = stopped.takes;
-    rest = stopped.rest;
-    crash = stopped.crash;
-    still = stopped.still;
-    sink = stopped.sink;
-    disk = stopped.disk;
-    memory = stopped.memory;
+    files = stopped.files;
+    ended = stopped.ended;
   }
 
-  -- where the input has ended the last batch may have fewer lines than it asks for
-  pub stopped_to_end : {old new : View} {start end : S} {lines : List (List ℕ)} {halt : Halt} {none_left : Type 0}
-      → Stopped terms ⊥ old new start end lines halt → Stopped terms none_left old new start end lines halt
-  stopped_to_end {old} {new} {start} {end} {lines} {halt} {none_left} stopped =
-      subst (λ (ls : List (List ℕ)). Stopped terms none_left old new start end ls halt) (append-nil lines) (stopped_more [] stopped)
+  pub stopped_to_end : {old new : View} {start end : S} {lines : List (List ℕ)} {fault : Fault} {none_left : Type 0}
+      → Stopped terms ⊥ old new start end lines fault → Stopped terms none_left old new start end lines fault
+  stopped_to_end {old} {new} {start} {end} {lines} {fault} {none_left} stopped =
+      subst (λ (ls : List (List ℕ)). Stopped terms none_left old new start end ls fault) (append-nil lines) (stopped_more [] stopped)
 
   made_by : {old new : View} {start end : S} {lines : List (List ℕ)} {waiting : Waiting} {none_left : Type 0}
       (went : Went terms none_left old new start end lines waiting) → Made terms old new start end went.turns
@@ -153,8 +184,7 @@ module _ {S : Type 0} {terms : Terms S} where
     ends = went.ends;
     given = went.given;
     later = went.takes.later;
-    crash = went.crash;
-    still = went.still;
+    files = went.files;
   }
 
   -- lines after others
@@ -162,29 +192,27 @@ module _ {S : Type 0} {terms : Terms S} where
       {none_left : Type 0} (more : List (List ℕ)) (first : Went terms ⊥ old mid start between lines before)
       → Went terms none_left mid new between end (first.held ++ more) after
       → Went terms none_left old new start end (lines ++ more) after
-  went_then {new = new} {none_left = none_left} more first second =
+  went_then {none_left = none_left} more first second =
       let made = made_by first in
       let us = second.turns in
       record {
         turns = first.turns ++ us;
         held = second.held;
         is_run = run_then made us second.is_run;
-        full = full-append none_left first.turns us first.full second.full;
+        full = complete-append none_left first.turns us first.full second.full;
         waits = second.waits;
         of_lines = lines_behind first.turns us first.held second.held more first.of_lines second.of_lines;
         ends = second.ends ∙ ends_then made us;
         given = second.given ∙ replies_then made us;
         takes = none_taken_then first.takes second.takes;
-        rest = second.rest;
-        crash = crash_then made us new second.crash;
-        still = still_then made us second.still;
+        files = files_then made us second.files;
       }
 
-  pub stopped_then : {old mid new : View} {start between end : S} {lines : List (List ℕ)} {before : Waiting} {halt : Halt}
+  pub stopped_then : {old mid new : View} {start between end : S} {lines : List (List ℕ)} {before : Waiting} {fault : Fault}
       {none_left : Type 0} (more : List (List ℕ)) (first : Went terms ⊥ old mid start between lines before)
-      → Stopped terms none_left mid new between end (first.held ++ more) halt
-      → Stopped terms none_left old new start end (lines ++ more) halt
-  stopped_then {mid = mid} {new} {start} {none_left = none_left} more first second =
+      → Stopped terms none_left mid new between end (first.held ++ more) fault
+      → Stopped terms none_left old new start end (lines ++ more) fault
+  stopped_then {new = new} {end = end} {fault = fault} {none_left} more first second =
       let made = made_by first in
       let us = second.turns in
       record {
@@ -192,37 +220,27 @@ module _ {S : Type 0} {terms : Terms S} where
         unread = second.unread;
         unsent = second.unsent;
         is_run = run_then made us second.is_run;
-        full = full-append (none_left × (second.unread ≡ [])) first.turns us first.full second.full;
+        full = complete-append (none_left × (second.unread ≡ [])) first.turns us first.full second.full;
         of_lines = lines_behind first.turns us first.held second.unread more first.of_lines second.of_lines;
         given = second.given ∙ replies_then made us;
         takes = none_taken_then first.takes second.takes;
-        rest = λ other. subst (λ (s : S). AllRest terms new s) (ends_then made us) (second.rest other);
-        crash = crash_then made us new second.crash;
-        still = still_then made us second.still;
-        sink = λ is. ((second.sink is).0 ∙ ends_then made us, given_in_part_behind first.turns (second.sink is).1);
-        disk = λ is.
-            cut_off_behind start first.turns made.given
-            (subst (λ (s : S). IsCutOff terms mid new s us second.unsent) made.ends (second.disk is));
-        memory = second.memory;
+        files = files_then made us second.files;
+        ended = stops_behind made us new end second.unsent fault second.ended;
       }
 
   -- the lines that waited behind others
-  pub went_all : {old mid new : View} {start between end : S} {lines : List (List ℕ)} {before : Waiting} {none_left : Type 0}
-      (first : Went terms ⊥ old mid start between lines before) → WentAll terms none_left mid new between end first.held
-      → WentAll terms none_left old new start end lines
-  went_all {old} {mid} {new} {start} {between} {end} {lines} {none_left = none_left} first last = record {
-    waiting = last.waiting;
-    none_missing = last.none_missing;
-    went = subst (λ (ls : List (List ℕ)). Went terms none_left old new start end ls last.waiting) (append-nil lines)
-        (went_then [] first
-        (subst (λ (ls : List (List ℕ)). Went terms none_left mid new between end ls last.waiting) (sym (append-nil first.held))
-        last.went));
-  }
+  pub went_all : {old mid new : View} {start between end : S} {lines : List (List ℕ)} {before after : Waiting} {none_left : Type 0}
+      (first : Went terms ⊥ old mid start between lines before) → Went terms none_left mid new between end first.held after
+      → Went terms none_left old new start end lines after
+  went_all {old} {mid} {new} {start} {between} {end} {lines} {after = after} {none_left} first last =
+      subst (λ (ls : List (List ℕ)). Went terms none_left old new start end ls after) (append-nil lines)
+      (went_then [] first
+      (subst (λ (ls : List (List ℕ)). Went terms none_left mid new between end ls after) (sym (append-nil first.held)) last))
 
-  pub stopped_all : {old mid new : View} {start between end : S} {lines : List (List ℕ)} {before : Waiting} {halt : Halt}
+  pub stopped_all : {old mid new : View} {start between end : S} {lines : List (List ℕ)} {before : Waiting} {fault : Fault}
       {none_left : Type 0} (first : Went terms ⊥ old mid start between lines before)
-      → Stopped terms none_left mid new between end first.held halt → Stopped terms none_left old new start end lines halt
-  stopped_all {old} {mid} {new} {start} {between} {end} {lines} {halt = halt} {none_left} first last =
-      subst (λ (ls : List (List ℕ)). Stopped terms none_left old new start end ls halt) (append-nil lines)
+      → Stopped terms none_left mid new between end first.held fault → Stopped terms none_left old new start end lines fault
+  stopped_all {old} {mid} {new} {start} {between} {end} {lines} {fault = fault} {none_left} first last =
+      subst (λ (ls : List (List ℕ)). Stopped terms none_left old new start end ls fault) (append-nil lines)
       (stopped_then [] first
-      (subst (λ (ls : List (List ℕ)). Stopped terms none_left mid new between end ls halt) (sym (append-nil first.held)) last))
+      (subst (λ (ls : List (List ℕ)). Stopped terms none_left mid new between end ls fault) (sym (append-nil first.held)) last))

@@ -9,18 +9,23 @@ use Rattle.outside_world.specs.View.{View, Moment}
 use Rattle.outside_world.specs.Since.{LeavesOnly}
 use Rattle.outside_world.proofs.Moments.{only_wider}
 use Rattle.realm_insert.specs.State.{State}
-use Rattle.realm_store.specs.Stands.{StandsFor}
-use Rattle.realm_store.specs.Keeping.{Kept, SpendableKept, AllRest}
+use Rattle.realm_files.specs.Stands.{Files}
+use Rattle.realm_files.proofs.Rests.{stands_gated_from}
+use Rattle.realm_store.specs.Stands.{meaning}
+use Rattle.realm_store.specs.Keeping.{Kept, SpendableKept, AllRest, StandsGated}
 use Rattle.realm_store.specs.Sound.{IsSound}
 use Rattle.rose_shell.specs.declared.status.Status.{Status}
 use Rattle.rose_shell.specs.declared.status.Status.TheVariants.{DiskFault, NoMemory}
 use Rattle.rose_shell.specs.Lines.{longest_line}
-use Rattle.rose_shell.specs.Desk.{Stands}
-use Rattle.rose_shell.specs.Session.{Turn, Treats, IsSingle, IsBatch, IsRun, IsMoment, Served}
+use Rattle.rose_shell.specs.Desk.{FilesRule}
+use Rattle.rose_shell.specs.Turns.{Turn, Treats, IsSingle, IsBatch, IsRun}
+use Rattle.rose_shell.specs.Moments.{IsMoment}
+use Rattle.rose_shell.specs.Session.{Served}
 use Rattle.rose_shell.specs.Prefixes.{IsCounted}
 use Rattle.rose_shell.specs.Running.{StoreTerms, state_in, is_accepted, StandForState, IsCrashOf, HasServed}
 use Rattle.rose_shell.proofs.Steps.{IsOneStep, stays_by, line_steps}
 use Rattle.rose_shell.proofs.Prefixes.{moment_is_prefix}
+use Rattle.rose_shell.proofs.Stores.{rests_in_store}
 
 -- whichever of two answers a test chooses
 either : (test : Bool) (P Q R : Type 0) → (P → R) → (Q → R) → MatchBool test P Q → R
@@ -84,30 +89,44 @@ step_gate : (old : Kept) (reply : List ℕ) (new : Kept) → IsOneStep old reply
 step_gate old reply new (inl stays) has = stays.has_gate has
 step_gate old reply new (inr accepted) has = accepted.has_gate
 
--- so the files stand for the state at each moment of the run
-abbrev StandForTheirs : Stands SpendableKept
-StandForTheirs s files = StandsFor files s.kept.state
+-- so the files stand for the state, with their next gate, at each moment of the run
+abbrev StandForTheirs : FilesRule SpendableKept
+StandForTheirs s files = StandsGated files s.kept.state
 
-moment_stands : (start : SpendableKept) (turns : List (Turn SpendableKept)) (given : List ℕ) (m : Moment)
-    → IsRun StoreTerms start turns → start.kept.has_gate ≡ true → IsMoment StoreTerms.stands start turns given m
-    → IsMoment StandForTheirs start turns given m
-moment_stands start [] given m run has is = (is.0, is.1 has)
-moment_stands start (turn ∷ turns) given m run has (inl before) = inl (before.0, before.1 has)
-moment_stands start (turn ∷ turns) given m run has (inr (inl (sent, unsent, split, is, stand))) =
+stand_gated : (s : SpendableKept) (files : Files) → s.kept.has_gate ≡ true → StoreTerms.stands s files → StandForTheirs s files
+stand_gated s files has stands = stands_gated_from meaning has (stands has)
+
+moment_stands : (start : SpendableKept) (files : Files) (turns : List (Turn SpendableKept)) (given : List ℕ) (m : Moment)
+    → IsRun StoreTerms start turns → start.kept.has_gate ≡ true → IsMoment StoreTerms.stands start files turns given m
+    → IsMoment StandForTheirs start files turns given m
+moment_stands start files [] given m run has is = (is.0, stand_gated start m.files has is.1, is.2)
+moment_stands start files (turn ∷ turns) given m run has (inl (is, (inl before, same))) =
+    inl (is, (inl (stand_gated start m.files has before), same))
+moment_stands start files (turn ∷ turns) given m run has (inl (is, (inr after, same))) =
     let step = turn_steps start turn run.0 in
-    inr (inl (sent, unsent, split, is, stand (step_gate start.kept turn.reply turn.after.kept step has)))
-moment_stands start (turn ∷ turns) given m run has (inr (inr later)) =
+    inl (is, (inr (stand_gated turn.after m.files (step_gate start.kept turn.reply turn.after.kept step has) after), same))
+moment_stands start files (turn ∷ turns) given m run has (inr (inl (sent, unsent, split, is, stand, same))) =
     let step = turn_steps start turn run.0 in
-    inr (inr (moment_stands turn.after turns (given ++ turn.reply) m run.1
+    inr (inl (
+      sent,
+      unsent,
+      split,
+      is,
+      stand_gated turn.after m.files (step_gate start.kept turn.reply turn.after.kept step has) stand,
+      same,
+    ))
+moment_stands start files (turn ∷ turns) given m run has (inr (inr later)) =
+    let step = turn_steps start turn run.0 in
+    inr (inr (moment_stands turn.after turn.files turns (given ++ turn.reply) m run.1
     (step_gate start.kept turn.reply turn.after.kept step has) later))
 
 -- and each crash leaves the state after a prefix of the changes
 run_prefix : (old new : View) (start : SpendableKept) (turns : List (Turn SpendableKept)) → IsRun StoreTerms start turns
-    → LeavesOnly old new (IsMoment StoreTerms.stands start turns old.given) → start.kept.has_gate ≡ true
+    → LeavesOnly old new (IsMoment StoreTerms.stands start old.reads turns old.given) → start.kept.has_gate ≡ true
     → LeavesOnly old new (IsCrashOf start turns old.given)
 run_prefix old new start turns run crash has =
     only_wider crash (λ m is. moment_is_prefix state_in is_accepted StandForState StandForTheirs
-    (λ s files stands. stands) start turns old.given m (moment_stands start turns old.given m run has is)
+    (λ s files stands. stands) start old.reads turns old.given m (moment_stands start old.reads turns old.given m run has is)
     (run_counted start turns run))
 
 -- what a store has served that begins with a sound state
@@ -115,14 +134,15 @@ pub has_served : (old new : View) (start end : SpendableKept) (budget : ℕ) (st
     → Served StoreTerms old new start end budget status → HasServed old new start end budget status
 has_served old new start end budget status sound served = record {
   session = served;
-  sound = (sound, run_sound start served.turns served.is_run sound);
-  counted = run_counted start served.turns served.is_run;
-  prefix = run_prefix old new start served.turns served.is_run served.crash;
-  rest = λ no_fault. (served.rest no_fault).each;
+  sound = (sound, run_sound start served.work.turns served.state.is_run sound);
+  counted = run_counted start served.work.turns served.state.is_run;
+  prefix = run_prefix old new start served.work.turns served.state.is_run served.files.crash;
+  rest = λ no_fault. rests_in_store (served.files.rest no_fault);
 }
 
 -- a store that can go on is at rest
 pub rests_in_the_end : {old new : View} {start end : SpendableKept} {budget : ℕ} {status : Status}
     → Served StoreTerms old new start end budget status → status ≢ NoMemory → status ≢ DiskFault → AllRest end.kept new
 rests_in_the_end {new = new} served no_memory no_fault =
-    subst (λ (s : SpendableKept). AllRest s.kept new) (sym (served.ends no_memory no_fault)) (served.rest no_fault).each
+    subst (λ (s : SpendableKept). AllRest s.kept new) (sym (served.state.ends no_memory no_fault))
+    (rests_in_store (served.files.rest no_fault))

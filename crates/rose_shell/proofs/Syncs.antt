@@ -2,9 +2,9 @@
 use Rattle.std.proofs.Common.{◌≡◌, ℕ, ◌≤◌, List, refl, sym, ◌∙◌}
 use Rattle.outside_world.specs.declared.world.FileName.{FileName}
 use Rattle.outside_world.specs.declared.world.FileName.TheVariants.{A, B}
-use Rattle.outside_world.specs.View.{View, Moment, MayLeave}
+use Rattle.outside_world.specs.View.{View, Moment, MayLeave, AllStable}
 use Rattle.outside_world.specs.Calls.{SameFiles}
-use Rattle.realm_files.specs.Syncing.{IsOpened, AllStable}
+use Rattle.realm_files.specs.Syncing.{IsOpened}
 
 -- the two files, A first
 abbrev both : List ℕ → List ℕ → FileName → List ℕ
@@ -26,7 +26,3 @@ module _ {old new : View} (now : (t : ℕ) (m : Moment) → t ≤ new.moment →
   pub stable_by : AllStable new
   stable_by A c may = left_as_read c (new.reads B) may (reads B) A
   stable_by B c may = left_as_read (new.reads A) c (reads A) may B
-
--- what leaves the files as they were leaves them stable
-pub stable_then : {mid new : View} → SameFiles mid new → AllStable mid → AllStable new
-stable_then same stable = λ f c may. stable f c (same.images f c may) ∙ sym (same.reads f)

@@ -7,17 +7,19 @@ use Rattle.outside_world.specs.declared.world.Failed.{Failed}
 use Rattle.outside_world.specs.View.{View, Asked}
 use Rattle.outside_world.specs.Calls.{Asks, Ticks, SameFiles, Took}
 use Rattle.outside_world.specs.Since.{OnlyAdds, TakesNone}
+use Rattle.realm_files.specs.Stands.{Files}
+use Rattle.realm_files.proofs.Pairs.{same_files}
 use Rattle.rose_shell.specs.declared.waiting.Waiting.{Waiting}
-use Rattle.rose_shell.specs.Lines.{lines_from, part_from, whole_lines, IsKept}
-use Rattle.rose_shell.specs.Desk.{Terms, AllRest}
-use Rattle.rose_shell.specs.Session.{Turn, replies, lines_of, AreTurnsOf, IsAnswered}
+use Rattle.rose_shell.specs.Lines.{lines_from, part_from, whole_lines, IsFrontOf}
+use Rattle.rose_shell.specs.Desk.{Terms, AllRestBy}
+use Rattle.rose_shell.specs.Turns.{Turn, end_of, replies, lines_of}
+use Rattle.rose_shell.specs.Session.{AreTurnsOf, IsAnswered}
 use Rattle.rose_shell.specs.Loop.{IsWaiting, Went}
 use Rattle.outside_world.proofs.Moments.{only_nothing, only_wider, only_then, only_of_adds}
-use Rattle.rose_shell.proofs.Turns.{lines_behind, full-append, moment_now}
+use Rattle.rose_shell.proofs.Turns.{lines_behind, complete-append, moment_now}
 use Rattle.rose_shell.proofs.Cuts.{lines_from-append, part_from-append}
-use Rattle.rose_shell.proofs.KeptFiles.{keeps_files, keeps_then, keeps_by_taking}
-use Rattle.rose_shell.proofs.Runs.{Made, run_then, ends_then, replies_then, crash_then, still_then}
-use Rattle.rose_shell.proofs.OneTurn.{still_rest}
+use Rattle.rose_shell.proofs.Runs.{Made, follows_none, run_then, ends_then, replies_then, files_then}
+use Rattle.rose_shell.proofs.OneTurn.{still_rest, left_at_rest}
 use Rattle.rose_shell.proofs.Batches.{are_held}
 
 -- the whole lines among these bytes were answered, and more bytes were taken; no take has begun behind the budget
@@ -28,7 +30,6 @@ pub record Ahead {S : Type 0} (terms : Terms S) (old new : View) (start end : S)
   pub answered : AreTurnsOf turns bytes
   pub left : old.left ≡ bytes ++ (more ++ new.left)
   pub taken : new.taken ≡ old.taken ++ (bytes ++ more)
-  pub rest : AllRest terms new end
   pub asked : OnlyAdds old.moment old.asked_since new.asked_since (IsAnswered old budget turns)
 
 -- between two takes no bytes are ahead, what has come of a line is kept, as are the lines of a batch, and this room is left of
@@ -38,7 +39,7 @@ pub record Keeping {S : Type 0} (terms : Terms S) (old new : View) (start end : 
   pub bytes : List ℕ
   pub ahead : Ahead terms old new start end budget bytes []
   pub waits : IsWaiting waiting ahead.answered.held
-  pub part : IsKept kept (part_from [] bytes)
+  pub part : IsFrontOf kept (part_from [] bytes)
   pub spent : length bytes + room ≡ budget
 
 -- what was answered at a take is the beginning of a longer run too
@@ -63,7 +64,7 @@ module _ {S : Type 0} {terms : Terms S} where
 
   -- before the first take
   pub keeping_none : {v : View} {s : S} {waiting : Waiting} {kept : List ℕ} (budget : ℕ) → IsWaiting waiting [] → kept ≡ []
-      → AllRest terms v s → Keeping terms v v s s waiting kept budget budget
+      → AllRestBy terms v s → Keeping terms v v s s waiting kept budget budget
   keeping_none {v} budget waits none rest = record {
     bytes = [];
     ahead = record {
@@ -73,13 +74,11 @@ module _ {S : Type 0} {terms : Terms S} where
         ends = refl;
         given = sym (append-nil v.given);
         later = omega arith;
-        crash = only_nothing;
-        still = λ _. keeps_files;
+        files = follows_none rest;
       };
       answered = record { held = []; are_held = tt; lines = refl; full = tt };
       left = refl;
       taken = sym (append-nil v.taken);
-      rest = rest;
       asked = only_nothing;
     };
     waits = waits;
@@ -96,7 +95,7 @@ module _ {S : Type 0} {terms : Terms S} where
       let turns = ahead.turns in
       let made = ahead.made in
       let all_taken : mid.taken ≡ old.taken ++ bytes = ahead.taken ∙ ap (λ (l : List ℕ). old.taken ++ l) (append-nil bytes) in
-      let rest : AllRest terms new end = still_rest files.images ahead.rest in
+      let rest : AllRestBy terms mid (end_of start turns) = made.files.rest tt in
       let given_now : new.given ≡ old.given ++ replies turns = given ∙ made.given in
       record {
         turns = turns;
@@ -105,16 +104,22 @@ module _ {S : Type 0} {terms : Terms S} where
           ends = made.ends;
           given = given_now;
           later = omega (arith, made.later, ticks.clock);
-          crash = only_then made.crash made.later (only_wider (only_of_adds ticks.crash)
-              (λ m may. moment_now terms.stands start turns old.given m (may.0 ∙ given_now)
-              (subst (λ (s : S). terms.stands s m.files) made.ends
-              (terms.rest_stands end m.files (rest.each m.files may.1)))));
-          still = λ stay. keeps_then made.later (made.still stay) (keeps_by_taking ticks files);
+          files = record {
+            crash = only_then made.files.crash made.later (only_wider (only_of_adds ticks.crash)
+                (λ m may.
+                let left : m.files ≡ mid.reads = left_at_rest rest m.files (λ f. files.images f (m.files f) (may.1 f)) in
+                moment_now terms.stands start old.reads turns old.given m (may.0 ∙ given_now)
+                (subst (λ (f : Files). terms.stands (end_of start turns) f) (sym left)
+                (terms.rest_stands (end_of start turns) mid.reads rest.rests))
+                (left ∙ made.files.reads)));
+            still = made.files.still;
+            reads = same_files files.reads ∙ made.files.reads;
+            rest = λ _. still_rest files rest;
+          };
         };
         answered = ahead.answered;
         left = ahead.left ∙ ap (λ (l : List ℕ). bytes ++ l) left;
         taken = taken ∙ ap (λ (l : List ℕ). l ++ more) all_taken ∙ append_assoc old.taken bytes more;
-        rest = rest;
         asked = only_then ahead.asked made.later (only_wider (only_of_adds ticks.asked)
             (λ a asks. record {
               bytes = bytes;
@@ -170,7 +175,7 @@ module _ {S : Type 0} {terms : Terms S} where
       (ahead : Ahead terms old mid start between budget bytes more)
       → Went terms ⊥ mid new between end (ahead.answered.held ++ lines_from (part_from [] bytes) more) waiting
       → Ahead terms old new start end budget (bytes ++ more) []
-  fed {old} {new = new} {bytes = bytes} {more} {waiting} ahead went =
+  fed {old} {bytes = bytes} {more} {waiting} ahead went =
       let us = went.turns in
       record {
         turns = ahead.turns ++ us;
@@ -179,18 +184,17 @@ module _ {S : Type 0} {terms : Terms S} where
           ends = went.ends ∙ ends_then ahead.made us;
           given = went.given ∙ replies_then ahead.made us;
           later = omega (arith, ahead.made.later, went.takes.later);
-          crash = crash_then ahead.made us new went.crash;
-          still = still_then ahead.made us went.still;
+          files = files_then ahead.made us went.files;
         };
         answered = record {
           held = went.held;
           are_held = are_held waiting went.held went.waits;
-          lines = lines_then ahead went.takes us went.held (lines_from (part_from [] bytes) more) went.of_lines ∙ sym (lines_from-append [] bytes more);
-          full = full-append ⊥ ahead.turns us ahead.answered.full went.full;
+          lines = lines_then ahead went.takes us went.held (lines_from (part_from [] bytes) more) went.of_lines
+              ∙ sym (lines_from-append [] bytes more);
+          full = complete-append ⊥ ahead.turns us ahead.answered.full went.full;
         };
         left = left_then ahead went.takes;
         taken = went.takes.taken ∙ ahead.taken ∙ ap (λ (l : List ℕ). old.taken ++ l) (sym (append-nil (bytes ++ more)));
-        rest = went.rest;
         asked = asked_then ahead went.takes us;
       }
 
@@ -198,9 +202,9 @@ module _ {S : Type 0} {terms : Terms S} where
   pub keeping_more : {old mid between new : View} {start before end : S} {waiting later_waiting : Waiting}
       {kept later_kept buf : List ℕ} {n room budget : ℕ}
       → Keeping terms old mid start before waiting kept room budget → Took mid between buf (Ok n) → n ≤ length buf → n ≤ room
-      → ((part : List ℕ) (held : List (List ℕ)) → IsKept kept part → IsWaiting waiting held
+      → ((part : List ℕ) (held : List (List ℕ)) → IsFrontOf kept part → IsWaiting waiting held
       → Went terms ⊥ between new before end (held ++ lines_from part (take n buf)) later_waiting)
-      → ((part : List ℕ) → IsKept kept part → IsKept later_kept (part_from part (take n buf)))
+      → ((part : List ℕ) → IsFrontOf kept part → IsFrontOf later_kept (part_from part (take n buf)))
       → Keeping terms old new start end later_waiting later_kept (room - n) budget
   unfolding took took_some fed
   keeping_more {later_kept = later_kept} {buf} {n} keeping call in_buf in_room went part =
@@ -211,7 +215,7 @@ module _ {S : Type 0} {terms : Terms S} where
         bytes = bytes ++ more;
         ahead = fed (took_some keeping.ahead (within_budget keeping) call) then;
         waits = then.waits;
-        part = subst (λ (l : List ℕ). IsKept later_kept l) (sym (part_from-append [] bytes more))
+        part = subst (λ (l : List ℕ). IsFrontOf later_kept l) (sym (part_from-append [] bytes more))
             (part (part_from [] bytes) keeping.part);
         spent = omega (arith, keeping.spent, length-append bytes more, length-take n buf, in_buf, in_room);
       }

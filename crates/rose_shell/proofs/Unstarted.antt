@@ -1,15 +1,14 @@
 -- This file shows what is told where a store isn't started.
 use Rattle.std.proofs.Common.{◌≡◌, inl, inr, refl, sym, ◌∙◌}
-use Rattle.outside_world.specs.View.{View}
+use Rattle.outside_world.specs.View.{View, AllStable}
 use Rattle.realm_journal.specs.Reading.{OnlyAsks}
 use Rattle.realm_pages.specs.declared.damage.Damage.{Damage}
-use Rattle.realm_files.specs.Syncing.{AllStable}
 use Rattle.realm_store.specs.Damages.{IsDamaged}
-use Rattle.realm_store.specs.declared.error.StartError.{StartError}
-use Rattle.realm_store.specs.declared.error.StartError.TheVariants as starts
+use Rattle.realm_pages.specs.declared.error.PagesError.{PagesError as StartError}
+use Rattle.realm_pages.specs.declared.error.PagesError.TheVariants as starts
 use Rattle.rose_shell.specs.declared.status.Status.{Status}
 use Rattle.rose_shell.specs.declared.status.Status.TheVariants as ends
-use Rattle.rose_shell.specs.Loop.{status_unstarted}
+use Rattle.rose_shell.specs.Faults.{status_unstarted}
 use Rattle.rose_shell.specs.Running.{IsNotBegun}
 
 -- a damage that is told was told at the start

@@ -9,19 +9,19 @@ abbrev pub IsInRange : ℕ → Type 0
 IsInRange size = (0 < size) × (size ≤ 64)
 
 -- the line begins a batch of so many lines
-pub record Opens (line : List ℕ) (size : ℕ) : Type 0 where
+pub record OpensBatch (line : List ℕ) (size : ℕ) : Type 0 where
   pub short : length line ≤ longest_line
   pub says : Says line (commands.Batch size)
   pub in_range : IsInRange size
 
 -- the line begins no batch
 abbrev pub OpensNone : List ℕ → Type 0
-OpensNone line = (size : ℕ) → Opens line size → ⊥
+OpensNone line = (size : ℕ) → OpensBatch line size → ⊥
 
 -- these lines wait for an answer: none, or those of a batch that lacks some still
 abbrev pub AreHeld : List (List ℕ) → Type 0
 AreHeld [] = Unit {0}
-AreHeld (line ∷ batch) = (size : ℕ) × Opens line size × (length batch < size)
+AreHeld (line ∷ batch) = (size : ℕ) × OpensBatch line size × (length batch < size)
 
 -- what is kept of a line in a batch: none of a line that is too long
 abbrev pub heard : List ℕ → Option (List ℕ)

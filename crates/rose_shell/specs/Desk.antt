@@ -1,19 +1,18 @@
 -- One answer of a desk, and what a crash may leave while it is made.
-use Rattle.std.specs.Prelude.{◌≡◌, ◌⊎◌, ℕ, List, Option, Result, Err, OnOk}
-use Rattle.outside_world.specs.declared.world.FileName.{FileName}
-use Rattle.outside_world.specs.View.{View, Moment}
-use Rattle.outside_world.specs.Calls.{SameFiles}
-use Rattle.outside_world.specs.Since.{TakesNone, LeavesOnly}
-use Rattle.rose_shell.specs.declared.desk.Stop.{Stop}
-use Rattle.rose_shell.specs.declared.desk.Stop.TheVariants.{Disk, NoMemory}
+use Rattle.std.specs.Prelude.{◌≡◌, ◌⊎◌, ℕ, List, Option, Result, Ok, Err}
+use Rattle.outside_world.specs.View.{View, AllStable}
+use Rattle.realm_files.specs.Stands.{Files}
+use Rattle.realm_files.specs.Writing.{LeavesFiles}
+use Rattle.rose_shell.specs.declared.fault.Fault.{Fault}
+use Rattle.rose_shell.specs.declared.fault.Fault.TheVariants.{Source, Sink, Disk, NoMemory}
 
 -- the rule of a desk: from the first state, this line may get this reply and lead to the second state
 abbrev pub Rule : Type 0 → Type 1
 Rule S = S → List ℕ → List ℕ → S → Type 0
 
--- these files stand for this state
-abbrev pub Stands : Type 0 → Type 1
-Stands S = S → (FileName → List ℕ) → Type 0
+-- which files go with a state
+abbrev pub FilesRule : Type 0 → Type 1
+FilesRule S = S → Files → Type 0
 
 -- what a desk goes by, S being its states
 pub record Terms (S : Type 0) : Type 1 where
@@ -23,46 +22,42 @@ pub record Terms (S : Type 0) : Type 1 where
   -- in this state, this line may write to the files
   pub writes : S → List ℕ → Type 0
   -- files that stand for this state
-  pub stands : Stands S
+  pub stands : FilesRule S
   -- files as a desk in this state leaves them between two answers
-  pub rests : Stands S
-  pub rest_stands : (s : S) (files : FileName → List ℕ) → rests s files → stands s files
+  pub rests : FilesRule S
+  pub rest_stands : (s : S) (files : Files) → rests s files → stands s files
 
--- whatever a crash now leaves of the files is as a desk in this state leaves them between two answers
-pub record AllRest {S : Type 0} (terms : Terms S) (v : View) (s : S) : Type 0 where
-  pub each : (files : FileName → List ℕ) → ((f : FileName) → v.image f (files f)) → terms.rests s files
+-- A crash now leaves each file as it reads, and so they are as a desk in this state leaves them between two answers.
+pub record AllRestBy {S : Type 0} (terms : Terms S) (v : View) (s : S) : Type 0 where
+  pub stable : AllStable v
+  pub rests : terms.rests s v.reads
 
--- the files read as they did, and each crash since leaves of them what one could leave then
-pub record KeepsFiles (old new : View) : Type 0 where
-  pub files : SameFiles old new
-  pub crash : LeavesOnly old new (λ m. (f : FileName) → old.image f (m.files f))
+-- Files while an answer leads from the first state to the second: they stand for the one or the other, and where the state
+-- stays they are as they were.
+abbrev pub StandsBetween : {S : Type 0} → FilesRule S → S → S → Files → Files → Type 0
+StandsBetween stands start end were files = (stands start files ⊎ stands end files) × (end ≡ start → files ≡ were)
 
--- while one answer is made, nothing is given, and the files stand for the state before it or after it
-abbrev pub IsAnswering : {S : Type 0} → Terms S → View → S → S → Moment → Type 0
-IsAnswering terms v start end m = (m.given ≡ v.given) × (terms.stands start m.files ⊎ terms.stands end m.files)
+-- An answer was made, and nothing was taken or given: meanwhile the files stood for the first state or the second, and now
+-- they are at rest in the second.
+pub record Settled {S : Type 0} (terms : Terms S) (old new : View) (start end : S) : Type 0 where
+  pub leaves : LeavesFiles old new (StandsBetween terms.stands start end old.reads)
+  pub still : end ≡ start → new.reads ≡ old.reads
+  pub rest : AllRestBy terms new end
 
--- An answer that was begun when the disk failed: the line may write, there is a reply to it, and the files
--- have stood for the state before it or after it all the time, and still do. Where the state stays they do too.
-pub record Begun {S : Type 0} (terms : Terms S) (old new : View) (start : S) (line : List ℕ) : Type 0 where
+-- An answer was begun when the disk failed: the line may write, there is a reply to it, nothing was taken or given, and the
+-- files have stood for the state before it or after it all the time, and still do.
+pub record CutShort {S : Type 0} (terms : Terms S) (old new : View) (start : S) (line : List ℕ) : Type 0 where
   pub reply : List ℕ
   pub after : S
   pub answer : terms.answers start line reply after
   pub may_write : terms.writes start line
-  pub crash : LeavesOnly old new (IsAnswering terms old start after)
-  pub either : (files : FileName → List ℕ) → ((f : FileName) → new.image f (files f))
-      → terms.stands start files ⊎ terms.stands after files
-  pub still : after ≡ start → KeepsFiles old new
+  pub leaves : LeavesFiles old new (StandsBetween terms.stands start after old.reads)
+  pub still : after ≡ start → new.reads ≡ old.reads
 
--- A line was answered, or memory ran out, or the disk failed, and nothing was taken or given. Where memory
--- ran out, the files have stood for the state before the line all the time, and still do. An answer that leaves
--- the state as it was, and want of memory, leave the files as they were.
-pub record Answered {S : Type 0} (terms : Terms S) (old new : View) (start end : S) (line : List ℕ)
-    (result : Result (List ℕ) Stop) : Type 0 where
-  pub takes : TakesNone old new
-  pub given : new.given ≡ old.given
-  pub rest : OnOk result (AllRest terms new end)
-  pub crash : OnOk result (LeavesOnly old new (IsAnswering terms old start end))
-  pub memory : result ≡ Err NoMemory
-      → AllRest terms new start × LeavesOnly old new (IsAnswering terms old start start) × KeepsFiles old new
-  pub disk : result ≡ Err Disk → Begun terms old new start line
-  pub still : OnOk result (end ≡ start → KeepsFiles old new)
+-- One answer of a desk: the line was answered, or the disk failed meanwhile, or memory ran out, which leaves all as it was before.
+abbrev pub Answered : {S : Type 0} → Terms S → View → View → S → S → List ℕ → Result (List ℕ) Fault → Type 0
+Answered terms old new start end line (Ok reply) = Settled terms old new start end
+Answered terms old new start end line (Err NoMemory) = Settled terms old new start start
+Answered terms old new start end line (Err Disk) = CutShort terms old new start line
+Answered terms old new start end line (Err Source) = ⊥
+Answered terms old new start end line (Err Sink) = ⊥

@@ -14,6 +14,10 @@ pub mod Answers
 pub mod Giving
 -- one answer of a desk
 pub mod Desk
+-- turns of a session
+pub mod Turns
+-- the files over turns
+pub mod Moments
 -- a run over many lines
 pub mod Session
 -- what a crash leaves of one, counted by the changes
@@ -24,3 +28,5 @@ pub mod Loop
 pub mod Running
 -- what is promised of each command
 pub mod Telling
+-- runs one after another
+pub mod Chains

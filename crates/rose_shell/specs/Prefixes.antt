@@ -2,9 +2,9 @@
 -- that had begun, or after one more.
 use Rattle.std.specs.Prelude.{◌≡◌, ◌⊎◌, ◌+◌, ◌-◌, ◌<◌, ℕ, zero, suc, Bool, true, false, MatchBool}
 use Rattle.std.specs.Prelude.{List, [], ◌∷◌, length, if◌then◌else◌}
-use Rattle.outside_world.specs.declared.world.FileName.{FileName}
 use Rattle.outside_world.specs.View.{Moment}
-use Rattle.rose_shell.specs.Session.{Turn}
+use Rattle.realm_files.specs.Stands.{Files}
+use Rattle.rose_shell.specs.Turns.{Turn}
 
 -- of a state of the desk this much is kept in the files; and from a state, this turn was an accepted change
 module _ {S T : Type 0} (state_of : S → T) (is_change : S → Turn S → Bool) where
@@ -21,11 +21,11 @@ module _ {S T : Type 0} (state_of : S → T) (is_change : S → Turn S → Bool)
       if is_change start turn then state_after turn.after turns k else state_after turn.after turns (suc k)
 
   -- how many replies to changes have begun where so many bytes of the replies were given
-  abbrev pub begun : S → List (Turn S) → ℕ → ℕ
-  begun start [] n = 0
-  begun start (turn ∷ turns) zero = 0
-  begun start (turn ∷ turns) (suc n) =
-      one_if (is_change start turn) + begun turn.after turns (suc n - length turn.reply)
+  abbrev pub replies_begun : S → List (Turn S) → ℕ → ℕ
+  replies_begun start [] n = 0
+  replies_begun start (turn ∷ turns) zero = 0
+  replies_begun start (turn ∷ turns) (suc n) =
+      one_if (is_change start turn) + replies_begun turn.after turns (suc n - length turn.reply)
 
   -- a change has a reply of one byte at least, and any other turn leaves what is kept as it is
   abbrev pub IsCounted : S → List (Turn S) → Type 0
@@ -35,13 +35,13 @@ module _ {S T : Type 0} (state_of : S → T) (is_change : S → Turn S → Bool)
       × IsCounted turn.after turns
 
   -- the files stand for the state after the first k changes, or after one more
-  abbrev pub StandsAround : (T → (FileName → List ℕ) → Type 0) → S → List (Turn S) → ℕ
-      → (FileName → List ℕ) → Type 0
+  abbrev pub StandsAround : (T → Files → Type 0) → S → List (Turn S) → ℕ
+      → Files → Type 0
   StandsAround stands_for start turns k files =
       stands_for (state_after start turns k) files ⊎ stands_for (state_after start turns (suc k)) files
 
   -- a moment at which k replies to changes had begun, counted from where these bytes had been given
-  abbrev pub IsPrefixMoment : (T → (FileName → List ℕ) → Type 0) → S → List (Turn S) → List ℕ → Moment
+  abbrev pub IsPrefixMoment : (T → Files → Type 0) → S → List (Turn S) → List ℕ → Moment
       → Type 0
   IsPrefixMoment stands_for start turns given m =
-      StandsAround stands_for start turns (begun start turns (length m.given - length given)) m.files
+      StandsAround stands_for start turns (replies_begun start turns (length m.given - length given)) m.files

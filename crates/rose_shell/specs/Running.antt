@@ -3,29 +3,32 @@
 -- after one more.
 use Rattle.std.specs.Prelude.{◌≡◌, ◌≢◌, ◌⊎◌, ◌≤◌, ◌^◌, ℕ, Bool, true, false}
 use Rattle.std.specs.Prelude.{List, All, length, nat_lt}
+use Rattle.std.proofs.Common.{inl}
 use Rattle.outside_world.specs.Counts.{Rose}
 use Rattle.outside_world.specs.GoesOn.{GoesOn}
-use Rattle.outside_world.specs.View.{View, Moment}
+use Rattle.outside_world.specs.View.{View, Asked, Moment, MayLeave, AllStable}
 use Rattle.outside_world.specs.Since.{LeavesOnly}
-use Rattle.outside_world.specs.declared.world.FileName.{FileName}
 use Rattle.outside_world.specs.declared.world.Outside.{Ghosts}
 use Rattle.line_grammar.specs.Lines.{Says}
 use Rattle.line_grammar.specs.declared.command.Change.{Change}
 use Rattle.line_grammar.specs.declared.command.Command.TheVariants as commands
 use Rattle.realm_insert.specs.State.{State}
 use Rattle.realm_journal.specs.Reading.{OnlyAsks}
-use Rattle.realm_store.specs.Stands.{StandsFor}
-use Rattle.realm_store.specs.Keeping.{Kept, SpendableKept, RestsAt, AllRest}
-use Rattle.realm_store.specs.Sound.{IsSound}
+use Rattle.realm_files.specs.Stands.{Files}
 use Rattle.realm_files.specs.Keeping.{KnowsGate}
-use Rattle.realm_files.specs.Syncing.{AllStable}
+use Rattle.realm_files.specs.Writing.{RestsFrom}
+use Rattle.realm_store.specs.Stands.{meaning}
+use Rattle.realm_store.specs.Keeping.{Kept, SpendableKept, RestsAt, AllRest, StandsGated}
+use Rattle.realm_store.specs.Sound.{IsSound}
 use Rattle.realm_store.specs.Damages.{IsDamaged}
 use Rattle.realm_pages.specs.declared.damage.Damage.{Damage}
 use Rattle.query_batch.specs.Answers.{TellsLine}
 use Rattle.rose_shell.specs.Answers.{StoreAnswers}
 use Rattle.rose_shell.specs.Desk.{Terms}
-use Rattle.rose_shell.specs.Faults.{HasCause}
-use Rattle.rose_shell.specs.Session.{Turn, end_of, Served}
+use Rattle.rose_shell.specs.Faults.{HasCause, TellsFault}
+use Rattle.rose_shell.specs.Turns.{Turn, end_of}
+use Rattle.rose_shell.specs.Moments.{IsMoment}
+use Rattle.rose_shell.specs.Session.{IsAnswered, Served}
 use Rattle.rose_shell.specs.Prefixes.{IsCounted, IsPrefixMoment}
 use Rattle.rose_shell.specs.declared.status.Status.{Status}
 use Rattle.rose_shell.specs.declared.status.Status.TheVariants.{Done, Usage, DiskFault, Damaged, NoMemory}
@@ -38,16 +41,16 @@ IsChangeLine line = (c : Change) × Says line (commands.Change c)
 abbrev pub IsWritingLine : List ℕ → Type 0
 IsWritingLine line = IsChangeLine line ⊎ Says line commands.Checkpoint
 
--- What the store goes by at the desk: only a change and a checkpoint write. Where the byte of the next gate is missing, nothing
--- is said of what the files stand for in a crash, until a change has added it.
+-- What the store goes by at the desk: only a change and a checkpoint write. The files rest at what is kept, or at its next gate
+-- once that is there. Where the byte of this gate is missing, nothing is said of them in a crash, until a change has added it.
 abbrev pub StoreTerms : Terms SpendableKept
 StoreTerms = record {
   answers = StoreAnswers;
   tells = λ s line reply. TellsLine s.kept.state line reply;
   writes = λ s line. IsWritingLine line;
-  stands = λ s files. s.kept.has_gate ≡ true → StandsFor files s.kept.state;
+  stands = λ s files. s.kept.has_gate ≡ true → RestsFrom meaning s.kept files;
   rests = λ s files. RestsAt s.kept files;
-  rest_stands = λ s files rests has. (s.kept.place, rests.stands);
+  rest_stands = λ s files rests has. inl rests;
 }
 
 -- the state of a store
@@ -58,12 +61,12 @@ state_in s = s.kept.state
 abbrev pub is_accepted : SpendableKept → Turn SpendableKept → Bool
 is_accepted start turn = nat_lt start.kept.state.changes turn.after.kept.state.changes
 
--- the files stand for the state
-abbrev pub StandForState : State → (FileName → List ℕ) → Type 0
-StandForState state files = StandsFor files state
+-- the files stand for the state, and the byte of their next gate is there
+abbrev pub StandForState : State → Files → Type 0
+StandForState state files = StandsGated files state
 
--- a crash of this session at which k accepted changes had replies that had begun: the files stand for the
--- state after k accepted changes, or after k + 1
+-- A crash of this session at which k accepted changes had replies that had begun: the files stand for the
+-- state after k accepted changes, or after k + 1, and the byte of their next gate is there.
 abbrev pub IsCrashOf : SpendableKept → List (Turn SpendableKept) → List ℕ → Moment → Type 0
 IsCrashOf start turns given m = IsPrefixMoment state_in is_accepted StandForState start turns given m
 
@@ -74,30 +77,39 @@ IsCrashOf start turns given m = IsPrefixMoment state_in is_accepted StandForStat
 pub record HasServed (old new : View) (start end : SpendableKept) (budget : ℕ) (status : Status)
     : Type 0 where
   pub session : Served StoreTerms old new start end budget status
-  pub sound : IsSound start.kept.state × All (λ turn. IsSound turn.after.kept.state) session.turns
-  pub counted : IsCounted state_in is_accepted start session.turns
-  pub prefix : start.kept.has_gate ≡ true → LeavesOnly old new (IsCrashOf start session.turns old.given)
-  pub rest : status ≢ DiskFault → AllRest (end_of start session.turns).kept new
+  pub sound : IsSound start.kept.state × All (λ turn. IsSound turn.after.kept.state) session.work.turns
+  pub counted : IsCounted state_in is_accepted start session.work.turns
+  pub prefix : start.kept.has_gate ≡ true → LeavesOnly old new (IsCrashOf start session.work.turns old.given)
+  pub rest : status ≢ DiskFault → AllRest (end_of start session.work.turns).kept new
 
--- What `serve` promises: what was served where the world tells it, how the status came about, and whether the store
--- can go on.
-pub record Serves {World : Type 0} (outside : Ghosts World) (old new : World) (start end : SpendableKept) (budget : ℕ)
-    (status : Status) : Type 0 where
+-- How the status came about: a fault that it tells of has its cause, and no call has failed where it tells of none. Where none
+-- fails and the input ends within the budget, nothing but memory can be wanting.
+pub record HasStatus {World : Type 0} (outside : Ghosts World) (old new : World) (budget : ℕ) (status : Status)
+    : Type 0 where
   pub never_usage : status ≢ Usage
   pub never_damaged : (d : Damage) → status ≢ Damaged d
   pub faults : HasCause outside old new status
-  pub told : outside.tells new → HasServed (outside.view old) (outside.view new) start end budget status
-  -- where no call fails and the input ends within the budget, nothing but memory can be wanting
+  pub intact : ¬ (TellsFault status) → outside.failed new ≡ false
   pub complete : outside.tells new
       → ¬ (Rose (outside.source_faults old) (outside.source_faults new))
       → ¬ (Rose (outside.sink_faults old) (outside.sink_faults new))
       → ¬ (Rose (outside.disk_faults old) (outside.disk_faults new))
       → length (outside.view old).left ≤ budget
       → (status ≡ Done) ⊎ (status ≡ NoMemory)
-  -- but for want of memory and a disk fault it can go on; after a disk fault it can't
+
+-- Whether the store can go on: but for want of memory and a disk fault it can, and is at rest; after a disk fault it can't.
+pub record LeavesStore {World : Type 0} (outside : Ghosts World) (new : World) (end : SpendableKept) (status : Status)
+    : Type 0 where
   pub ready : status ≢ NoMemory → status ≢ DiskFault → end.spent ≡ false
   pub spent : status ≡ DiskFault → end.spent ≡ true
   pub rest : status ≢ NoMemory → status ≢ DiskFault → outside.tells new → AllRest end.kept (outside.view new)
+
+-- what `serve` promises: what was served where the world tells it, how the status came about, and what has become of the store
+pub record Serves {World : Type 0} (outside : Ghosts World) (old new : World) (start end : SpendableKept) (budget : ℕ)
+    (status : Status) : Type 0 where
+  pub told : outside.tells new → HasServed (outside.view old) (outside.view new) start end budget status
+  pub ended : HasStatus outside old new budget status
+  pub store : LeavesStore outside new end status
   pub goes_on : GoesOn outside old new
 
 -- Nothing was taken, given or written: the disk failed, memory ran out, or the files are damaged as is told,
@@ -111,8 +123,8 @@ pub record IsNotBegun (old new : View) (status : Status) : Type 0 where
 abbrev pub ready_store : Kept → SpendableKept
 ready_store kept = record { kept = kept; spent = false }
 
--- What the files stand for at the call is what is served from, with the budget of a run. From some moment on
--- each crash is one of this session; before it, a crash leaves what it could at the call.
+-- What the files stand for at the call is what is served from, with the budget of a run. Each crash since the call leaves what
+-- one could leave at the call, or is one of this session; from some moment on it is one. And so is each take since the call.
 pub record HasBegun (old new : View) (status : Status) : Type 0 where
   pub start : Kept
   pub rests : RestsAt start old.reads
@@ -122,8 +134,11 @@ pub record HasBegun (old new : View) (status : Status) : Type 0 where
   pub since : ℕ
   pub begun : old.moment ≤ since
   pub by_now : since ≤ new.moment
+  pub before : (m : Moment) → new.left_since old.moment m → MayLeave old m
+      ⊎ IsMoment StoreTerms.stands (ready_store start) old.reads served.session.work.turns old.given m
   pub settled : start.has_gate ≡ true → (m : Moment) → new.left_since since m
-      → IsCrashOf (ready_store start) served.session.turns old.given m
+      → IsCrashOf (ready_store start) served.session.work.turns old.given m
+  pub first_asked : (a : Asked) → new.asked_since old.moment a → IsAnswered old (2 ^ 40) served.session.work.turns a
 
 -- what a run has done
 abbrev pub HasRun : View → View → Status → Type 0

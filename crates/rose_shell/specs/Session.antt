@@ -1,91 +1,16 @@
--- A session: lines are answered one by one, those of a batch together, and the files stand for the state before an answer or after.
-use Rattle.std.specs.Prelude.{◌≡◌, ◌≢◌, ◌⊎◌, ◌<◌, ◌≤◌, ℕ, List, [], ◌∷◌, ◌++◌, Option, length, nat_lt}
-use Rattle.std.specs.Prelude.{MatchBool}
-use Rattle.outside_world.specs.declared.world.FileName.{FileName}
-use Rattle.outside_world.specs.View.{View, Asked, Moment}
-use Rattle.outside_world.specs.Since.{OnlyAdds, LeavesOnly}
+-- A session: lines are answered one by one, those of a batch together, until the input ends or a fault comes.
+use Rattle.std.specs.Prelude.{◌≡◌, ◌≢◌, ◌⊎◌, ◌<◌, ◌≤◌, ℕ, List, [], ◌∷◌, ◌++◌, length}
+use Rattle.outside_world.specs.View.{View, Asked}
+use Rattle.outside_world.specs.Since.{OnlyAdds}
+use Rattle.realm_files.specs.Writing.{InEachImage}
 use Rattle.rose_shell.specs.declared.status.Status.{Status}
-use Rattle.rose_shell.specs.declared.status.Status.TheVariants.{Done, SourceFault, SinkFault}
-use Rattle.rose_shell.specs.declared.status.Status.TheVariants.{DiskFault, NoMemory, InputLimit}
-use Rattle.rose_shell.specs.Desk.{Rule, Stands, Terms, AllRest, KeepsFiles}
-use Rattle.query_batch.specs.Joined.{AreJoined}
-use Rattle.query_batch.specs.Replies.{too_long_reply}
-use Rattle.rose_shell.specs.Lines.{longest_line, whole_lines, all_lines}
-use Rattle.rose_shell.specs.Batches.{Opens, OpensNone, AreHeld, heard}
-
--- a line, the lines of the batch that it begins, the reply to all of them and the state after it
-pub record Turn (S : Type 0) : Type 0 where
-  pub line : List ℕ
-  pub batch : List (List ℕ)
-  pub reply : List ℕ
-  pub after : S
-
--- a line of more bytes gets this reply and changes nothing, any other is answered
-abbrev pub Treats : {S : Type 0} → Rule S → S → List ℕ → List ℕ → S → Type 0
-Treats answers start line reply end =
-    MatchBool (nat_lt longest_line (length line)) ((reply ≡ too_long_reply) × (end ≡ start))
-    (answers start line reply end)
-
--- the line begins no batch, and is treated alone
-pub record IsSingle {S : Type 0} (answers : Rule S) (start : S) (turn : Turn S) : Type 0 where
-  pub opens_none : OpensNone turn.line
-  pub alone : turn.batch ≡ []
-  pub treats : Treats answers start turn.line turn.reply turn.after
-
--- The line begins a batch of these lines. The reply is that of each of them in this state, one after another, and the state
--- stays.
-pub record IsBatch {S : Type 0} (tells : S → Option (List ℕ) → List ℕ → Type 0) (start : S) (turn : Turn S) : Type 0 where
-  pub size : ℕ
-  pub opens : Opens turn.line size
-  pub within : length turn.batch ≤ size
-  pub joined : AreJoined (λ line reply. tells start (heard line) reply) turn.batch turn.reply
-  pub stays : turn.after ≡ start
-
--- the turns are made one after another, each from the state that the one before has left
-abbrev pub IsRun : {S : Type 0} → Terms S → S → List (Turn S) → Type 0
-IsRun terms start [] = Unit {0}
-IsRun terms start (turn ∷ turns) =
-    (IsSingle terms.answers start turn ⊎ IsBatch terms.tells start turn) × IsRun terms turn.after turns
-
--- the turn begins no batch, or one with as many lines as it asks for
-abbrev pub IsFull : {S : Type 0} → Turn S → Type 0
-IsFull turn = OpensNone turn.line ⊎ Opens turn.line (length turn.batch)
-
--- the turns are full, but that the last one needn't be where no line is left
-abbrev pub AreFull : {S : Type 0} → Type 0 → List (Turn S) → Type 0
-AreFull none_left [] = Unit {0}
-AreFull none_left (turn ∷ turns) =
-    (IsFull turn ⊎ ((turns ≡ []) × none_left)) × AreFull none_left turns
-
--- the state after the turns
-abbrev pub end_of : {S : Type 0} → S → List (Turn S) → S
-end_of start [] = start
-end_of start (turn ∷ turns) = end_of turn.after turns
-
--- each of them has left the state as it was
-abbrev pub Stay : {S : Type 0} → S → List (Turn S) → Type 0
-Stay start [] = Unit {0}
-Stay start (turn ∷ turns) = (turn.after ≡ start) × Stay turn.after turns
-
--- their replies, one after another
-abbrev pub replies : {S : Type 0} → List (Turn S) → List ℕ
-replies [] = []
-replies (turn ∷ turns) = turn.reply ++ replies turns
-
--- their lines
-abbrev pub lines_of : {S : Type 0} → List (Turn S) → List (List ℕ)
-lines_of [] = []
-lines_of (turn ∷ turns) = turn.line ∷ (turn.batch ++ lines_of turns)
-
--- A moment of such a run, from these bytes given on: the files stand for the state after so many turns,
--- or for the one after the next turn, and for the latter once its reply has begun.
-abbrev pub IsMoment : {S : Type 0} → Stands S → S → List (Turn S) → List ℕ → Moment → Type 0
-IsMoment stands start [] given m = (m.given ≡ given) × stands start m.files
-IsMoment stands start (turn ∷ turns) given m =
-    ((m.given ≡ given) × stands start m.files)
-    ⊎ (((sent unsent : List ℕ) × (turn.reply ≡ sent ++ unsent) × (m.given ≡ given ++ sent)
-    × stands turn.after m.files)
-    ⊎ IsMoment stands turn.after turns (given ++ turn.reply) m)
+use Rattle.rose_shell.specs.declared.status.Status.TheVariants.{Done, Usage, SourceFault, SinkFault}
+use Rattle.rose_shell.specs.declared.status.Status.TheVariants.{DiskFault, Damaged, NoMemory, InputLimit}
+use Rattle.rose_shell.specs.Lines.{whole_lines, all_lines}
+use Rattle.rose_shell.specs.Batches.{AreHeld}
+use Rattle.rose_shell.specs.Desk.{Terms, StandsBetween}
+use Rattle.rose_shell.specs.Turns.{Turn, IsRun, AreComplete, end_of, files_after, replies, lines_of}
+use Rattle.rose_shell.specs.Moments.{FollowsTurns}
 
 -- every reply but the last was given whole, and of the last one all but these bytes
 pub record IsGivenInPart {S : Type 0} (turns : List (Turn S)) (unsent : List ℕ) : Type 0 where
@@ -106,15 +31,14 @@ pub record IsCutOff {S : Type 0} (terms : Terms S) (old new : View) (start : S) 
   pub none_given : unsent ≡ last.reply
   pub given_before : new.given ≡ old.given ++ replies before
   pub may_write : terms.writes (end_of start before) last.line
-  pub either : (files : FileName → List ℕ) → ((f : FileName) → new.image f (files f))
-      → terms.stands (end_of start before) files ⊎ terms.stands last.after files
+  pub now : InEachImage new (StandsBetween terms.stands (end_of start before) last.after (files_after old.reads before))
 
 -- the turns are those of the whole lines among these bytes, but for a batch that lacks lines still
 pub record AreTurnsOf {S : Type 0} (turns : List (Turn S)) (bytes : List ℕ) : Type 0 where
   pub held : List (List ℕ)
   pub are_held : AreHeld held
   pub lines : lines_of turns ++ held ≡ whole_lines bytes
-  pub full : AreFull ⊥ turns
+  pub full : AreComplete ⊥ turns
 
 -- a take began when the turns of the bytes taken had been made, and nothing else; these are within the budget
 pub record IsAnswered {S : Type 0} (old : View) (budget : ℕ) (turns : List (Turn S)) (a : Asked)
@@ -128,40 +52,52 @@ pub record IsAnswered {S : Type 0} (old : View) (budget : ℕ) (turns : List (Tu
   pub answered : AreTurnsOf done bytes
   pub given : a.given ≡ old.given ++ replies done
 
--- a whole run of the loop, with its status
-pub record Served {S : Type 0} (terms : Terms S) (old new : View) (start end : S)
-    (budget : ℕ) (status : Status) : Type 0 where
+-- ---- a run of the loop
+
+-- what came of it: the bytes taken, the turns, the lines that weren't answered, and the end of the replies that wasn't given
+pub record Work (S : Type 0) : Type 0 where
   pub bytes : List ℕ
   pub turns : List (Turn S)
   pub unread : List (List ℕ)
   pub unsent : List ℕ
-  -- the clock went on
+
+-- the clock went on, these bytes were taken, and the first lines of theirs were answered
+pub record ReadsLines {S : Type 0} (old new : View) (w : Work S) (budget : ℕ) (status : Status) : Type 0 where
   pub later : old.moment ≤ new.moment
-  -- these bytes were taken
-  pub left : old.left ≡ bytes ++ new.left
-  pub taken : new.taken ≡ old.taken ++ bytes
-  -- the first lines of theirs were answered, and these replies given but for the unsent end
-  pub is_run : IsRun terms start turns
-  pub of_lines : lines_of turns ++ unread ≡ all_lines bytes
+  pub left : old.left ≡ w.bytes ++ new.left
+  pub taken : new.taken ≡ old.taken ++ w.bytes
+  pub of_lines : lines_of w.turns ++ w.unread ≡ all_lines w.bytes
   -- a batch has fewer lines than it asks for only where the input has ended with them
-  pub full : AreFull ((new.left ≡ []) × (unread ≡ [])) turns
+  pub full : AreComplete ((new.left ≡ []) × (w.unread ≡ [])) w.turns
   -- an unfinished last line only at the end of the input
-  pub whole : (new.left ≡ []) ⊎ ((others : List (List ℕ)) × (lines_of turns ++ others ≡ whole_lines bytes))
-  pub given : new.given ++ unsent ≡ old.given ++ replies turns
-  pub ends : status ≢ NoMemory → status ≢ DiskFault → end ≡ end_of start turns
-  -- at each take, at each crash since the start, and at a crash now
-  pub asked : OnlyAdds old.moment old.asked_since new.asked_since (IsAnswered old budget turns)
-  pub crash : LeavesOnly old new (IsMoment terms.stands start turns old.given)
-  pub rest : status ≢ DiskFault → AllRest terms new (end_of start turns)
-  -- turns that all leave the state as it was leave the files as they were
-  pub still : Stay start turns → KeepsFiles old new
-  -- what each status means
-  pub done : status ≡ Done → (new.left ≡ []) × (unread ≡ []) × (unsent ≡ [])
-  pub source : status ≡ SourceFault → AreTurnsOf turns bytes × (unsent ≡ [])
-  pub sink : status ≡ SinkFault → IsGivenInPart turns unsent
-  pub disk : status ≡ DiskFault → IsCutOff terms old new start turns unsent
-  pub memory : status ≡ NoMemory → unsent ≡ []
-  pub limit : status ≡ InputLimit → (first last : List ℕ) × (bytes ≡ first ++ last)
-      × (length first ≡ budget) × (0 < length last)
-      × AreTurnsOf turns first × (unsent ≡ [])
-  pub within : status ≢ InputLimit → length bytes ≤ budget
+  pub whole : (new.left ≡ []) ⊎ ((others : List (List ℕ)) × (lines_of w.turns ++ others ≡ whole_lines w.bytes))
+  pub within : status ≢ InputLimit → length w.bytes ≤ budget
+
+-- the turns were made, and but for want of memory and a disk fault lead to the state at the end
+pub record LeadsTo {S : Type 0} (terms : Terms S) (start end : S) (w : Work S) (status : Status) : Type 0 where
+  pub is_run : IsRun terms start w.turns
+  pub ends : status ≢ NoMemory → status ≢ DiskFault → end ≡ end_of start w.turns
+
+-- what each status means
+abbrev pub EndsBy : {S : Type 0} → Terms S → View → View → S → Work S → ℕ → Status → Type 0
+EndsBy terms old new start w budget Done = (new.left ≡ []) × (w.unread ≡ []) × (w.unsent ≡ [])
+EndsBy terms old new start w budget Usage = ⊥
+EndsBy terms old new start w budget SourceFault = AreTurnsOf w.turns w.bytes × (w.unsent ≡ [])
+EndsBy terms old new start w budget SinkFault = IsGivenInPart w.turns w.unsent
+EndsBy terms old new start w budget DiskFault = IsCutOff terms old new start w.turns w.unsent
+EndsBy terms old new start w budget (Damaged d) = ⊥
+EndsBy terms old new start w budget NoMemory = w.unsent ≡ []
+EndsBy terms old new start w budget InputLimit =
+    (first last : List ℕ) × (w.bytes ≡ first ++ last) × (length first ≡ budget) × (0 < length last)
+    × AreTurnsOf w.turns first × (w.unsent ≡ [])
+
+-- the whole run: its input and output, its states and takes, what becomes of the files, and its end
+pub record Served {S : Type 0} (terms : Terms S) (old new : View) (start end : S)
+    (budget : ℕ) (status : Status) : Type 0 where
+  pub work : Work S
+  pub input : ReadsLines old new work budget status
+  pub given : new.given ++ work.unsent ≡ old.given ++ replies work.turns
+  pub state : LeadsTo terms start end work status
+  pub asked : OnlyAdds old.moment old.asked_since new.asked_since (IsAnswered old budget work.turns)
+  pub files : FollowsTurns terms (status ≢ DiskFault) old new start work.turns
+  pub ended : EndsBy terms old new start work budget status

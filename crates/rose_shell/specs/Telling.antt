@@ -1,13 +1,12 @@
 -- What is done with a command. `check` and `gen` give a few lines, take none and write no file.
 use Rattle.std.specs.Prelude.{◌≡◌, ◌⊎◌, ◌≤◌, ◌^◌, ℕ, List, [], length}
-use Rattle.outside_world.specs.View.{View}
+use Rattle.outside_world.specs.View.{View, AllStable}
 use Rattle.command_words.specs.declared.word.Word.{Word}
 use Rattle.command_words.specs.declared.word.Word.TheVariants.{Run, Check, Gen}
 use Rattle.state_counts.specs.Counts.{TellsCounts}
 use Rattle.generated_map.specs.Told.{TellsMap}
 use Rattle.realm_insert.specs.State.{State}
 use Rattle.realm_journal.specs.Reading.{OnlyAsks}
-use Rattle.realm_files.specs.Syncing.{AllStable}
 use Rattle.realm_store.specs.Stands.{StandsFor}
 use Rattle.rose_shell.specs.Giving.{GaveSome}
 use Rattle.rose_shell.specs.Running.{IsNotBegun, HasRun}

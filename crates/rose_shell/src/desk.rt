@@ -1,27 +1,20 @@
 //! What answers a line.
-ghost use Rattle.std.specs.Prelude.{◌≡◌, ◌≤◌, ℕ, List, Option, false, length, IfOk, OnOk, IsErrOf};
+ghost use Rattle.std.specs.Prelude.{◌≡◌, ◌≢◌, ◌≤◌, ℕ, List, Option, false, length, Err, IfOk, IfErr, IsErrOf, OnOk};
 ghost use Rattle.std.specs.Thread.{IsSync};
-ghost use Rattle.outside_world.specs.Counts.{Rose};
 ghost use Rattle.outside_world.specs.GoesOn.{GoesOn};
 ghost use Rattle.query_batch.specs.Answers.{TellsLine};
 ghost use Rattle.rose_shell.specs.Lines.{longest_line};
 ghost use Rattle.rose_shell.specs.Batches.{OpensNone};
-ghost use Rattle.rose_shell.specs.Desk.{Terms, AllRest, Answered};
+ghost use Rattle.rose_shell.specs.Faults.{IsCaused};
+ghost use Rattle.rose_shell.specs.Desk.{Terms, AllRestBy, Answered};
 
+use crate::fault::Fault;
+use crate::means::Means;
 use grid_base::Reply;
 use outside_world::Outside;
+use query_batch::Gate;
 use realm_insert::Engine;
-use std::alloc::Global;
 use std::thread::Threads;
-
-/// Why a line gets no reply.
-#[derive(Clone, Copy, Debug, PartialEq, Eq)]
-pub enum Stop {
-    /// The disk failed while the files were written.
-    Disk,
-    /// Memory ran out, before anything was written.
-    NoMemory,
-}
 
 /// What answers lines one by one. Its state is the value itself.
 pub trait Desk<W: Outside> {
@@ -32,23 +25,23 @@ pub trait Desk<W: Outside> {
     ghost terms: { Terms Self };
 
     /// Answers a line, which comes without its line feed and begins no batch. The reply isn't given yet.
-    fn answer<R: Threads + Sync>(
+    fn answer<R: Threads + Sync, G: Gate>(
         &mut self,
-        rt: &R,
-        alloc: Global,
+        means: &Means<R, G>,
         world: &mut W,
         line: &[u8],
-    ) -> Result<Reply, Stop>
+    ) -> Result<Reply, Fault>
         requires shared { IsSync R.row }
+        requires intact { W.failed world.old ≡ false }
         requires ready { ready self.old }
         requires short { length line.now ≤ longest_line }
         requires opens_none { OpensNone line.now }
-        requires rest { W.tells world.old → AllRest terms (W.view world.old) self.old }
+        requires rest { W.tells world.old → AllRestBy terms (W.view world.old) self.old }
         ensures answer { IfOk result (λ reply. terms.answers self.old line.now reply self.new) }
-        ensures ready { OnOk result (ready self.new) }
-        ensures disk_fault { IsErrOf result Stop.Disk
-            → Rose (W.disk_faults world.old) (W.disk_faults world.new) }
-        ensures spent { IsErrOf result Stop.Disk → ¬ (ready self.new) }
+        ensures ready { result ≢ Err Fault.NoMemory → result ≢ Err Fault.Disk → ready self.new }
+        ensures intact { OnOk result (W.failed world.new ≡ false) }
+        ensures caused { IfErr result (λ fault. IsCaused ⟦<W as Outside>⟧ world.old world.new fault) }
+        ensures spent { IsErrOf result Fault.Disk → ¬ (ready self.new) }
         ensures goes_on { GoesOn ⟦<W as Outside>⟧ world.old world.new }
         ensures told { W.tells world.new
             → Answered terms (W.view world.old) (W.view world.new) self.old self.new line.now result };

@@ -2,7 +2,7 @@
 ghost use Rattle.std.specs.Prelude.{◌≡◌, ◌≢◌, ◌≤◌, ◌^◌, ◌⊎◌, ℕ, true, false, length, map, string_bytes};
 ghost use Rattle.outside_world.specs.Counts.{Rose};
 ghost use Rattle.outside_world.specs.GoesOn.{GoesOn};
-ghost use Rattle.command_words.specs.Written.{AreWordsOf, IsNoCommand, IsAllowed};
+ghost use Rattle.command_words.specs.Written.{AreWordsOf, IsNoCommand};
 ghost use Rattle.command_words.specs.declared.word.Word.{Word as Command};
 ghost use Rattle.command_words.specs.declared.word.Word.TheVariants.{Gen};
 ghost use Rattle.realm_insert.specs.State.{State};
@@ -10,12 +10,14 @@ ghost use Rattle.realm_store.specs.Stands.{StandsFor};
 ghost use Rattle.realm_store.specs.Keeping.{AllRest};
 ghost use Rattle.realm_store.specs.Damages.{IsDamaged};
 ghost use Rattle.realm_pages.specs.declared.damage.Damage.{Damage};
-ghost use Rattle.rose_shell.specs.Faults.{HasCause};
+ghost use Rattle.rose_shell.specs.Faults.{HasCause, TellsFault, status_at};
 ghost use Rattle.rose_shell.specs.Running.{HasRun, Serves};
 ghost use Rattle.rose_shell.specs.Telling.{HasDone, CanBeDone};
 
-use crate::serving::serve_by_chunks;
-use crate::status::{Status, status_unstarted};
+use crate::fault::Fault;
+use crate::means::Means;
+use crate::serving::answer_input;
+use crate::status::Status;
 use crate::telling::{tell_map, tell_store};
 use command_words::{Word, one_command, read_words};
 use grid_base::NoMemory;
@@ -38,11 +40,13 @@ pub fn run<R: Threads + Sync, W: Outside>(
     words: &[String],
     world: &mut W,
 ) -> Status
+    requires intact { W.failed world.old ≡ false }
     ensures usage { result ≡ Status.Usage → IsNoCommand (map string_bytes words.now) }
     ensures no_command { IsNoCommand (map string_bytes words.now)
         → (result ≡ Status.Usage) ⊎ (result ≡ Status.NoMemory) }
     ensures untouched { IsNoCommand (map string_bytes words.now) → world.new ≡ world.old }
     ensures faults { HasCause ⟦<W as Outside>⟧ world.old world.new result }
+    ensures intact { ¬ (TellsFault result) → W.failed world.new ≡ false }
     ensures damaged { (d : Damage) → result ≡ Status.Damaged d → W.tells world.new
         → IsDamaged d (W.view world.old).reads }
     ensures told { (command : Command) → AreWordsOf (map string_bytes words.now) command
@@ -62,47 +66,24 @@ pub fn run<R: Threads + Sync, W: Outside>(
     ensures goes_on { GoesOn ⟦<W as Outside>⟧ world.old world.new }
 {
     one_command();
-    match read_words(alloc, words) {
-        Ok(Some(word)) => do_command(rt, alloc, word, world),
-        Ok(None) => Status::Usage,
-        Err(NoMemory) => Status::NoMemory,
-    }
-}
-
-// Does what the command asks for.
-fn do_command<R: Threads + Sync, W: Outside>(
-    rt: &R,
-    alloc: Global,
-    word: Word,
-    world: &mut W,
-) -> Status
-    requires allowed { IsAllowed word }
-    ensures never_usage { result ≢ Status.Usage }
-    ensures faults { HasCause ⟦<W as Outside>⟧ world.old world.new result }
-    ensures damaged { (d : Damage) → result ≡ Status.Damaged d → W.tells world.new
-        → IsDamaged d (W.view world.old).reads }
-    ensures told { W.tells world.new → HasDone word (W.view world.old) (W.view world.new) result }
-    ensures no_file { (lines start : ℕ) → word ≡ Gen lines start
-        → W.disk_faults world.new ≡ W.disk_faults world.old }
-    ensures complete { W.tells world.new
-        → ¬ (Rose (W.source_faults world.old) (W.source_faults world.new))
-        → ¬ (Rose (W.sink_faults world.old) (W.sink_faults world.new))
-        → ¬ (Rose (W.disk_faults world.old) (W.disk_faults world.new))
-        → CanBeDone word (W.view world.old)
-        → (result ≡ Status.Done) ⊎ (result ≡ Status.NoMemory) }
-    ensures goes_on { GoesOn ⟦<W as Outside>⟧ world.old world.new }
-{
+    let word = match read_words(alloc, words) {
+        Ok(Some(word)) => word,
+        Ok(None) => return Status::Usage,
+        Err(NoMemory) => return Status::NoMemory,
+    };
     match word {
-        Word::Run => start_and_serve(rt, alloc, world),
+        Word::Run => run_lines(rt, alloc, world),
         Word::Check => tell_store(rt, alloc, world),
         Word::Gen { lines, start } => tell_map(rt, alloc, world, lines, start),
     }
 }
 
 // Reads what the files stand for, and answers each line of the input from there on.
-fn start_and_serve<R: Threads + Sync, W: Outside>(rt: &R, alloc: Global, world: &mut W) -> Status
+fn run_lines<R: Threads + Sync, W: Outside>(rt: &R, alloc: Global, world: &mut W) -> Status
+    requires intact { W.failed world.old ≡ false }
     ensures never_usage { result ≢ Status.Usage }
     ensures faults { HasCause ⟦<W as Outside>⟧ world.old world.new result }
+    ensures intact { ¬ (TellsFault result) → W.failed world.new ≡ false }
     ensures damaged { (d : Damage) → result ≡ Status.Damaged d → W.tells world.new
         → IsDamaged d (W.view world.old).reads }
     ensures told { W.tells world.new → HasRun (W.view world.old) (W.view world.new) result }
@@ -118,9 +99,9 @@ fn start_and_serve<R: Threads + Sync, W: Outside>(rt: &R, alloc: Global, world: 
     match Store::start(rt, alloc, world) {
         Ok(started) => {
             let mut store = started;
-            serve(rt, alloc, &mut store, world, MOST_BYTES)
+            serve_gated(rt, alloc, &mut store, world, MOST_BYTES, &Open)
         }
-        Err(error) => status_unstarted(error),
+        Err(error) => Status::from(error),
     }
 }
 
@@ -133,6 +114,7 @@ pub fn serve<R: Threads + Sync, W: Outside>(
     world: &mut W,
     budget: u64,
 ) -> Status
+    requires intact { W.failed world.old ≡ false }
     requires ready { store.old.spent ≡ false }
     requires rest { W.tells world.old → AllRest store.old.kept (W.view world.old) }
     ensures { Serves ⟦<W as Outside>⟧ world.old world.new store.old store.new budget result }
@@ -149,6 +131,7 @@ pub fn serve_gated<R: Threads + Sync, W: Outside, G: Gate>(
     budget: u64,
     gate: &G,
 ) -> Status
+    requires intact { W.failed world.old ≡ false }
     requires ready { store.old.spent ≡ false }
     requires rest { W.tells world.old → AllRest store.old.kept (W.view world.old) }
     ensures { Serves ⟦<W as Outside>⟧ world.old world.new store.old store.new budget result }
@@ -156,5 +139,16 @@ pub fn serve_gated<R: Threads + Sync, W: Outside, G: Gate>(
     // The session begins with a sound state.
     let _state = store.state();
     let mut chunk = [0u8; 65_536];
-    serve_by_chunks(rt, alloc, gate, store, world, budget, &mut chunk)
+    let means = Means { rt, alloc, gate };
+    ended(answer_input(&means, store, world, budget, &mut chunk))
+}
+
+// How a run has ended that came to its end or to a fault.
+fn ended(by: Result<Status, Fault>) -> Status
+    ensures { result ≡ status_at by }
+{
+    match by {
+        Ok(status) => status,
+        Err(fault) => Status::from(fault),
+    }
 }

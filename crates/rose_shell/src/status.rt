@@ -1,8 +1,8 @@
 //! How a run ends.
 ghost use Rattle.std.specs.Prelude.{◌≡◌};
 ghost use Rattle.rose_shell.specs.Status.{number_of};
-ghost use Rattle.rose_shell.specs.Loop.{status_unstarted};
 
+use crate::fault::Fault;
 use realm_store::{Damage, StartError};
 
 /// How a run ended.
@@ -44,13 +44,33 @@ impl Status {
     }
 }
 
-/// How a command ends whose store isn't started.
-pub(crate) fn status_unstarted(error: StartError) -> Status
-    ensures { result ≡ status_unstarted error }
-{
-    match error {
-        StartError::Disk => Status::DiskFault,
-        StartError::Damaged(damage) => Status::Damaged(damage),
-        StartError::NoMemory => Status::NoMemory,
+impl From<Fault> for Status {
+    ghost use Rattle.std.specs.Prelude.{◌≡◌};
+    ghost use Rattle.rose_shell.specs.Faults.{status_of};
+
+    ghost from_gives = { λ fault status. status ≡ status_of fault };
+
+    fn from(fault: Fault) -> Status {
+        match fault {
+            Fault::Source => Status::SourceFault,
+            Fault::Sink => Status::SinkFault,
+            Fault::Disk => Status::DiskFault,
+            Fault::NoMemory => Status::NoMemory,
+        }
+    }
+}
+
+impl From<StartError> for Status {
+    ghost use Rattle.std.specs.Prelude.{◌≡◌};
+    ghost use Rattle.rose_shell.specs.Faults.{status_unstarted};
+
+    ghost from_gives = { λ error status. status ≡ status_unstarted error };
+
+    fn from(error: StartError) -> Status {
+        match error {
+            StartError::Disk => Status::DiskFault,
+            StartError::Damaged(damage) => Status::Damaged(damage),
+            StartError::NoMemory => Status::NoMemory,
+        }
     }
 }

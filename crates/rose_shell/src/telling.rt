@@ -1,18 +1,19 @@
 //! Commands that give a few lines, and take none.
-ghost use Rattle.std.specs.Prelude.{◌≡◌, ◌≢◌, ◌≤◌, ◌⊎◌};
+ghost use Rattle.std.specs.Prelude.{◌≡◌, ◌≢◌, ◌≤◌, ◌⊎◌, false};
 ghost use Rattle.outside_world.specs.Counts.{Rose};
 ghost use Rattle.outside_world.specs.GoesOn.{GoesOn};
 ghost use Rattle.realm_insert.specs.State.{State};
 ghost use Rattle.realm_store.specs.Stands.{StandsFor};
 ghost use Rattle.realm_store.specs.Damages.{IsDamaged};
 ghost use Rattle.realm_pages.specs.declared.damage.Damage.{Damage};
+ghost use Rattle.rose_shell.specs.Faults.{TellsFault};
 ghost use Rattle.rose_shell.specs.Telling.{GivesLines, HasChecked, HasGenerated};
 
 use crate::giving::give_all;
-use crate::status::{Status, status_unstarted};
+use crate::status::Status;
 use generated_map::generate;
 use grid_base::{NoMemory, Reply};
-use outside_world::{Failed, Outside};
+use outside_world::Outside;
 use realm_store::Store;
 use state_counts::count_state;
 use std::alloc::Global;
@@ -24,8 +25,10 @@ pub(crate) fn tell_store<R: Threads + Sync, W: Outside>(
     alloc: Global,
     world: &mut W,
 ) -> Status
+    requires intact { W.failed world.old ≡ false }
     ensures never_usage { result ≢ Status.Usage }
     ensures never_source_fault { result ≢ Status.SourceFault }
+    ensures intact { ¬ (TellsFault result) → W.failed world.new ≡ false }
     ensures sink_fault { result ≡ Status.SinkFault
         → Rose (W.sink_faults world.old) (W.sink_faults world.new) }
     ensures disk_fault { result ≡ Status.DiskFault
@@ -45,7 +48,7 @@ pub(crate) fn tell_store<R: Threads + Sync, W: Outside>(
             Ok(lines) => give_lines(world, &lines),
             Err(NoMemory) => Status::NoMemory,
         },
-        Err(error) => status_unstarted(error),
+        Err(error) => Status::from(error),
     }
 }
 
@@ -57,11 +60,13 @@ pub(crate) fn tell_map<R: Threads + Sync, W: Outside>(
     lines: u64,
     start: u64,
 ) -> Status
+    requires intact { W.failed world.old ≡ false }
     requires few { lines ≤ 100000 }
     ensures never_usage { result ≢ Status.Usage }
     ensures never_source_fault { result ≢ Status.SourceFault }
     ensures never_disk_fault { result ≢ Status.DiskFault }
     ensures never_damaged { (d : Damage) → result ≢ Status.Damaged d }
+    ensures intact { ¬ (TellsFault result) → W.failed world.new ≡ false }
     ensures sink_fault { result ≡ Status.SinkFault
         → Rose (W.sink_faults world.old) (W.sink_faults world.new) }
     ensures told { W.tells world.new
@@ -79,7 +84,9 @@ pub(crate) fn tell_map<R: Threads + Sync, W: Outside>(
 
 // Gives the lines whole, or as many of their bytes as the sink took before it failed.
 fn give_lines<W: Outside>(world: &mut W, lines: &Reply) -> Status
+    requires intact { W.failed world.old ≡ false }
     ensures ends { (result ≡ Status.Done) ⊎ (result ≡ Status.SinkFault) }
+    ensures intact { ¬ (TellsFault result) → W.failed world.new ≡ false }
     ensures sink_fault { result ≡ Status.SinkFault
         → Rose (W.sink_faults world.old) (W.sink_faults world.new) }
     ensures told { W.tells world.new
@@ -89,6 +96,6 @@ fn give_lines<W: Outside>(world: &mut W, lines: &Reply) -> Status
 {
     match give_all(world, lines.bytes()) {
         Ok(()) => Status::Done,
-        Err(Failed) => Status::SinkFault,
+        Err(fault) => Status::from(fault),
     }
 }

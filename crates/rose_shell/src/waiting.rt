@@ -1,9 +1,10 @@
 //! Lines that wait until their batch is read.
 ghost use Rattle.std.specs.Prelude.{◌≡◌, ◌<◌, ◌≤◌, ◌+◌, ℕ, List, [], ◌∷◌, ◌++◌, OnOk, IfOk};
 ghost use Rattle.std.specs.Prelude.{MatchOption, length};
-ghost use Rattle.rose_shell.specs.Lines.{longest_line, IsKept};
+ghost use Rattle.rose_shell.specs.Lines.{longest_line, IsFrontOf};
 ghost use Rattle.line_grammar.specs.declared.command.Command.TheVariants.{Batch};
-ghost use Rattle.rose_shell.specs.Batches.{IsInRange, Opens, OpensNone, heard};
+ghost use Rattle.rose_shell.specs.Loop.{Asks};
+ghost use Rattle.rose_shell.specs.Batches.{IsInRange, OpensBatch, OpensNone, heard};
 
 use crate::LONGEST_LINE;
 use grid_base::NoMemory;
@@ -36,7 +37,7 @@ impl Waiting {
     pub(crate) fn add(&mut self, alloc: Global, kept: &[u8]) -> Result<(), NoMemory>
         requires missing { 0 < self.old.missing }
         ensures missing { OnOk result (self.old.missing ≡ self.new.missing + 1) }
-        ensures lines { OnOk result ((line : List ℕ) → IsKept kept.now line
+        ensures lines { OnOk result ((line : List ℕ) → IsFrontOf kept.now line
             → self.new.lines.items ≡ self.old.lines.items ++ heard line ∷ []) }
     {
         let line = hear(alloc, kept)?;
@@ -48,7 +49,7 @@ impl Waiting {
 
 // What waits of a line of which this was kept.
 fn hear(alloc: Global, kept: &[u8]) -> Result<Option<Line>, NoMemory>
-    ensures { IfOk result (λ o. (line : List ℕ) → IsKept kept.now line → o ≡ heard line) }
+    ensures { IfOk result (λ o. (line : List ℕ) → IsFrontOf kept.now line → o ≡ heard line) }
 {
     if kept.len() > LONGEST_LINE {
         return Ok(None);
@@ -58,11 +59,35 @@ fn hear(alloc: Global, kept: &[u8]) -> Result<Option<Line>, NoMemory>
     Ok(Some(Line::new(bytes)))
 }
 
-/// How many lines stand in the batch that this line begins, where it begins one.
-pub(crate) fn batch_size(alloc: Global, line: &[u8]) -> Result<Option<usize>, NoMemory>
+/// What a line asks of the loop, before which none waits.
+#[derive(Clone, Copy, Debug, PartialEq, Eq)]
+pub(crate) enum LineAsks {
+    /// It is too long.
+    Refusal,
+    /// It begins a batch of so many lines.
+    Batch(usize),
+    /// It is to be answered by itself.
+    Answer,
+}
+
+/// What the line asks for of which this was kept.
+pub(crate) fn line_asks(alloc: Global, kept: &[u8]) -> Result<LineAsks, NoMemory>
+    ensures { IfOk result (λ asks. Asks kept.now asks) }
+{
+    if kept.len() > LONGEST_LINE {
+        return Ok(LineAsks::Refusal);
+    }
+    match batch_size(alloc, kept)? {
+        Some(size) => Ok(LineAsks::Batch(size)),
+        None => Ok(LineAsks::Answer),
+    }
+}
+
+// How many lines stand in the batch that this line begins, where it begins one.
+fn batch_size(alloc: Global, line: &[u8]) -> Result<Option<usize>, NoMemory>
     requires short { length line.now ≤ longest_line }
     ensures { IfOk result (λ o. MatchOption o (OpensNone line.now)
-        (λ size. (0 < size) × Opens line.now size)) }
+        (λ size. (0 < size) × OpensBatch line.now size)) }
 {
     if line.is_empty() || line[0] != b'b' {
         return Ok(None);

@@ -124,7 +124,7 @@ one_more_id d ids i a b list more new within has was first second =
 
 -- ---- evenness
 -- an original is the only one with its id
-same_by_id : (os : List Original) → IsAscending os → (o q : Original) → Contains os o → Contains os q → o.id ≡ q.id → o ≡ q
+pub same_by_id : (os : List Original) → IsAscending os → (o q : Original) → Contains os o → Contains os q → o.id ≡ q.id → o ≡ q
 same_by_id os rising o q (j, j_within, j_is) (k, k_within, k_is) same = elim (cases_lt j k) [
   | inl less ↦
       let below : (get_or os j o).id < (get_or os k o).id = rising j k o less k_within in

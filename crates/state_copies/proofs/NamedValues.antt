@@ -81,7 +81,7 @@ none_named table list is = record {
 }
 
 -- parts of a table that are kept are the parts that they were kept as
-parts_kept : (made : KeptParts) → kept_parts (parts_of made) ≡ made
+pub parts_kept : (made : KeptParts) → kept_parts (parts_of made) ≡ made
 parts_kept (kept.Points points) = refl
 parts_kept (kept.Ids ids) = refl
 

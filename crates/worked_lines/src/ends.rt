@@ -1,12 +1,19 @@
 //! What words do, and how runs end: behind long lines, at faults and at budgets; what is said then, and with which exit.
 use crate::running::{look_at_run, place_of, run_words, serve_within};
 use grid_base::NoMemory;
-use process_run::{exit_of, message_of, perform};
+use outside_world::FileName;
+use process_run::{exit_of, say, status_without_words};
 use process_world::WordsError;
+use realm_store::Damage;
 use rose_shell::Status;
 use std::alloc::Global;
+use std::cell::RefCell;
+use std::fmt::{Display, Write};
+use std::io;
+use std::io::ErrorKind;
 use std::process::{Abort, ExitCode};
 use std::thread::Threads;
+use steady_run::run_steadily;
 
 // Words, what they give over an empty file, and the status.
 static WORDS: [(&str, &str, u8); 10] = [
@@ -192,25 +199,113 @@ fn a_fault_or_the_budget_ends_the_session(rt: HostRuntime) {
     }
 }
 
-// What is said of each status on standard error, but for damage.
-static SAID: [(Status, Option<&str>); 7] = [
-    (Status::Done, None),
+// Whether three lines get their replies in a world on which no call fails, and fit into it.
+fn are_answered_steadily<R: Threads + Sync>(rt: &R, alloc: Global) -> Result<bool, NoMemory> {
+    let lines = b"segment 0 0 3 1\nsegment 0 1 3 0\nchain 1\n";
+    let replies = b"ok 1 steps 0 first 1 new 1\nok 2 steps 1 first 2 new 1\n\
+                    chain 3\n0 0\n2 1\n3 1\n";
+    let (status, world) = run_steadily(rt, alloc, Vec::from_slice(alloc, lines)?)?;
+    Ok(status == Status::Done && world.fits() && world.given() == replies.as_slice())
+}
+
+#[test]
+fn a_steady_run_answers_each_line(rt: HostRuntime) {
+    assert!(rt; are_answered_steadily(&rt, rt.alloc()).unwrap_or(false));
+}
+
+// A standard error whose text is kept.
+#[derive(Drop)]
+struct Heard {
+    text: RefCell<String>,
+}
+
+impl Heard {
+    // Keeps what is shown, with this end.
+    fn keep<D: Display + Drop>(&self, value: D, end: &str) -> io::Result<()> {
+        match self.text.try_borrow_mut() {
+            Ok(mut text) => match write!(text, "{value}{end}") {
+                Ok(()) => Ok(()),
+                Err(_) => Err(io::Error::from(ErrorKind::OutOfMemory)),
+            },
+            Err(_) => Err(io::Error::from(ErrorKind::Other)),
+        }
+    }
+}
+
+impl Eprint for Heard {
+    fn eprint<D: Display + Drop>(&self, value: D) -> io::Result<()> {
+        self.keep(value, "")
+    }
+
+    fn eprintln<D: Display + Drop>(&self, value: D) -> io::Result<()> {
+        self.keep(value, "\n")
+    }
+}
+
+// What is said of each status on standard error.
+static SAID: [(Status, &str); 12] = [
+    (Status::Done, ""),
     (
         Status::Usage,
-        Some("rose: usage: rose run | rose check | rose gen N START"),
+        "rose: usage: rose run | rose check | rose gen N START\n",
     ),
-    (Status::SourceFault, Some("rose: source fault")),
-    (Status::SinkFault, Some("rose: sink fault")),
-    (Status::DiskFault, Some("rose: disk fault")),
-    (Status::NoMemory, Some("rose: no memory")),
-    (Status::InputLimit, Some("rose: input limit")),
+    (Status::SourceFault, "rose: source fault\n"),
+    (Status::SinkFault, "rose: sink fault\n"),
+    (Status::DiskFault, "rose: disk fault\n"),
+    (Status::NoMemory, "rose: no memory\n"),
+    (Status::InputLimit, "rose: input limit\n"),
+    (
+        Status::Damaged(Damage::Digest {
+            file: FileName::B,
+            page: 12,
+            kept: [10; 32],
+            found: [240; 32],
+        }),
+        "rose: damaged: file b page 12 \
+         kept 0a0a0a0a0a0a0a0a0a0a0a0a0a0a0a0a0a0a0a0a0a0a0a0a0a0a0a0a0a0a0a0a \
+         found f0f0f0f0f0f0f0f0f0f0f0f0f0f0f0f0f0f0f0f0f0f0f0f0f0f0f0f0f0f0f0f0\n",
+    ),
+    (
+        Status::Damaged(Damage::BadPage {
+            file: FileName::A,
+            page: 0,
+        }),
+        "rose: damaged: file a page 0\n",
+    ),
+    (
+        Status::Damaged(Damage::BadSnapshot { file: FileName::B }),
+        "rose: damaged: file b snapshot\n",
+    ),
+    (
+        Status::Damaged(Damage::BadRecord {
+            file: FileName::A,
+            number: 7,
+        }),
+        "rose: damaged: file a record 7\n",
+    ),
+    (
+        Status::Damaged(Damage::Twins { generation: 3 }),
+        "rose: damaged: twins 3\n",
+    ),
 ];
+
+// Whether this is said of the status.
+fn is_said(alloc: Global, status: Status, text: &str) -> bool {
+    let heard = Heard {
+        text: RefCell::new(String::new(alloc)),
+    };
+    say(&heard, status);
+    match heard.text.try_borrow() {
+        Ok(said) => said.as_str() == text,
+        Err(_) => false,
+    }
+}
 
 #[test]
 fn each_status_but_done_has_its_line(rt: HostRuntime) {
-    for (status, line) in SAID.iter() {
+    for (status, text) in SAID.iter() {
         let number = status.number();
-        assert!(rt; message_of(*status) == *line, "at {number}");
+        assert!(rt; is_said(rt.alloc(), *status, text), "at {number}: {text}");
     }
 }
 
@@ -218,28 +313,23 @@ fn each_status_but_done_has_its_line(rt: HostRuntime) {
 fn exits_with<R: Threads + Sync>(
     rt: &R,
     alloc: Global,
-    words: Result<Vec<String>, WordsError>,
+    words: &str,
     number: u8,
 ) -> Result<bool, NoMemory> {
     let mut place = place_of(alloc, "realm\n", b"", &[1])?;
-    let status = perform(rt, alloc, words, &mut place.world);
+    let status = run_words(rt, alloc, words, &mut place.world)?;
     Ok(exit_of(status) == ExitCode::from(number))
-}
-
-// Whether it exits so with its own words, with words that aren't text, and without memory for them.
-fn exits_by_words<R: Threads + Sync>(rt: &R, alloc: Global) -> Result<bool, NoMemory> {
-    let mut words = Vec::new(alloc);
-    words.push(String::from_str(alloc, "run")?)?;
-    Ok(
-        exits_with(rt, alloc, Ok(words), 4)?
-            && exits_with(rt, alloc, Err(WordsError::NotText), 1)?
-            && exits_with(rt, alloc, Err(WordsError::NoMemory), 6)?,
-    )
 }
 
 #[test]
 fn the_program_ends_with_the_number_of_its_status(rt: HostRuntime) {
-    assert!(rt; exits_by_words(&rt, rt.alloc()).unwrap_or(false));
+    assert!(rt; exits_with(&rt, rt.alloc(), "run", 4).unwrap_or(false));
     assert!(rt; exit_of(Status::SourceFault) == ExitCode::from(2));
     assert!(rt; exit_of(Status::SinkFault) == ExitCode::from(3));
+}
+
+#[test]
+fn words_that_are_not_known_end_the_program(rt: HostRuntime) {
+    assert!(rt; exit_of(status_without_words(WordsError::NotText)) == ExitCode::from(1));
+    assert!(rt; exit_of(status_without_words(WordsError::NoMemory)) == ExitCode::from(6));
 }

@@ -1,4 +1,7 @@
-//! Runs in worlds in memory.
+//! Runs in worlds in memory, each on a world of its own: no call is made on one in which a call has failed.
+ghost use Rattle.std.specs.Prelude.{◌≡◌, false, IfOk};
+ghost use Rattle.outside_world.specs.Memory.{has_failed};
+
 use grid_base::NoMemory;
 use outside_world::{Leave, MemoryWorld};
 use realm_store::{Damage, StartError, Store};
@@ -25,7 +28,9 @@ pub(crate) fn place_of(
     input: &str,
     file: &[u8],
     failing: &[u64],
-) -> Result<Place, NoMemory> {
+) -> Result<Place, NoMemory>
+    ensures intact { IfOk result (λ place. has_failed place.world ≡ false) }
+{
     place_of_two(alloc, input, file, b"", failing)
 }
 
@@ -36,7 +41,9 @@ pub(crate) fn place_of_two(
     a: &[u8],
     b: &[u8],
     failing: &[u64],
-) -> Result<Place, NoMemory> {
+) -> Result<Place, NoMemory>
+    ensures intact { IfOk result (λ place. has_failed place.world ≡ false) }
+{
     let input = Vec::from_slice(alloc, input.as_bytes())?;
     let a = Vec::from_slice(alloc, a)?;
     let b = Vec::from_slice(alloc, b)?;
@@ -46,7 +53,9 @@ pub(crate) fn place_of_two(
 }
 
 /// A world with this input and two empty files, whose takes and gives move one byte.
-pub(crate) fn place_byte_by_byte(alloc: Global, input: &str) -> Result<Place, NoMemory> {
+pub(crate) fn place_byte_by_byte(alloc: Global, input: &str) -> Result<Place, NoMemory>
+    ensures intact { IfOk result (λ place. has_failed place.world ≡ false) }
+{
     let input = Vec::from_slice(alloc, input.as_bytes())?;
     let (a, b) = (Vec::new(alloc), Vec::new(alloc));
     let world = MemoryWorld::in_pieces(alloc, input, a, b, Vec::new(alloc), 1)?;
@@ -59,7 +68,9 @@ pub(crate) fn run_words<R: Threads + Sync>(
     alloc: Global,
     text: &str,
     world: &mut MemoryWorld,
-) -> Result<Status, NoMemory> {
+) -> Result<Status, NoMemory>
+    requires intact { has_failed world.old ≡ false }
+{
     let mut words = Vec::new(alloc);
     for word in text.split_whitespace() {
         words.push(String::from_str(alloc, word)?)?;
@@ -73,7 +84,9 @@ pub(crate) fn serve_within<R: Threads + Sync>(
     alloc: Global,
     world: &mut MemoryWorld,
     budget: u64,
-) -> Status {
+) -> Status
+    requires intact { has_failed world.old ≡ false }
+{
     match Store::start(rt, alloc, world) {
         Ok(mut store) => serve(rt, alloc, &mut store, world, budget),
         Err(_) => Status::DiskFault,
@@ -88,7 +101,9 @@ pub(crate) fn look_at_run<R: Threads + Sync + Abort>(
     world: &mut MemoryWorld,
     given: &str,
     number: u8,
-) -> Result<(), NoMemory> {
+) -> Result<(), NoMemory>
+    requires intact { has_failed world.old ≡ false }
+{
     let status = run_words(rt, alloc, words, world)?;
     assert_eq!(rt; status.number(), number, "at {words:?} for {given:?}");
     assert_eq!(rt; world.given(), given.as_bytes(), "at {words:?}");
@@ -119,7 +134,9 @@ pub(crate) fn told<R: Threads + Sync>(rt: &R, alloc: Global, a: &[u8], b: &[u8])
 }
 
 // What a start there tells.
-fn told_by<R: Threads + Sync>(rt: &R, alloc: Global, world: &mut MemoryWorld) -> (u8, u64) {
+fn told_by<R: Threads + Sync>(rt: &R, alloc: Global, world: &mut MemoryWorld) -> (u8, u64)
+    requires intact { has_failed world.old ≡ false }
+{
     match Store::start(rt, alloc, world) {
         Ok(store) => (0, store.state().changes()),
         Err(StartError::Damaged(Damage::BadPage { page, .. })) => (5, page),

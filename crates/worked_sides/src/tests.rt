@@ -1,13 +1,14 @@
-//! The sides of the sides of nested squares, by a sweep whose calls are counted, and by threads.
+//! The sides of the sides of nested squares, by a sweep whose calls are counted, and by threads; and jobs that threads answer.
 ghost use Rattle.std.specs.Prelude.{◌≡◌};
 
 use crate::are_one_realm;
 use crate::counting::Counting;
+use crate::letters::Letters;
 use crate::squares::{all_sides_of_squares, region, wanted};
-use grid_base::{Segment, Sides, Steps};
+use grid_base::{NoMemory, Segment, Sides, Steps};
 use plane_sweep::all_sides_by;
 use rose_values::RegionsValue;
-use side_parallel::sides_of_all;
+use side_parallel::{answer_all, sides_of_all};
 use std::alloc::Global;
 use std::cell::Cell;
 use std::marker::Brand;
@@ -101,4 +102,19 @@ fn threads_tell_the_same(rt: HostRuntime) {
             "no memory"
         );
     }
+}
+
+// Three jobs are answered, each in its place.
+fn look_at_jobs<R: Threads + Sync + Abort>(rt: &R, alloc: Global) -> Result<(), NoMemory> {
+    let replies = answer_all(rt, alloc, &Letters { alloc }, 3)?;
+    assert_eq!(rt; replies.len(), 3);
+    for (reply, wanted) in replies.iter().zip(["a", "b", "c"]) {
+        assert!(rt; reply.bytes() == wanted.as_bytes());
+    }
+    Ok(())
+}
+
+#[test]
+fn jobs_are_answered_in_order(rt: HostRuntime) {
+    assert!(rt; look_at_jobs(&rt, rt.alloc()).is_ok(), "no memory");
 }

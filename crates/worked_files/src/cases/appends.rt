@@ -1,5 +1,6 @@
 //! Appends, scans and gates over worlds in memory. The record is the example of docs/formats/RECORDS.md; what
 //! each crash leaves was written down by hand.
+ghost use Rattle.std.specs.Prelude.{◌≡◌, false, OnOk};
 
 use crate::paper::{LEAVES, POINT, world_on};
 use outside_world::{FileName, Leave, MemoryWorld, Outside};
@@ -31,21 +32,31 @@ fn prepared(alloc: Global) -> Result<Prepared, Fail> {
 }
 
 // Three calls that shut the first gate, and four that append behind it.
-fn shut_and_append<W: Outside>(world: &mut W, p: &Prepared) -> Result<u64, JournalError> {
+fn shut_and_append<W: Outside>(world: &mut W, p: &Prepared) -> Result<u64, JournalError>
+    requires intact { W.failed world.old ≡ false }
+{
     shut_gate(world, FileName::A, 0)?;
     append(world, FileName::A, 0, p)
 }
 
-fn shut_and_append_block<W: Outside>(world: &mut W, block: &Block) -> Result<u64, JournalError> {
+fn shut_and_append_block<W: Outside>(world: &mut W, block: &Block) -> Result<u64, JournalError>
+    requires intact { W.failed world.old ≡ false }
+    ensures intact { OnOk result (W.failed world.new ≡ false) }
+{
     shut_gate(world, FileName::A, 0)?;
     append_block(world, FileName::A, 0, block)
 }
 
-// How many records a scan finds in a file with these bytes, where it ends, and whether at an open gate.
-fn found_in(alloc: Global, bytes: &[u8]) -> Result<(usize, u64, bool), Fail> {
+// How many records a scan finds in a file with these bytes, from a place on, where it ends, and whether at an
+// open gate.
+fn found_from(alloc: Global, bytes: &[u8], at: u64) -> Result<(usize, u64, bool), Fail> {
     let mut world = world_on(alloc, bytes, &[], &[])?;
-    let found = scan(alloc, &mut world, FileName::A, 0)?;
-    Ok((found.list.len(), found.end, found.bad))
+    let found = scan(alloc, &mut world, FileName::A, at)?;
+    Ok((found.list.items().len(), found.end, found.bad))
+}
+
+fn found_in(alloc: Global, bytes: &[u8]) -> Result<(usize, u64, bool), Fail> {
+    found_from(alloc, bytes, 0)
 }
 
 // What is found after so many calls, where the crash leaves that.
@@ -118,10 +129,11 @@ fn a_text_stands_between_its_gates(rt: HostRuntime) -> Result<(), Fail> {
     let mut begun = begin_block(alloc, 4)?;
     begun.extend_from_slice(b"text")?;
     let block = Block::close(begun)?;
-    assert_eq!(rt; shut_and_append_block(&mut world, &block), Ok(5));
+    assert_eq!(rt; shut_and_append_block(&mut world, &block)?, 5);
     let file = read_from(alloc, &mut world, FileName::A, 0)?;
     assert_eq!(rt; file.as_slice(), b"\xa5text\0".as_slice());
     for (at, wanted) in [(5, b"\0".as_slice()), (6, b""), (7, b"")] {
+        assert!(rt; !world.has_failed());
         let rest = read_from(alloc, &mut world, FileName::A, at)?;
         assert_eq!(rt; rest.as_slice(), wanted, "from {at} on");
     }
@@ -148,6 +160,17 @@ fn a_scan_ends_at_the_first_gate_with_no_record(rt: HostRuntime) -> Result<(), F
     Ok(())
 }
 
+// A file of one byte more than a record, and where nothing stands behind the place, nothing is found.
+#[test]
+fn no_record_stands_behind_the_end(rt: HostRuntime) -> Result<(), Fail> {
+    let file = records_behind(rt.alloc(), b"\xa5\0", 37)?;
+    for at in [38, 39, 40, 9_223_372_036_854_775_808, u64::MAX] {
+        let found = found_from(rt.alloc(), &file, at)?;
+        assert_eq!(rt; found, (0, at, false), "from {at} on");
+    }
+    Ok(())
+}
+
 // What a file holds, and again with its first gate shut, and how many calls that took: a read, a sync, and a
 // write where the gate is missing or open.
 #[test]
@@ -162,7 +185,7 @@ fn a_gate_that_reads_as_closed_is_not_written(rt: HostRuntime) -> Result<(), Fai
     let alloc = rt.alloc();
     for (before, after, calls) in table {
         let mut world = world_on(alloc, before, &[], &[])?;
-        assert_eq!(rt; shut_gate(&mut world, FileName::A, 0), Ok(()));
+        shut_gate(&mut world, FileName::A, 0)?;
         assert_eq!(rt; world.calls(), calls, "{before:?}");
         let file = read_from(alloc, &mut world, FileName::A, 0)?;
         assert_eq!(rt; file.as_slice(), after, "{before:?}");

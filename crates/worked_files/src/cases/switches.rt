@@ -1,30 +1,29 @@
 //! Switches and readings over worlds in memory. The sizes and places are those of docs/formats/FILES.md; what is
 //! told of each file was worked out by hand.
+ghost use Rattle.std.specs.Prelude.{◌≡◌, false};
+ghost use Rattle.outside_world.specs.Memory.{has_failed};
 
-use crate::paper::{LEAVES, world_on};
+use crate::paper::{LEAVES, TWO_ORIGINALS, world_on};
 use outside_world::{FileName, Leave, MemoryWorld};
 use realm_pages::{Damage, PagesError, newest, prepare_pages, switch_to};
 use std::alloc::Global;
 use std::test::Fail;
 
-// A payload of so many bytes.
-fn payload_of(alloc: Global, size: usize) -> Result<Vec<u8>, Fail> {
-    let mut payload = Vec::new(alloc);
-    payload.resize(size, 7)?;
-    Ok(payload)
-}
+// The payload of no state.
+const NO_STATE: [u8; 225] = [7; 225];
 
-// Puts generation 1 or 2, with a payload of so many bytes, on file A or B.
+// Puts generation 1 or 2 with this payload on file A or B.
 fn switched(
     alloc: Global,
     world: &mut MemoryWorld,
     file: FileName,
     second: bool,
-    size: usize,
-) -> Result<u64, Fail> {
-    let payload = payload_of(alloc, size)?;
+    payload: &[u8],
+) -> Result<u64, Fail>
+    requires intact { has_failed world.old ≡ false }
+{
     let generation = if second { 2 } else { 1 };
-    let p = prepare_pages(alloc, generation, &payload)?;
+    let p = prepare_pages(alloc, generation, payload)?;
     Ok(switch_to(world, file, &p)?)
 }
 
@@ -33,30 +32,28 @@ fn files_of(world: &MemoryWorld) -> Result<(Vec<u8>, Vec<u8>), Fail> {
     Ok(world.images(world.calls(), Leave::New)?)
 }
 
-// A file with generation 1 or 2 and a payload of so many bytes, and the place of its first record's gate.
-fn file_with(alloc: Global, second: bool, size: usize) -> Result<(Vec<u8>, u64), Fail> {
+// A file with generation 1 or 2 and this payload, and the place of its first record's gate.
+fn file_with(alloc: Global, second: bool, payload: &[u8]) -> Result<(Vec<u8>, u64), Fail> {
     let mut world = world_on(alloc, b"?", &[], &[])?;
-    let gate = switched(alloc, &mut world, FileName::A, second, size)?;
+    let gate = switched(alloc, &mut world, FileName::A, second, payload)?;
     let (a, _) = files_of(&world)?;
     Ok((a, gate))
 }
 
-// File A of generation 1 with no byte of payload, and file B of generation 2 with 225 bytes.
+// File A of generation 1 with no byte of payload, and file B of generation 2 with the state of two changes.
 fn two_files(alloc: Global) -> Result<(Vec<u8>, Vec<u8>), Fail> {
-    let (a, _) = file_with(alloc, false, 0)?;
-    let (b, _) = file_with(alloc, true, 225)?;
+    let (a, _) = file_with(alloc, false, &[])?;
+    let (b, _) = file_with(alloc, true, &TWO_ORIGINALS)?;
     Ok((a, b))
 }
 
-// What is told of two files: a word, and two numbers that show it.
-fn told(alloc: Global, world: &mut MemoryWorld) -> (&'static str, u64, u64) {
+// What is told of two files: a word, and two numbers that show it. Of a state the second is that of its changes.
+fn told(alloc: Global, world: &mut MemoryWorld) -> (&'static str, u64, u64)
+    requires intact { has_failed world.old ≡ false }
+{
     match newest(alloc, world) {
         Ok(None) => ("none", 0, 0),
-        Ok(Some(found)) => (
-            letter(found.file),
-            found.generation,
-            found.payload.len() as u64,
-        ),
+        Ok(Some(found)) => (letter(found.file), found.generation, found.snapshot.changes),
         Err(PagesError::Disk) => ("disk", 0, 0),
         Err(PagesError::NoMemory) => ("memory", 0, 0),
         Err(PagesError::Damaged(damage)) => told_of(&damage),
@@ -74,7 +71,8 @@ fn told_of(damage: &Damage) -> (&'static str, u64, u64) {
             file: FileName::B,
             page,
         } => ("page B", page, 0),
-        Damage::BadSnapshot { .. } => ("snapshot", 0, 0),
+        Damage::BadSnapshot { file: FileName::A } => ("snapshot A", 0, 0),
+        Damage::BadSnapshot { file: FileName::B } => ("snapshot B", 0, 0),
         Damage::BadRecord { number, .. } => ("record", number, 0),
         Damage::Twins { generation } => ("twins", generation, 0),
     }
@@ -89,7 +87,9 @@ fn letter(file: FileName) -> &'static str {
 
 // The length of a file that holds a payload of so many bytes, and the place of its first record's gate.
 fn sizes_of(alloc: Global, size: usize) -> Result<(usize, u64), Fail> {
-    let (file, gate) = file_with(alloc, false, size)?;
+    let mut payload = Vec::new(alloc);
+    payload.resize(size, 7)?;
+    let (file, gate) = file_with(alloc, false, &payload)?;
     Ok((file.len(), gate))
 }
 
@@ -138,14 +138,14 @@ fn told_after(
 fn the_fault_that_decides_is_told(rt: HostRuntime) -> Result<(), Fail> {
     let table = [
         // nothing is changed, and then what stands where no byte is read
-        (FileName::A, 9_000, 9_000, 0, ("B", 2, 225)),
-        (FileName::A, 9_000, 4_096, 165, ("B", 2, 225)),
-        (FileName::B, 9_000, 8_192, 165, ("B", 2, 225)),
-        (FileName::B, 8_192, 9_000, 0, ("B", 2, 225)),
+        (FileName::A, 9_000, 9_000, 0, ("B", 2, 2)),
+        (FileName::A, 9_000, 4_096, 165, ("B", 2, 2)),
+        (FileName::B, 9_000, 8_192, 165, ("B", 2, 2)),
+        (FileName::B, 8_192, 9_000, 0, ("B", 2, 2)),
         // files that don't count
         (FileName::B, 9_000, 0, 0, ("A", 1, 0)),
         (FileName::B, 1, 9_000, 0, ("A", 1, 0)),
-        (FileName::A, 1, 9_000, 0, ("B", 2, 225)),
+        (FileName::A, 1, 9_000, 0, ("B", 2, 2)),
         // heads
         (FileName::A, 2, 9_000, 0, ("page A", 0, 0)),
         (FileName::A, 9_000, 1, 0, ("page A", 0, 0)),
@@ -170,11 +170,42 @@ fn the_fault_that_decides_is_told(rt: HostRuntime) -> Result<(), Fail> {
     Ok(())
 }
 
+// What is told of two files with these payloads, of which B is cut off at a place.
+fn told_of_payloads(
+    alloc: Global,
+    a: &[u8],
+    b: &[u8],
+    cut: usize,
+) -> Result<(&'static str, u64, u64), Fail> {
+    let (a, _) = file_with(alloc, false, a)?;
+    let (mut b, _) = file_with(alloc, true, b)?;
+    b.truncate(cut);
+    let mut world = world_on(alloc, &a, &b, &[])?;
+    Ok(told(alloc, &mut world))
+}
+
+// Pages come first, and the payload of the older file isn't looked at.
+#[test]
+fn a_payload_of_no_state_is_told(rt: HostRuntime) -> Result<(), Fail> {
+    let table: [(&[u8], &[u8], usize, (&str, u64, u64)); 5] = [
+        (&[], &NO_STATE, 9_000, ("snapshot B", 0, 0)),
+        (&NO_STATE, &NO_STATE, 1, ("snapshot A", 0, 0)),
+        (&NO_STATE, &NO_STATE, 8_191, ("page B", 1, 0)),
+        (&NO_STATE, &TWO_ORIGINALS, 9_000, ("B", 2, 2)),
+        (&NO_STATE, &[], 9_000, ("B", 2, 0)),
+    ];
+    for (a, b, cut, wanted) in table {
+        let found = told_of_payloads(rt.alloc(), a, b, cut)?;
+        assert_eq!(rt; found, wanted, "B cut at {cut}");
+    }
+    Ok(())
+}
+
 // What is told after so many calls of a switch of file B, where the crash leaves that.
 fn told_during(alloc: Global, moment: u64, leave: Leave) -> Result<(&'static str, u64, u64), Fail> {
     let (a, _) = two_files(alloc)?;
     let mut world = world_on(alloc, &a, b"\xa5old", &[])?;
-    switched(alloc, &mut world, FileName::B, true, 225)?;
+    switched(alloc, &mut world, FileName::B, true, &TWO_ORIGINALS)?;
     if moment > world.calls() {
         return Err(Fail::new("no such moment"));
     }
@@ -188,7 +219,7 @@ fn told_during(alloc: Global, moment: u64, leave: Leave) -> Result<(&'static str
 fn a_switch_is_whole_or_absent_at_each_moment(rt: HostRuntime) -> Result<(), Fail> {
     let bad = ("page B", 0, 0);
     let first = ("A", 1, 0);
-    let second = ("B", 2, 225);
+    let second = ("B", 2, 2);
     let table = [
         (1, [bad, bad, bad, bad]),
         // gate 0 is written closed, and then synced
@@ -224,7 +255,7 @@ fn three_calls_find_the_newest(rt: HostRuntime) -> Result<(), Fail> {
         (1, (("disk", 0, 0), 1)),
         (2, (("disk", 0, 0), 2)),
         (3, (("disk", 0, 0), 3)),
-        (4, (("B", 2, 225), 3)),
+        (4, (("B", 2, 2), 3)),
     ];
     for (call, wanted) in table {
         let found = told_with_fault(rt.alloc(), call)?;

@@ -1,52 +1,84 @@
-//! Sessions with worlds in memory, whose answers were written down by hand.
+//! Sessions with worlds in memory, whose answers were written down by hand. A fault ends each.
+ghost use Rattle.std.specs.Prelude.{◌≡◌, false};
+ghost use Rattle.outside_world.specs.Memory.{has_failed};
 
 use outside_world::{Failed, FileName, Leave, MemoryWorld, Outside, SteadyWorld};
 use std::test::Fail;
 
 /// A call, and what it must answer: the bytes that it took, or how many it gave. None stands for a
-/// fault.
+/// fault, which ends the session.
 #[derive(Clone, Copy)]
 enum Step {
     Take(usize, Option<&'static [u8]>),
     Give(&'static [u8], Option<usize>),
 }
 
+/// The numbers of the calls that fail, the calls, and what they gave. The input has six bytes.
+type Session = (&'static [u64], &'static [Step], &'static [u8]);
+
+static SESSIONS: [Session; 3] = [
+    (
+        &[2],
+        &[Step::Take(4, Some(b"abcd")), Step::Take(4, None)],
+        b"",
+    ),
+    (
+        &[7, 5, 7],
+        &[
+            Step::Take(4, Some(b"abcd")),
+            Step::Take(0, Some(b"")),
+            Step::Give(b"xy", Some(2)),
+            Step::Take(3, Some(b"ef")),
+            Step::Give(b"z", None),
+        ],
+        b"xy",
+    ),
+    (
+        &[],
+        &[
+            Step::Take(4, Some(b"abcd")),
+            Step::Take(3, Some(b"ef")),
+            Step::Take(3, Some(b"")),
+            Step::Give(b"xy", Some(2)),
+            Step::Give(b"", Some(0)),
+            Step::Give(b"zw", Some(2)),
+        ],
+        b"xyzw",
+    ),
+];
+
 #[test]
 fn calls_move_bytes_and_fail_by_their_numbers(rt: HostRuntime) -> Result<(), Fail> {
-    let steps = [
-        Step::Take(4, Some(b"abcd")),
-        Step::Take(4, None),
-        Step::Take(0, Some(b"")),
-        Step::Take(3, Some(b"ef")),
-        Step::Take(3, Some(b"")),
-        Step::Give(b"xy", Some(2)),
-        Step::Give(b"z", None),
-        Step::Give(b"", Some(0)),
-        Step::Give(b"zw", Some(2)),
-    ];
     let alloc = rt.alloc();
-    let input = b"abcdef".to_vec(alloc)?;
-    let failing = vec![in alloc; 7, 2, 7]?;
-    let mut world = MemoryWorld::new(alloc, input, Vec::new(alloc), Vec::new(alloc), failing)?;
-    let mut buf = [0; 4];
-    for (place, step) in steps.iter().enumerate() {
-        match *step {
-            Step::Take(room, wanted) => {
-                assert!(rt; room <= buf.len());
-                let taken = match world.take(&mut buf[..room]) {
-                    Ok(size) => Some(&buf[..size]),
-                    Err(Failed) => None,
-                };
-                assert_eq!(rt; taken, wanted, "at place {place}");
-            }
-            Step::Give(bytes, wanted) => {
-                assert_eq!(rt; world.give(bytes).ok(), wanted, "at place {place}");
+    for (failing, steps, given) in SESSIONS.iter() {
+        let input = b"abcdef".to_vec(alloc)?;
+        let failing = failing.to_vec(alloc)?;
+        let mut world = MemoryWorld::new(alloc, input, Vec::new(alloc), Vec::new(alloc), failing)?;
+        for (place, step) in steps.iter().enumerate() {
+            assert!(rt; !world.has_failed(), "before place {place}");
+            assert!(rt; answers(&mut world, step), "at place {place}");
+        }
+        assert_eq!(rt; world.given(), *given);
+        assert_eq!(rt; world.calls(), steps.len() as u64);
+    }
+    Ok(())
+}
+
+// Whether the call answers what it must.
+fn answers(world: &mut MemoryWorld, step: &Step) -> bool
+    requires intact { has_failed world.old ≡ false }
+{
+    match *step {
+        Step::Take(room, wanted) => {
+            let mut buf = [0; 4];
+            let room = room.min(buf.len());
+            match world.take(&mut buf[..room]) {
+                Ok(size) => wanted == Some(&buf[..size]),
+                Err(Failed) => wanted.is_none(),
             }
         }
+        Step::Give(bytes, wanted) => world.give(bytes).ok() == wanted,
     }
-    assert_eq!(rt; world.given(), b"xyzw".as_slice());
-    assert_eq!(rt; world.calls(), 9);
-    Ok(())
 }
 
 #[test]
@@ -63,60 +95,126 @@ fn a_take_and_a_give_move_a_piece(rt: HostRuntime) -> Result<(), Fail> {
         2,
     )?;
     let mut buf = [0; 4];
-    assert_eq!(rt; world.take(&mut buf), Ok(2));
+    assert_eq!(rt; world.take(&mut buf)?, 2);
     assert_eq!(rt; &buf[..2], b"ab".as_slice());
-    assert_eq!(rt; world.take(&mut buf), Ok(1));
-    assert_eq!(rt; world.take(&mut buf), Ok(0));
-    assert_eq!(rt; world.give(b"xyz"), Ok(2));
+    assert_eq!(rt; world.take(&mut buf)?, 1);
+    assert_eq!(rt; world.take(&mut buf)?, 0);
+    assert_eq!(rt; world.give(b"xyz")?, 2);
     assert_eq!(rt; world.given(), b"xy".as_slice());
     Ok(())
 }
 
-// What a crash leaves of file A after so many of these calls: a write past the end of an empty file,
-// a sync, a write over a part, one that fails, and a sync that fails.
+#[test]
+fn a_file_reads_as_it_was_written(rt: HostRuntime) -> Result<(), Fail> {
+    let alloc = rt.alloc();
+    let failing = Vec::new(alloc);
+    let mut world = MemoryWorld::new(
+        alloc,
+        Vec::new(alloc),
+        Vec::new(alloc),
+        Vec::new(alloc),
+        failing,
+    )?;
+    world.write_at(FileName::A, 0, b"abcd")?;
+    world.write_at(FileName::A, 0, b"xy")?;
+    assert_eq!(rt; world.size(FileName::B)?, 0);
+    assert_eq!(rt; world.size(FileName::A)?, 4);
+    let mut buf = [0; 8];
+    let size = world.read_at(FileName::A, 1, &mut buf)?;
+    assert_eq!(rt; &buf[..size], b"ycd".as_slice());
+    Ok(())
+}
+
+/// A call on file A: a write over its front, or a sync.
+#[derive(Clone, Copy)]
+enum Change {
+    Write(&'static [u8]),
+    Sync,
+}
+
+/// Calls on an empty file, the number of the one that fails, and what a crash leaves of the file after so many
+/// of them.
+type Crashes = (
+    &'static [Change],
+    &'static [u64],
+    &'static [(u64, Leave, &'static [u8])],
+);
+
+static CRASHES: [Crashes; 3] = [
+    (
+        &[
+            Change::Write(b"abcd"),
+            Change::Sync,
+            Change::Write(b"xy"),
+            Change::Write(b"123456"),
+        ],
+        &[4],
+        &[
+            (0, Leave::Fill(b'!'), b""),
+            (1, Leave::Old, b""),
+            (1, Leave::New, b"abcd"),
+            (1, Leave::Fill(b'!'), b"!!!!"),
+            (2, Leave::Old, b"abcd"),
+            (2, Leave::Fill(b'!'), b"abcd"),
+            (3, Leave::Old, b"abcd"),
+            (3, Leave::New, b"xycd"),
+            (3, Leave::Fill(b'!'), b"!!cd"),
+            (4, Leave::New, b"xycd"),
+            (4, Leave::Fill(b'!'), b"!!!!!!"),
+        ],
+    ),
+    (
+        &[
+            Change::Write(b"abcd"),
+            Change::Sync,
+            Change::Write(b"xy"),
+            Change::Sync,
+        ],
+        &[4],
+        &[
+            (4, Leave::Old, b"abcd"),
+            (4, Leave::New, b"xycd"),
+            (4, Leave::Fill(b'!'), b"!!cd"),
+        ],
+    ),
+    (
+        &[
+            Change::Write(b"abcd"),
+            Change::Sync,
+            Change::Write(b"xy"),
+            Change::Sync,
+        ],
+        &[],
+        &[(4, Leave::Old, b"xycd"), (4, Leave::Fill(b'!'), b"xycd")],
+    ),
+];
+
 #[test]
 fn a_crash_leaves_what_was_synced_and_any_bytes_of_what_was_written(
     rt: HostRuntime,
 ) -> Result<(), Fail> {
     let alloc = rt.alloc();
-    let failing = vec![in alloc; 4, 5]?;
-    let b = b"other".to_vec(alloc)?;
-    let mut world = MemoryWorld::new(alloc, Vec::new(alloc), Vec::new(alloc), b, failing)?;
-    assert_eq!(rt; world.write_at(FileName::A, 0, b"abcd"), Ok(()));
-    assert_eq!(rt; world.sync(FileName::A), Ok(()));
-    assert_eq!(rt; world.write_at(FileName::A, 0, b"xy"), Ok(()));
-    assert_eq!(rt; world.write_at(FileName::A, 0, b"123456"), Err(Failed));
-    assert_eq!(rt; world.sync(FileName::A), Err(Failed));
-    assert_eq!(rt; world.size(FileName::A), Ok(4));
-    let mut buf = [0; 8];
-    assert_eq!(rt; world.read_at(FileName::A, 1, &mut buf), Ok(3));
-    assert_eq!(rt; &buf[..3], b"ycd".as_slice());
-    assert_eq!(rt; world.sync(FileName::A), Ok(()));
-    let cases = [
-        (0, Leave::Fill(b'!'), b"".as_slice()),
-        (1, Leave::Old, b"".as_slice()),
-        (1, Leave::New, b"abcd".as_slice()),
-        (1, Leave::Fill(b'!'), b"!!!!".as_slice()),
-        (2, Leave::Old, b"abcd".as_slice()),
-        (2, Leave::Fill(b'!'), b"abcd".as_slice()),
-        (3, Leave::Old, b"abcd".as_slice()),
-        (3, Leave::New, b"xycd".as_slice()),
-        (3, Leave::Fill(b'!'), b"!!cd".as_slice()),
-        (4, Leave::New, b"xycd".as_slice()),
-        (4, Leave::Fill(b'!'), b"!!!!!!".as_slice()),
-        (7, Leave::Old, b"abcd".as_slice()),
-        (8, Leave::Old, b"xycd".as_slice()),
-        (8, Leave::Fill(b'!'), b"xycd".as_slice()),
-    ];
-    for (moment, leave, wanted) in cases {
-        assert!(rt; moment <= world.calls());
-        let (a, b) = world.images(moment, leave)?;
-        assert_eq!(rt; a.as_slice(), wanted, "at moment {moment}, {leave:?}");
-        assert_eq!(rt;
-            b.as_slice(),
-            b"other".as_slice(),
-            "at moment {moment}, {leave:?}"
-        );
+    for (changes, failing, left) in CRASHES.iter() {
+        let failing = failing.to_vec(alloc)?;
+        let b = b"other".to_vec(alloc)?;
+        let mut world = MemoryWorld::new(alloc, Vec::new(alloc), Vec::new(alloc), b, failing)?;
+        for change in changes.iter() {
+            assert!(rt; !world.has_failed());
+            let _ = match *change {
+                Change::Write(bytes) => world.write_at(FileName::A, 0, bytes),
+                Change::Sync => world.sync(FileName::A),
+            };
+        }
+        for (moment, leave, wanted) in left.iter() {
+            assert!(rt; *moment <= world.calls());
+            let (a, b) = world.images(*moment, *leave)?;
+            assert_eq!(rt; a.as_slice(), *wanted, "at moment {moment}, {leave:?}");
+            assert_eq!(rt;
+                b.as_slice(),
+                b"other".as_slice(),
+                "at moment {moment}, {leave:?}"
+            );
+        }
     }
     Ok(())
 }

@@ -2,6 +2,7 @@
 use outside_world::{Failed, FileName, Outside};
 use process_world::{FileWorld, WordsError, letter_of, words_of};
 use std::alloc::Allocator;
+use std::cell::Cell;
 use std::env::FillError;
 use std::fmt::Display;
 use std::fs::{Metadata, OpenFile, OpenOptions, remove_file};
@@ -42,19 +43,41 @@ impl BufRead for Source {
     }
 }
 
-// A file that takes all bytes and never has them on a disk.
-#[derive(Drop)]
-struct Unsynced;
+// How far the first call on a file has come: the file was opened, then the folder, then this was synced.
+#[derive(Clone, Copy, PartialEq, Eq)]
+enum Stage {
+    Begun,
+    FileOpened,
+    FolderOpened,
+    FolderSynced,
+}
 
-impl Read for Unsynced {
+// Goes on to this stage, where the one before it has been come to.
+fn advance(stage: &Cell<Stage>, from: Stage, to: Stage) {
+    if stage.get() == from {
+        stage.set(to);
+    }
+}
+
+// What every file holds.
+const TEXT: &[u8] = b"abcdefg";
+
+// A file, or the folder. A read and a write move two bytes a call at most, and no byte comes to a disk.
+#[derive(Drop)]
+struct Fake<'a> {
+    is_folder: bool,
+    stage: &'a Cell<Stage>,
+}
+
+impl<'a> Read for Fake<'a> {
     fn read(&mut self, _buf: &mut [u8]) -> io::Result<usize> {
         Ok(0)
     }
 }
 
-impl Write for Unsynced {
+impl<'a> Write for Fake<'a> {
     fn write(&mut self, buf: &[u8]) -> io::Result<usize> {
-        Ok(buf.len())
+        Ok(buf.len().min(2))
     }
 
     fn flush(&mut self) -> io::Result<()> {
@@ -62,23 +85,26 @@ impl Write for Unsynced {
     }
 }
 
-impl Seek for Unsynced {
+impl<'a> Seek for Fake<'a> {
     fn seek(&mut self, _to: SeekFrom) -> io::Result<u64> {
         Ok(0)
     }
 }
 
-impl FileExt for Unsynced {
-    fn read_at(&self, _buf: &mut [u8], _offset: u64) -> io::Result<usize> {
-        Ok(0)
+impl<'a> FileExt for Fake<'a> {
+    fn read_at(&self, buf: &mut [u8], offset: u64) -> io::Result<usize> {
+        let begin = offset.min(TEXT.len() as u64) as usize;
+        let end = begin.saturating_add(2).min(TEXT.len());
+        let mut rest = &TEXT[begin..end];
+        rest.read(buf)
     }
 
     fn write_at(&self, buf: &[u8], _offset: u64) -> io::Result<usize> {
-        Ok(buf.len())
+        Ok(buf.len().min(2))
     }
 }
 
-impl OpenFile for Unsynced {
+impl<'a> OpenFile for Fake<'a> {
     fn metadata(&self) -> io::Result<Metadata> {
         no_file()
     }
@@ -88,6 +114,9 @@ impl OpenFile for Unsynced {
     }
 
     fn sync_all(&self) -> io::Result<()> {
+        if self.is_folder {
+            advance(self.stage, Stage::FolderOpened, Stage::FolderSynced);
+        }
         Ok(())
     }
 
@@ -96,16 +125,17 @@ impl OpenFile for Unsynced {
     }
 }
 
-// A runtime with this source, a sink that takes so many bytes a call or fails, and files that are never
-// synced, or none.
-#[derive(Clone, Copy)]
-struct Pipes(Source, Option<usize>, bool);
-
-fn world_of(given: Option<usize>, most: Option<usize>) -> FileWorld<Pipes> {
-    FileWorld::new(Pipes(Source(given), most, false))
+// A runtime with this source, a sink that takes so many bytes a call or fails, and a folder in which just the
+// file of this name can be opened or made.
+#[derive(Drop)]
+struct Pipes<'a> {
+    source: Source,
+    most: Option<usize>,
+    name: &'static str,
+    stage: &'a Cell<Stage>,
 }
 
-impl Input for Pipes {
+impl<'a> Input for Pipes<'a> {
     type Reader = Source;
 
     fn read_line<A: Allocator + Clone>(&self, _buf: &mut String<A>) -> io::Result<usize> {
@@ -113,15 +143,15 @@ impl Input for Pipes {
     }
 
     fn lines<A: Allocator>(&self, alloc: A) -> Lines<Source, A> {
-        self.0.lines(alloc)
+        self.source.lines(alloc)
     }
 
     fn reader(&self) -> Source {
-        self.0
+        self.source
     }
 }
 
-impl Print for Pipes {
+impl<'a> Print for Pipes<'a> {
     fn print<D: Display + Drop>(&self, _value: D) -> io::Result<()> {
         Ok(())
     }
@@ -135,9 +165,18 @@ impl Print for Pipes {
     }
 
     fn write_some(&self, bytes: &[u8]) -> io::Result<usize> {
-        match self.1 {
+        match self.most {
             Some(most) => Ok(most.min(bytes.len())),
             None => Err(io::Error::from(ErrorKind::BrokenPipe)),
+        }
+    }
+}
+
+impl<'a> Pipes<'a> {
+    fn opened(&self, is_folder: bool) -> Fake<'a> {
+        Fake {
+            is_folder,
+            stage: self.stage,
         }
     }
 }
@@ -146,13 +185,21 @@ fn no_file<T>() -> io::Result<T> {
     Err(io::Error::from(ErrorKind::NotFound))
 }
 
-impl Files for Pipes {
-    type File = Unsynced;
+impl<'a> Files for Pipes<'a> {
+    type File = Fake<'a>;
 
     type Dir = Source;
 
-    fn open_file(&self, _how: &OpenOptions, _path: &str) -> io::Result<Unsynced> {
-        if self.2 { Ok(Unsynced) } else { no_file() }
+    fn open_file(&self, _how: &OpenOptions, path: &str) -> io::Result<Fake<'a>> {
+        if path == "." {
+            advance(self.stage, Stage::FileOpened, Stage::FolderOpened);
+            return Ok(self.opened(true));
+        }
+        if path == self.name {
+            advance(self.stage, Stage::Begun, Stage::FileOpened);
+            return Ok(self.opened(false));
+        }
+        no_file()
     }
 
     fn open_dir(&self, _path: &str) -> io::Result<Source> {
@@ -235,16 +282,39 @@ static GIFTS: [(Option<usize>, Option<usize>); 4] = [
 
 #[test]
 fn a_give_answers_what_was_written(rt: HostRuntime) {
+    let stage = Cell::new(Stage::Begun);
     for (written, answer) in GIFTS.iter() {
-        let mut world = world_of(None, *written);
+        let mut world = FileWorld::new(Pipes {
+            source: Source(None),
+            most: *written,
+            name: "",
+            stage: &stage,
+        });
         let given = world.give(b"abc").ok();
         assert!(rt; given == *answer, "at {written:?}");
     }
 }
 
+// A world with this source, and a folder with the file of this name.
+fn world_of<'a>(
+    given: Option<usize>,
+    name: &'static str,
+    stage: &'a Cell<Stage>,
+) -> FileWorld<Pipes<'a>> {
+    FileWorld::new(Pipes {
+        source: Source(given),
+        most: None,
+        name,
+        stage,
+    })
+}
+
 // Whether a take answers so many bytes, or fails where none is wanted.
-fn takes(world: &mut FileWorld<Pipes>, wanted: Option<&[u8]>) -> bool {
+fn takes(world: &mut FileWorld<Pipes<'_>>, wanted: Option<&[u8]>) -> bool {
     let mut buf = [0; 8];
+    if world.has_failed() {
+        return false;
+    }
     match (world.take(&mut buf), wanted) {
         (Ok(count), Some(bytes)) => &buf[..count] == bytes,
         (Err(Failed), None) => true,
@@ -254,31 +324,93 @@ fn takes(world: &mut FileWorld<Pipes>, wanted: Option<&[u8]>) -> bool {
 
 #[test]
 fn a_take_answers_what_was_read(rt: HostRuntime) {
-    let mut world = world_of(Some(0), None);
+    let stage = Cell::new(Stage::Begun);
+    let mut world = world_of(Some(0), "", &stage);
     assert!(rt; takes(&mut world, Some(b"realm\n")));
     assert!(rt; takes(&mut world, Some(b"")));
-    assert!(rt; takes(&mut world_of(None, None), None));
+    assert!(rt; takes(&mut world_of(None, "", &stage), None));
 }
 
-#[test]
-fn a_sync_that_the_system_fails_is_a_failure(rt: HostRuntime) {
-    let mut world = FileWorld::new(Pipes(Source(None), None, true));
-    assert!(rt; world.write_at(FileName::A, 0, b"abc").is_ok());
-    assert!(rt; world.sync(FileName::A).is_err());
+// A call on a file.
+#[derive(Clone, Copy)]
+enum Call {
+    Size,
+    Read,
+    Write,
+    Sync,
 }
 
-#[test]
-fn a_file_that_cannot_be_opened_fails_each_call(rt: HostRuntime) {
-    let mut world = world_of(None, None);
+// How far the call comes in a folder that has a file of this name alone, and whether it succeeds.
+fn outcome(call: Call, file: FileName, name: &'static str) -> (Stage, bool) {
+    let stage = Cell::new(Stage::Begun);
+    let mut world = world_of(None, name, &stage);
+    if world.has_failed() {
+        return (Stage::Begun, false);
+    }
     let mut buf = [0; 4];
-    assert!(rt; world.size(FileName::A).is_err());
-    assert!(rt; world.read_at(FileName::A, 0, &mut buf).is_err());
-    assert!(rt; world.write_at(FileName::B, 0, b"abc").is_err());
-    assert!(rt; world.sync(FileName::B).is_err());
+    let succeeds = match call {
+        Call::Size => world.size(file).is_ok(),
+        Call::Read => world.read_at(file, 0, &mut buf).is_ok(),
+        Call::Write => world.write_at(file, 0, b"abc").is_ok(),
+        Call::Sync => world.sync(file).is_ok(),
+    };
+    (stage.get(), succeeds)
+}
+
+// The calls, and whether each succeeds on a file of which no length is known, and no byte comes to a disk.
+static CALLS: [(Call, bool); 4] = [
+    (Call::Size, false),
+    (Call::Read, true),
+    (Call::Write, true),
+    (Call::Sync, false),
+];
+
+// Each file, the name that it has, and names of other files.
+static NAMES: [(FileName, &str, [&str; 3]); 2] = [
+    (FileName::A, "realm.a", ["realm.b", "realm.A", ""]),
+    (FileName::B, "realm.b", ["realm.a", "realm.B", ""]),
+];
+
+#[test]
+fn a_file_is_opened_by_its_name_and_then_the_folder_is_synced(rt: HostRuntime) {
+    for (file, name, others) in NAMES.iter() {
+        for (call, succeeds) in CALLS.iter() {
+            assert!(rt; outcome(*call, *file, name) == (Stage::FolderSynced, *succeeds));
+            for other in others.iter() {
+                assert!(rt;
+                    outcome(*call, *file, other) == (Stage::Begun, false),
+                    "at {other}"
+                );
+            }
+        }
+    }
+}
+
+// Where a read begins, how much room it has, and what it moves. The file gives two bytes a call.
+static READS: [(u64, usize, &[u8]); 4] = [
+    (0, 7, b"abcdefg"),
+    (1, 5, b"bcdef"),
+    (3, 8, b"defg"),
+    (7, 3, b""),
+];
+
+#[test]
+fn a_read_goes_on_to_the_end_of_the_file(rt: HostRuntime) -> Result<(), Fail> {
+    for (at, room, wanted) in READS.iter() {
+        let stage = Cell::new(Stage::Begun);
+        let mut world = world_of(None, "realm.a", &stage);
+        assert!(rt; !world.has_failed());
+        let mut buf = [0; 8];
+        let room = buf.len().min(*room);
+        let count = world.read_at(FileName::A, *at, &mut buf[..room])?;
+        assert!(rt; &buf[..count] == *wanted, "at {at}");
+    }
+    Ok(())
 }
 
 // Writes to both files of the folder that the test runs in. How long the one was before.
-fn write_two(world: &mut FileWorld<HostRuntime>) -> Result<u64, Failed> {
+fn write_two(rt: HostRuntime) -> Result<u64, Failed> {
+    let mut world = FileWorld::new(rt);
     let before = world.size(FileName::A)?;
     world.write_at(FileName::A, 0, b"abcd")?;
     world.write_at(FileName::A, 2, b"xyz")?;
@@ -297,6 +429,9 @@ static WRITTEN: [(FileName, u64, &[u8]); 3] = [
 // Whether a read from this place on moves these bytes.
 fn reads(world: &mut FileWorld<HostRuntime>, file: FileName, at: u64, wanted: &[u8]) -> bool {
     let mut buf = [0; 8];
+    if world.has_failed() {
+        return false;
+    }
     match world.read_at(file, at, &mut buf) {
         Ok(count) => &buf[..count] == wanted,
         Err(Failed) => false,
@@ -307,10 +442,10 @@ fn reads(world: &mut FileWorld<HostRuntime>, file: FileName, at: u64, wanted: &[
 fn two_files_keep_what_is_written(rt: HostRuntime) -> Result<(), Fail> {
     clear(&rt);
     let copy: HostRuntime = rt.clone()?;
-    assert!(rt; write_two(&mut FileWorld::new(copy)) == Ok(0));
+    assert!(rt; write_two(copy) == Ok(0));
     let copy: HostRuntime = rt.clone()?;
     let mut world = FileWorld::new(copy);
-    assert!(rt; world.size(FileName::A) == Ok(5));
+    assert!(rt; world.size(FileName::A)? == 5);
     for (file, at, wanted) in WRITTEN.iter() {
         assert!(rt; reads(&mut world, *file, *at, wanted), "at {at}");
     }

@@ -1,6 +1,7 @@
-use Rattle.query_batch.specs.Joined.{AreJoined, IsReply}
+use Rattle.std.proofs.Common.{◌≡◌, take}
+use Rattle.std.specs.List.{concat}
 use Rattle.query_batch.proofs.joining.joined.Given as goal
 
 -- the replies so far are put together
-abbrev pub invariant-loop-answer : goal.invariant-loop-answer
-invariant-loop-answer l = AreJoined IsReply l.yielded l.bytes.items
+abbrev pub invariant-loop-reply : goal.invariant-loop-reply
+invariant-loop-reply l = l.bytes.items ≡ concat (take l.reply-index l.replies)

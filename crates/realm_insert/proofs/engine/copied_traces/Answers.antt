@@ -22,6 +22,3 @@ pub returns-clause-fits : goal.returns-clause-fits
 returns-clause-fits c =
     fits_as_list IsKeptTrace c.loop-kept.copies.items (omega (arith, c.loop-kept.copies.small, c.loop-kept.copies.ok))
     c.loop-kept.invariant.fit
-
-pub returns-clause-texts : goal.returns-clause-texts
-returns-clause-texts c = let past = c.loop-kept-test.false in rw take_all at c.loop-kept.invariant.texts

@@ -24,7 +24,7 @@ invariant_of-engine c = λ unspent.
     let (same, latest, texts) = rw c.in-Some.is at c.in_ok-listed.ensures in
     let made = rw c.in-Some-made.is at c.in_ok-made.ensures in
     begins c.args.s.now c.in-Some-made.parts.drawing c.in-Some-made.parts.index c.in-Some-made.parts.table c.in-Some.traces.items made
-    fitting same latest
+    fitting same latest texts
 
 -- and has the state
 pub returns : goal.returns

@@ -1,4 +1,4 @@
-use Rattle.std.proofs.Common.{◌≡◌, ◌+◌, ◌-◌, ◌∙◌, ℕ, List, length, take_all, All, sym, subst, arith, true≢false}
+use Rattle.std.proofs.Common.{◌-◌, ◌∙◌, length, take_all, All, sym, subst, arith, true≢false}
 use Rattle.std.proofs.lemmas.List.Elements.{All-nil, All-push}
 use Rattle.record_codec.specs.Traces.{IsTrace}
 use Rattle.realm_insert.specs.State.{AreLatest, kept_trace}

@@ -1,9 +1,7 @@
-use Rattle.std.proofs.Common.{sym, subst, ◌∙◌}
+use Rattle.std.proofs.Common.{sym, subst}
 use Rattle.grid_base.specs.Drawing.{Drawing, IsDrawnRealm}
-use Rattle.realm_drawing.specs.Chains.{AllValid}
 use Rattle.state_check.specs.Drawable.{IsDrawable}
 use Rattle.state_check.specs.Tabled.{entries_of, AreTabled}
-use Rattle.value_table.specs.Table.{NamedValues}
 use Rattle.realm_insert.proofs.restoring.restored.Goals as goal
 
 pub index_at_rest-requires : goal.index_at_rest-requires

@@ -1,17 +1,22 @@
 use Rattle.std.proofs.Common.{◌+◌, sym, subst, arith, ◌∷◌, ◌++◌, []}
 use Rattle.realm_journal.specs.Scanning.{IsScan}
-use Rattle.realm_journal.proofs.Scans.{scan_next, next_within, scans_closed, scans_bad, closed_unless, rest_of, none_begins, found_begins}
+use Rattle.realm_journal.proofs.Scans.{scan_next, next_within, scans_closed, scans_bad, scans_as, place_told}
+use Rattle.realm_journal.proofs.Scans.{closed_unless, rest_of, none_begins, found_begins}
 use Rattle.realm_journal.proofs.scanning.scan_bytes.Goals as goal
 
 -- an open gate with no record behind it
-pub returns-in-None-clause-scan : goal.returns-in-None-clause-scan
-returns-in-None-clause-scan c = λ file is.
-    let bytes = c.args.bytes.now in
-    let end = c.loop-alloc.end in
-    let opened = c.is_open.ensures.0 c.loop-alloc-test.true in
-    let decoded = c.in_ok-decode.ensures in
-    let none = none_begins _ _ (rest_of bytes (end + 1)) c.in_ok-decode.field-0 c.in-None.is decoded.only in
-    scans_bad file bytes c.args.at c.loop-alloc.list.items end is c.loop-alloc.invariant.scan opened.1 none
+pub returns-in-None : goal.returns-in-None
+returns-in-None c = record {
+  scan = λ file short is.
+      let bytes = c.args.bytes.now in
+      let end = c.loop-alloc.end in
+      let opened = c.is_open.ensures.0 c.loop-alloc-test.true in
+      let decoded = c.in_ok-decode.ensures in
+      let none = none_begins _ _ (rest_of bytes (end + 1)) c.in_ok-decode.field-0 c.in-None.is decoded.only in
+      scans_as c.new.ensures
+      (place_told file bytes c.args.at end _ (omega arith) short is c.loop-alloc.invariant.within c.saturating_add.ensures)
+      (scans_bad file bytes c.args.at c.loop-alloc.list.items end is c.loop-alloc.invariant.scan opened.1 none);
+}
 
 -- one record more
 pub loop-alloc-preserved : goal.loop-alloc-preserved
@@ -31,9 +36,13 @@ loop-alloc-preserved c =
     }
 
 -- a closed gate
-pub returns-clause-scan : goal.returns-clause-scan
-returns-clause-scan c = λ file is.
-    let bytes = c.args.bytes.now in
-    let end = c.loop-alloc.end in
-    let closed = closed_unless bytes end c.is_open.result c.is_open.ensures.1 c.loop-alloc-test.false in
-    scans_closed file bytes c.args.at c.loop-alloc.list.items end is c.loop-alloc.invariant.scan closed
+pub returns : goal.returns
+returns c = record {
+  scan = λ file short is.
+      let bytes = c.args.bytes.now in
+      let end = c.loop-alloc.end in
+      let closed = closed_unless bytes end c.is_open.result c.is_open.ensures.1 c.loop-alloc-test.false in
+      scans_as c.new-2.ensures
+      (place_told file bytes c.args.at end _ (omega arith) short is c.loop-alloc.invariant.within c.saturating_add-2.ensures)
+      (scans_closed file bytes c.args.at c.loop-alloc.list.items end is c.loop-alloc.invariant.scan closed);
+}

@@ -10,7 +10,7 @@ use Rattle.realm_pages.proofs.pages.read_pages.Goals as goal
 pub take_pages-requires-clause-count : goal.take_pages-requires-clause-count
 take_pages-requires-clause-count g c =
     let head = c.args.head.now in
-    omega (arith, fewest_once head.length head.pages c.requires.pages.0, c.min-count.ensures, c.loop-pages-test.true)
+    omega (arith, fewest_once head.length head.pages c.requires.head.pages.0, c.min-count.ensures, c.loop-pages-test.true)
 
 -- a page of the piece is at fault
 pub returns-in_err-take_pages-clause-told : goal.returns-in_err-take_pages-clause-told

@@ -1,4 +1,4 @@
-use Rattle.std.proofs.Common.{◌≡◌, ◌≤◌, ◌*◌, ◌-◌, length, min}
+use Rattle.std.proofs.Common.{◌≡◌, ◌≤◌, ◌*◌, ◌-◌, false, length, min}
 use Rattle.outside_world.specs.GoesOn.{GoesOn}
 use Rattle.realm_journal.specs.Reading.{OnlyAsks}
 use Rattle.realm_pages.specs.Files.{HoldsFirst}
@@ -7,6 +7,7 @@ use Rattle.realm_pages.proofs.pages.read_pages.Given as goal
 abbrev pub invariant-loop-pages : goal.invariant-loop-pages
 invariant-loop-pages g l = record {
   goes_on : GoesOn g.W.Outside l.fn.world l.world;
+  intact : g.W.Outside.failed l.world ≡ false;
   upto : l.pages ≤ l.head.pages;
   so_far : length l.payload.items ≡ min (4054 * l.pages) l.head.length;
   asks : g.W.Outside.tells l.world → OnlyAsks (g.W.Outside.view l.fn.world) (g.W.Outside.view l.world);

@@ -2,7 +2,7 @@ use Rattle.std.proofs.Common.{◌≡◌, subst, Err, Ok}
 use Rattle.std.proofs.lemmas.Result.{err_from_is_err_and}
 use Rattle.realm_pages.specs.Choosing.{Chosen}
 use Rattle.realm_pages.specs.Finding.{FoundNewest}
-use Rattle.realm_pages.proofs.PagesFound.{not_chosen, neither, broken, found}
+use Rattle.realm_pages.proofs.PagesFound.{not_chosen, neither, broken, bad_payload, found}
 use Rattle.realm_pages.proofs.reading.newest.Goals as goal
 
 -- a head lacks, or both files have one generation,
@@ -32,11 +32,22 @@ returns-in_err-payload-in-Some-clause-told g c = λ t.
     let same : Err c.in_err-payload-in-Some.field-0.0 ≡ c.from_residual-in_err-payload-in-Some.result = cc in
     subst (λ r. FoundNewest old (g.W.Outside.view c.read_pages.new.world) r) same (broken chosen (two.told t))
 
--- or the newest is found
-pub returns-in_ok-payload-in-Some-clause-told : goal.returns-in_ok-payload-in-Some-clause-told
-returns-in_ok-payload-in-Some-clause-told g c = λ t.
+-- or its payload is that of no state,
+pub returns-in-None-2-clause-told : goal.returns-in-None-2-clause-told
+returns-in-None-2-clause-told g c = λ t.
     let old = g.W.Outside.view c.args.world.now in
     let mid = g.W.Outside.view c.choose.new.world in
     let two = c.in_ok-payload-in-Some.ensures in
     let chosen = subst (λ o. Chosen old mid (Ok o)) c.in-Some.is (c.in_ok-choose.ensures.told (two.goes_on.tells t)) in
-    found c.in_ok-payload-in-Some.payload chosen (two.told t)
+    let read = c.in_ok-decode_snapshot-in-Some in
+    bad_payload c.in_ok-payload-in-Some.payload chosen (two.told t) _ c.deref.ensures.value read.field-0 c.in-None-2.is read.ensures.only
+
+-- or the newest is found
+pub returns-clause-told : goal.returns-clause-told
+returns-clause-told g c = λ t.
+    let old = g.W.Outside.view c.args.world.now in
+    let mid = g.W.Outside.view c.choose.new.world in
+    let two = c.in_ok-payload-in-Some.ensures in
+    let chosen = subst (λ o. Chosen old mid (Ok o)) c.in-Some.is (c.in_ok-choose.ensures.told (two.goes_on.tells t)) in
+    let read = c.in_ok-decode_snapshot-in-Some in
+    found c.in_ok-payload-in-Some.payload chosen (two.told t) _ c.deref.ensures.value read.field-0 _ c.in-Some-2.is read.ensures.found

@@ -7,5 +7,10 @@ use Rattle.rose_query.proofs.outlining.tell_region.Goals as goal
 pub returns : goal.returns
 returns c =
     IfOk-weaker c.list_faces.result _ _
-    (λ reply is. (c.in_ok-found.found.items, c.in_ok-found.ensures, is ∙ ap faces_reply c.deref.ensures.value))
+    (λ reply is. record {
+      ascending = c.segments-ascending.ensures.ascending;
+      faces = c.in_ok-found.found.items;
+      are_faces = c.in_ok-found.ensures;
+      reply_is = is ∙ ap faces_reply c.deref.ensures.value;
+    })
     c.list_faces.ensures

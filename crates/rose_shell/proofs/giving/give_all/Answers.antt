@@ -7,7 +7,7 @@ use Rattle.rose_shell.proofs.giving.give_all.Goals as goal
 pub loop-rest-preserved : goal.loop-rest-preserved
 loop-rest-preserved g c =
     let inv = c.loop-rest.invariant in
-    let ens = c.in_ok-given.ensures in
+    let ens = c.in-Ok.ensures in
     record {
       goes_on = record {
         source_faults = omega (arith, inv.goes_on.source_faults, ens.others.0);
@@ -15,6 +15,7 @@ loop-rest-preserved g c =
         disk_faults = omega (arith, inv.goes_on.disk_faults, ens.others.1);
         tells = λ t. inv.goes_on.tells (ens.still t);
       };
+      intact = ens.intact;
       no_file = ens.others.1 ∙ inv.no_file;
-      told = λ t. gave_more (take_rest c.loop-rest.rest.now c.in_ok-given.given) (inv.told (ens.still t)) (ens.told t);
+      told = λ t. gave_more (take_rest c.loop-rest.rest.now c.in-Ok.given) (inv.told (ens.still t)) (ens.told t);
     }

@@ -1,4 +1,4 @@
-use Rattle.std.proofs.Common.{inr, refl, subst, map}
+use Rattle.std.proofs.Common.{inr, refl, sym, ◌∙◌, subst, map}
 use Rattle.std.specs.Prelude.{string_bytes}
 use Rattle.command_words.specs.Written.{AreWordsOf, IsNoCommand}
 use Rattle.command_words.specs.declared.word.Word.{Word}
@@ -8,46 +8,114 @@ use Rattle.rose_shell.proofs.Results.{at_some, at_none}
 use Rattle.rose_shell.proofs.Tellings.{none_done}
 use Rattle.rose_shell.proofs.running.run.Goals as goal
 
+-- ---- the word `run`
+
 -- the words are those of the command that was read, and of no other
-pub returns-in-Ok-Some-clause-no_command : goal.returns-in-Ok-Some-clause-no_command
-returns-in-Ok-Some-clause-no_command g c = λ none.
+pub returns-in-Run-clause-no_command : goal.returns-in-Run-clause-no_command
+returns-in-Run-clause-no_command g c = λ none.
     let read = c.in-Ok-Some in
     absurd (none read.word (at_some (IsNoCommand (map string_bytes c.args.words.now)) (AreWordsOf (map string_bytes c.args.words.now))
     read.field-0-is read.ensures))
 
-pub returns-in-Ok-Some-clause-untouched : goal.returns-in-Ok-Some-clause-untouched
-returns-in-Ok-Some-clause-untouched g c = λ none.
+pub returns-in-Run-clause-untouched : goal.returns-in-Run-clause-untouched
+returns-in-Run-clause-untouched g c = λ none.
     let read = c.in-Ok-Some in
     absurd (none read.word (at_some (IsNoCommand (map string_bytes c.args.words.now)) (AreWordsOf (map string_bytes c.args.words.now))
     read.field-0-is read.ensures))
 
-pub returns-in-Ok-Some-clause-told : goal.returns-in-Ok-Some-clause-told
-returns-in-Ok-Some-clause-told g c = λ command written tells.
+-- so it is done, and asks what this asks
+pub returns-in-Run-clause-told : goal.returns-in-Run-clause-told
+returns-in-Run-clause-told g c = λ command written tells.
     let read = c.in-Ok-Some in
     let is = at_some (IsNoCommand (map string_bytes c.args.words.now)) (AreWordsOf (map string_bytes c.args.words.now))
     read.field-0-is read.ensures in
     subst
-    (λ (w : Word). HasDone w (g.W.Outside.view c.args.world.now) (g.W.Outside.view c.do_command.new.world) c.do_command.result)
-    (c.one_command.ensures _ read.word command is written)
-    (c.do_command.ensures.told tells)
+    (λ (w : Word). HasDone w (g.W.Outside.view c.args.world.now) (g.W.Outside.view c.run_lines.new.world) c.run_lines.result)
+    (sym c.in-Run.is ∙ c.one_command.ensures _ read.word command is written) (c.run_lines.ensures.told tells)
 
-pub returns-in-Ok-Some-clause-complete : goal.returns-in-Ok-Some-clause-complete
-returns-in-Ok-Some-clause-complete g c = λ command written tells source sink disk can.
+pub returns-in-Run-clause-complete : goal.returns-in-Run-clause-complete
+returns-in-Run-clause-complete g c = λ command written tells source sink disk can.
     let read = c.in-Ok-Some in
     let is = at_some (IsNoCommand (map string_bytes c.args.words.now)) (AreWordsOf (map string_bytes c.args.words.now))
     read.field-0-is read.ensures in
-    c.do_command.ensures.complete tells source sink disk
-    (subst (λ (w : Word). CanBeDone w (g.W.Outside.view c.args.world.now))
-    (c.one_command.ensures _ command read.word written is) can)
+    let asked = subst (λ (w : Word). CanBeDone w (g.W.Outside.view c.args.world.now))
+    (c.one_command.ensures _ command read.word written is ∙ c.in-Run.is) can in
+    c.run_lines.ensures.complete tells source sink disk asked.0 asked.1.0 asked.1.1
 
-pub returns-in-Ok-Some-clause-no_file : goal.returns-in-Ok-Some-clause-no_file
-returns-in-Ok-Some-clause-no_file g c = λ lines start written.
+pub returns-in-Run-clause-no_file : goal.returns-in-Run-clause-no_file
+returns-in-Run-clause-no_file g c = λ lines start written.
     let read = c.in-Ok-Some in
     let is = at_some (IsNoCommand (map string_bytes c.args.words.now)) (AreWordsOf (map string_bytes c.args.words.now))
     read.field-0-is read.ensures in
-    c.do_command.ensures.no_file lines start (c.one_command.ensures _ read.word (Gen lines start) is written)
+    let both = sym c.in-Run.is ∙ c.one_command.ensures _ read.word (Gen lines start) is written in
+    absurd (cc)
 
--- and where none was read they are those of none
+-- ---- the word `check`
+
+pub returns-in-Check-clause-no_command : goal.returns-in-Check-clause-no_command
+returns-in-Check-clause-no_command g c = λ none.
+    let read = c.in-Ok-Some in
+    absurd (none read.word (at_some (IsNoCommand (map string_bytes c.args.words.now)) (AreWordsOf (map string_bytes c.args.words.now))
+    read.field-0-is read.ensures))
+
+pub returns-in-Check-clause-untouched : goal.returns-in-Check-clause-untouched
+returns-in-Check-clause-untouched g c = λ none.
+    let read = c.in-Ok-Some in
+    absurd (none read.word (at_some (IsNoCommand (map string_bytes c.args.words.now)) (AreWordsOf (map string_bytes c.args.words.now))
+    read.field-0-is read.ensures))
+
+pub returns-in-Check-clause-told : goal.returns-in-Check-clause-told
+returns-in-Check-clause-told g c = λ command written tells.
+    let read = c.in-Ok-Some in
+    let is = at_some (IsNoCommand (map string_bytes c.args.words.now)) (AreWordsOf (map string_bytes c.args.words.now))
+    read.field-0-is read.ensures in
+    subst
+    (λ (w : Word). HasDone w (g.W.Outside.view c.args.world.now) (g.W.Outside.view c.tell_store.new.world) c.tell_store.result)
+    (sym c.in-Check.is ∙ c.one_command.ensures _ read.word command is written) (c.tell_store.ensures.told tells)
+
+pub returns-in-Check-clause-complete : goal.returns-in-Check-clause-complete
+returns-in-Check-clause-complete g c = λ command written tells source sink disk can.
+    let read = c.in-Ok-Some in
+    let is = at_some (IsNoCommand (map string_bytes c.args.words.now)) (AreWordsOf (map string_bytes c.args.words.now))
+    read.field-0-is read.ensures in
+    let asked = subst (λ (w : Word). CanBeDone w (g.W.Outside.view c.args.world.now))
+    (c.one_command.ensures _ command read.word written is ∙ c.in-Check.is) can in
+    c.tell_store.ensures.complete tells sink disk asked.0 asked.1
+
+pub returns-in-Check-clause-no_file : goal.returns-in-Check-clause-no_file
+returns-in-Check-clause-no_file g c = λ lines start written.
+    let read = c.in-Ok-Some in
+    let is = at_some (IsNoCommand (map string_bytes c.args.words.now)) (AreWordsOf (map string_bytes c.args.words.now))
+    read.field-0-is read.ensures in
+    let both = sym c.in-Check.is ∙ c.one_command.ensures _ read.word (Gen lines start) is written in
+    absurd (cc)
+
+-- ---- the word `gen`
+
+pub returns-in-Gen-clause-no_command : goal.returns-in-Gen-clause-no_command
+returns-in-Gen-clause-no_command g c = λ none.
+    let read = c.in-Ok-Some in
+    absurd (none read.word (at_some (IsNoCommand (map string_bytes c.args.words.now)) (AreWordsOf (map string_bytes c.args.words.now))
+    read.field-0-is read.ensures))
+
+pub returns-in-Gen-clause-untouched : goal.returns-in-Gen-clause-untouched
+returns-in-Gen-clause-untouched g c = λ none.
+    let read = c.in-Ok-Some in
+    absurd (none read.word (at_some (IsNoCommand (map string_bytes c.args.words.now)) (AreWordsOf (map string_bytes c.args.words.now))
+    read.field-0-is read.ensures))
+
+pub returns-in-Gen-clause-told : goal.returns-in-Gen-clause-told
+returns-in-Gen-clause-told g c = λ command written tells.
+    let read = c.in-Ok-Some in
+    let is = at_some (IsNoCommand (map string_bytes c.args.words.now)) (AreWordsOf (map string_bytes c.args.words.now))
+    read.field-0-is read.ensures in
+    subst
+    (λ (w : Word). HasDone w (g.W.Outside.view c.args.world.now) (g.W.Outside.view c.tell_map.new.world) c.tell_map.result)
+    (sym c.in-Gen.is ∙ c.one_command.ensures _ read.word command is written) (c.tell_map.ensures.told tells)
+
+-- ---- no word
+
+-- where none was read the words are those of none
 pub returns-in-Ok-None-clause-usage : goal.returns-in-Ok-None-clause-usage
 returns-in-Ok-None-clause-usage g c = λ _.
     let read = c.in-Ok-None in

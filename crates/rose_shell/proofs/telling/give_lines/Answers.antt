@@ -1,4 +1,5 @@
-use Rattle.std.proofs.Common.{inl, inr, refl, subst, List, ℕ}
+use Rattle.std.proofs.Common.{inl, inr, refl, ◌∙◌, ap, subst, List, ℕ}
+use Rattle.rose_shell.specs.Faults.{status_of}
 use Rattle.rose_shell.specs.Giving.{GaveSome}
 use Rattle.rose_shell.proofs.telling.give_lines.Goals as goal
 
@@ -23,5 +24,5 @@ returns-in-Err-clause-told g c = λ tells.
       some = subst
           (λ (l : List ℕ). GaveSome (g.W.Outside.view c.args.world.now) (g.W.Outside.view c.give_all.new.world) l gave.unsent)
           c.bytes.ensures gave.some;
-      ends = inr refl;
+      ends = inr (c.from.ensures ∙ ap status_of c.in-Err.ensures.sink);
     }

@@ -3,7 +3,8 @@ use Rattle.realm_insert.specs.State.{State}
 use Rattle.state_counts.specs.Counts.{TellsCounts}
 use Rattle.realm_store.proofs.OneReading.{one_reading}
 use Rattle.rose_shell.proofs.Rises.{rose_behind, unstarted}
-use Rattle.rose_shell.proofs.Syncs.{stable_by, stable_then}
+use Rattle.realm_files.proofs.Rests.{stable_then}
+use Rattle.rose_shell.proofs.Syncs.{stable_by}
 use Rattle.rose_shell.proofs.Tellings.{lines_behind}
 use Rattle.rose_shell.proofs.Unstarted.{damaged_at_start, not_begun}
 use Rattle.rose_shell.proofs.telling.tell_store.Goals as goal
@@ -37,20 +38,20 @@ returns-in-Ok-count_state-clause-complete g c = λ tells sink disk state stands.
 -- the disk didn't fail, and the file isn't damaged
 pub returns-clause-complete : goal.returns-clause-complete
 returns-clause-complete g c = λ tells sink disk state stands.
-    unstarted c.in-Err.error c.status_unstarted.ensures
+    unstarted c.in-Err.error c.from.ensures
     (λ is. disk (c.in-Err.ensures.disk_fault (ap Err is)))
     (λ d is. one_reading d _ state ((c.in-Err.ensures.told tells).damaged d (ap Err is)) stands)
 
 -- where no store is started, the cause is told
 pub returns-clause-damaged : goal.returns-clause-damaged
 returns-clause-damaged g c = λ d is tells.
-    (c.in-Err.ensures.told tells).damaged d (ap Err (damaged_at_start c.in-Err.error _ d c.status_unstarted.ensures is))
+    (c.in-Err.ensures.told tells).damaged d (ap Err (damaged_at_start c.in-Err.error _ d c.from.ensures is))
 
 pub returns-clause-told : goal.returns-clause-told
 returns-clause-told g c = λ tells.
     let started = c.in-Err.ensures.told tells in
     let outside = g.met.W.Outside in
-    inl (not_begun c.in-Err.error _ c.status_unstarted.ensures started.asks (λ d is. (
+    inl (not_begun c.in-Err.error _ c.from.ensures started.asks (λ d is. (
       started.damaged d (ap Err is),
       stable_by (λ t m early may. outside.counts_now _ t m tells early may) (λ f. outside.reads_an_image _ f tells)
           started.asks.files (started.opened (λ other. cc)),

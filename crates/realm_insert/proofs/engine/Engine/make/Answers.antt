@@ -10,8 +10,10 @@ use Rattle.realm_insert.specs.Figures.{Draws}
 use Rattle.realm_insert.specs.State.{SpendableState, HasIdsBelow}
 use Rattle.realm_insert.specs.declared.settling.SettleError.{SettleError}
 use Rattle.realm_insert.specs.declared.settling.SettleError.TheVariants.{Mismatch}
+use Rattle.realm_insert.proofs.AscendingParts.{ascend_after}
 use Rattle.realm_insert.proofs.ChangedValues.{values_changed}
 use Rattle.realm_insert.proofs.FailedTraces.{has_also}
+use Rattle.realm_insert.proofs.KeptStates.{latest_fit}
 use Rattle.realm_insert.proofs.KeptValues.{values_settled}
 use Rattle.realm_insert.proofs.NewValues.{drawn_even, values_after}
 use Rattle.realm_insert.proofs.PreparedChanges.{can_be_drawn, most_drawn, state_of}
@@ -64,11 +66,14 @@ invariant_of-self-2 c = λ unspent.
     record {
       rest = c.in_ok-trace.ensures.rest;
       values_fit = values_settled changed c.redraw.new.drawing.drawing c.in_ok-trace.trace c.revalue.new.table settles new;
+      parts_ascend = ascend_after figure first kept.table c.revalue.new.table was.parts_ascend c.args.c.now c.in_ok-revalue.ensures;
       ids = subst (λ (n : ℕ). HasIdsBelow (first + n) c.redraw.new.drawing.drawing) (sym added) c.in_ok-trace.ensures.ids;
       first_id = omega arith;
       most_ids = omega (arith, added, most);
       most_changes = omega (arith, c.in_ok-count.ensures.changes, accepted.1.1.1.1.1.1.1.1.1.1.0);
       latest = c.in_ok-count.ensures.latest;
+      traces_fit = latest_fit kept.traces.items c.count.new.traces.items (kept.changes + 1) c.in_ok-trace.trace was.traces_fit
+          c.count.ensures.fits c.in_ok-count.ensures.traces;
     }
 
 -- the drawing is that of the state

@@ -1,11 +1,11 @@
-use Rattle.std.proofs.Common.{◌≡◌, ◌∙◌, inl, refl, sym, ap, subst, Err, arith}
-use Rattle.realm_insert.specs.State.{SpendableState}
-use Rattle.realm_insert.specs.Refusals.{IsRefusedBy}
-use Rattle.realm_insert.specs.declared.refusal.Refusal.{Refusal as Word}
+use Rattle.std.proofs.Common.{◌≡◌, ◌<◌, ◌^◌, inl, refl, sym, ap, subst, arith, Err}
+use Rattle.std.proofs.lemmas.Result.{err_from_is_err_and}
 use Rattle.realm_files.specs.declared.place.Place.{Place}
 use Rattle.realm_store.specs.declared.error.CommitError.TheVariants.{Refused}
 use Rattle.realm_store.specs.Keeping.{SpendableKept, AllRest}
-use Rattle.realm_store.proofs.Commits.{made, rests, is_written, cut_off}
+use Rattle.realm_store.specs.Making.{next_gate}
+use Rattle.realm_store.specs.Committing.{IsWritten}
+use Rattle.realm_store.proofs.Commits.{rests_before, is_made, kept_from}
 use Rattle.realm_store.proofs.store.Store.commit.Goals as goal
 
 -- the file is full
@@ -16,49 +16,39 @@ returns-then-place_or_first-ge-NO_PLACE-clause-refused g c = λ word same.
     let (why, stays) = c.refuse_full.ensures.refused word is in
     (why, stays, refl)
 
--- the file rests for the state before the change
-pub keep-requires-clause-rest : goal.keep-requires-clause-rest
-keep-requires-clause-rest g c = (
-  c.self.inside.engine.state,
-  (λ t. subst (λ (s : SpendableKept). AllRest s.kept (g.W.Outside.view c.args.world.now)) (sym c.self.view_is) (c.requires.rest t)),
-)
-
--- the steps are those of the engine, and the next gate isn't too far
-pub returns-in-Ok-clause-made : goal.returns-in-Ok-clause-made
-returns-in-Ok-clause-made g c =
-    made c.self.view_is c.in-Ok.ensures.next c.is_sound.ensures (omega (arith, ap (λ (p : Place). p.next) c.place_or_first.ensures, c.if-place_or_first-ge-NO_PLACE.false))
-    c.keep.new.self.kept c.in-Ok.applied.first c.in-Ok.applied.added c.keep.result c.keep.ensures.kept c.in-Ok.ensures.numbers
-    c.keep.ensures.reply
-
--- and its record leads on from the state before
-pub returns-in-Ok-clause-rest : goal.returns-in-Ok-clause-rest
-returns-in-Ok-clause-rest g c =
-    rests c.self.view_is c.in-Ok.ensures.next c.is_sound.ensures c.requires.spellable (g.W.Outside.view c.args.world.now)
-    (g.W.Outside.view c.keep.new.world) (λ t. c.requires.rest (c.keep.ensures.goes_on.tells t)) c.keep.result c.keep.ensures.told
-    c.keep.new.self.kept c.keep.ensures.kept
-
-pub returns-in-Ok-clause-written : goal.returns-in-Ok-clause-written
-returns-in-Ok-clause-written g c =
-    is_written c.self.view_is c.in-Ok.ensures.next c.is_sound.ensures c.requires.spellable (g.W.Outside.view c.args.world.now)
-    (g.W.Outside.view c.keep.new.world) (λ t. c.requires.rest (c.keep.ensures.goes_on.tells t)) c.keep.result c.keep.ensures.told
-    c.keep.new.self.kept c.keep.ensures.kept
-
-pub returns-in-Ok-clause-cut_off : goal.returns-in-Ok-clause-cut_off
-returns-in-Ok-clause-cut_off g c =
-    cut_off c.self.view_is c.in-Ok.ensures.next c.is_sound.ensures c.requires.spellable (g.W.Outside.view c.args.world.now)
-    (g.W.Outside.view c.keep.new.world) (λ t. c.requires.rest (c.keep.ensures.goes_on.tells t)) c.keep.result c.keep.ensures.told
-    (omega (arith, ap (λ (p : Place). p.next) c.place_or_first.ensures, c.if-place_or_first-ge-NO_PLACE.false))
-
 -- the engine refuses the change, and is as it was
-pub returns-in-Err-Refused-clause-refused : goal.returns-in-Err-Refused-clause-refused
-returns-in-Err-Refused-clause-refused g c = λ word same.
-    let (why, stays) = c.in-Err-Refused.ensures.refused c.in-Err-Refused.word (ap Err c.in-Err-Refused.field-0-is) in
-    let is : c.in-Err-Refused.word ≡ word = cc in
-    let here = subst (λ (s : SpendableKept). IsRefusedBy c.args.c.now s.kept.state c.in-Err-Refused.word) c.self.view_is why in (
-      inl (subst (λ (w : Word). IsRefusedBy c.args.c.now c.args.self.now.kept.state w) is here),
-      ap (λ (e : SpendableState). record {
-        kept = record { state = e.state; place = c.self.inside.place; has_gate = c.self.inside.has_gate };
-        spent = c.self.inside.spent;
-      }) stays ∙ c.self.view_is,
-      refl,
-    )
+pub returns-in_err-ready-clause-refused : goal.returns-in_err-ready-clause-refused
+returns-in_err-ready-clause-refused g c = λ word same.
+    let (why, is, gives) = err_from_is_err_and c.from_residual.result c.from_residual.ensures.1 in
+    let one : c.in_err-ready.field-0.0 ≡ Refused word = cc in
+    let (refused, stays) = c.in_err-ready.ensures.refused word (ap Err one) in
+    (inl refused, stays, refl)
+
+-- what is ready to be written is of the state before, whose files rest
+pub write_ready-requires-clause-rest : goal.write_ready-requires-clause-rest
+write_ready-requires-clause-rest g c =
+    (c.args.self.now.kept.state, λ t. rests_before c.in_ok-ready.ensures.made (c.requires.rest t))
+
+-- so it is written from there,
+pub returns-in_err-write_ready-clause-cut_off : goal.returns-in_err-write_ready-clause-cut_off
+returns-in_err-write_ready-clause-cut_off g c = λ failed t.
+    let made = c.in_ok-ready.ensures.made in
+    let two = c.in_err-write_ready.ensures in
+    let room = subst (λ (s : SpendableKept). next_gate s.kept < 2 ^ 61) c.self.view_is
+    (omega (arith, ap (λ (p : Place). p.next) c.place_or_first.ensures, c.if-place_or_first-ge-NO_PLACE.false)) in
+    let keeps = kept_from made c.requires.spellable (c.requires.rest (two.goes_on.tells t)) (two.told t) in
+    (c.in_ok-ready.ready.reply, _, is_made made room, keeps.written)
+
+-- and all rests behind it
+pub returns-clause-rest : goal.returns-clause-rest
+returns-clause-rest g c = λ t.
+    let two = c.in_ok-write_ready.ensures in
+    let keeps = kept_from c.in_ok-ready.ensures.made c.requires.spellable (c.requires.rest (two.goes_on.tells t)) (two.told t) in
+    subst (λ k. AllRest k (g.W.Outside.view c.write_ready.new.world)) (sym two.kept) keeps.rest
+
+pub returns-clause-written : goal.returns-clause-written
+returns-clause-written g c = λ t.
+    let two = c.in_ok-write_ready.ensures in
+    let keeps = kept_from c.in_ok-ready.ensures.made c.requires.spellable (c.requires.rest (two.goes_on.tells t)) (two.told t) in
+    subst (λ k. IsWritten (g.W.Outside.view c.args.world.now) (g.W.Outside.view c.write_ready.new.world) c.args.self.now.kept k)
+    (sym two.kept) keeps.written

@@ -6,8 +6,9 @@ pub returns-clause-told : goal.returns-clause-told
 returns-clause-told g c = λ t.
     let two = c.open_newest.ensures in
     let t1 = two.goes_on.tells t in
-    started (c.in_ok-sync_both.ensures.told t1) (λ a left. g.met.W.Outside.only_now c.sync_both.new.world a t1 left)
-    c.open_newest.result (two.told t)
+    let t0 = c.in_ok-sync_both.ensures.goes_on.tells t1 in
+    started (c.in_ok-sync_both.ensures.told t1) (λ a left. g.met.W.Outside.only_now c.args.world.now a t0 left)
+    (λ a left. g.met.W.Outside.only_now c.sync_both.new.world a t1 left) c.open_newest.result (two.told t)
 
 -- so whatever a crash may leave is what was read
 pub returns-clause-rest : goal.returns-clause-rest

@@ -1,0 +1,64 @@
+-- This file shows that in a valid state names are those of values that operators, predicates and numbers can take, or lacking.
+use Rattle.std.proofs.Common.{◌⊎◌, List, ℕ, ◌++◌, All, AllPairs, Option, Some, None, IfSome, inl, inr}
+use Rattle.grid_base.specs.Border.{AreNoded, IsEvenBorder}
+use Rattle.grid_base.specs.Point.{IsBefore}
+use Rattle.rose_values.specs.declared.geometry.Geometry.{Geometry}
+use Rattle.rose_values.specs.declared.geometry.Geometry.TheVariants.{P, L, R}
+use Rattle.rose_values.specs.Operators.{segments_of, segments_of_second}
+use Rattle.rose_operators.specs.Results.{IsAscending}
+use Rattle.realm_insert.specs.State.{State}
+use Rattle.realm_insert.specs.Operands.{LacksOperand, AreOperands}
+use Rattle.realm_insert.specs.Snapshots.{IsValidState}
+use Rattle.realm_insert.proofs.NamedOperands.{both_ordered, are_operands}
+use Rattle.one_reply.proofs.SomeGeometry.{IsEvenValue, some_value}
+
+-- the values are of one realm, ascend, and are even if they are regions
+pub record AreFit (a : Geometry) (b : Option Geometry) : Type 0 where
+  pub noded : AreNoded (segments_of a ++ segments_of_second b)
+  pub ordered : All (λ s. IsBefore s.a s.b) (segments_of a ++ segments_of_second b)
+  pub first_ascends : IsAscending a
+  pub second_ascends : IfSome b IsAscending
+  pub first_even : IsEvenValue a
+  pub second_even : IfSome b IsEvenValue
+
+-- what two names, or one, are applied to
+pub record Operands (s : State) (first : List ℕ) (second : Option (List ℕ)) : Type 0 where
+  pub a : Geometry
+  pub b : Option Geometry
+  pub are : AreOperands first second s a b
+  pub fit : AreFit a b
+
+-- operands ascend and are of one realm by what they are
+fitting : (s : State) (first : List ℕ) (second : Option (List ℕ)) (a : Geometry) (b : Option Geometry)
+    → AreOperands first second s a b → IsEvenValue a → IfSome b IsEvenValue → Operands s first second
+fitting s first second a b are first_even second_even = record {
+  a = a;
+  b = b;
+  are = are;
+  fit = record {
+    noded = are.noded;
+    ordered = both_ordered s first second a b are.is_first are.is_second;
+    first_ascends = are.first_ascends;
+    second_ascends = are.second_ascends;
+    first_even = first_even;
+    second_even = second_even;
+  };
+}
+
+-- each name is a value's, which has a geometry, or is lacking
+pub some_operands : (s : State) (first : List ℕ) (second : Option (List ℕ)) → IsValidState s
+    → LacksOperand first second s.values ⊎ Operands s first second
+some_operands s first None valid = elim (some_value s first valid) [
+  | inl lacks ↦ inl (inl lacks)
+  | inr (a, is) ↦ inr (fitting s first None a None
+      (are_operands s first None a None is.is_geometry tt valid.realm is.ascending tt) is.even tt)
+]
+some_operands s first (Some name) valid = elim (some_value s first valid) [
+  | inl lacks ↦ inl (inl lacks)
+  | inr (a, is) ↦ elim (some_value s name valid) [
+    | inl lacks ↦ inl (inr lacks)
+    | inr (b, also) ↦ inr (fitting s first (Some name) a (Some b)
+        (are_operands s first (Some name) a (Some b) is.is_geometry also.is_geometry valid.realm is.ascending also.ascending)
+        is.even also.even)
+  ]
+]

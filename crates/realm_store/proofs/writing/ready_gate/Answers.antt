@@ -1,0 +1,35 @@
+use Rattle.std.proofs.Common.{arith}
+use Rattle.realm_store.proofs.ReadyGates.{first_next, first_cut, first_readied, missing_within, missing_next, missing_readied, waiting_readied}
+use Rattle.realm_store.proofs.writing.ready_gate.Goals as goal
+
+-- the first generation isn't whole yet,
+pub returns-in_err-put_next-in-First-clause-told : goal.returns-in_err-put_next-in-First-clause-told
+returns-in_err-put_next-in-First-clause-told g c = λ t kept waits rest.
+    let one = c.in_err-put_next-in-First.ensures.told t kept rest (first_next kept waits c.in-First.is rest.rests) in
+    first_cut kept waits c.from_residual.result c.from_residual.ensures.0 c.in-First.is one
+
+-- or the gate stands behind it
+pub returns-in_ok-put_next-in-First-clause-told : goal.returns-in_ok-put_next-in-First-clause-told
+returns-in_ok-put_next-in-First-clause-told g c = λ t kept waits rest.
+    first_readied kept waits c.in-First.is (c.in_ok-put_next-in-First.ensures.told t kept rest (first_next kept waits c.in-First.is rest.rests))
+
+-- the gate that is missing is within its file or at the end, and not too far
+pub shut_gate-requires-clause-room : goal.shut_gate-requires-clause-room
+shut_gate-requires-clause-room g c =
+    let (kept, waits, room, rest) = c.requires.rest in
+    omega (arith, missing_next kept waits c.in-Missing.is, room)
+
+pub shut_gate-requires-clause-within : goal.shut_gate-requires-clause-within
+shut_gate-requires-clause-within g c = λ t.
+    let (kept, waits, room, rest) = c.requires.rest in
+    missing_within kept waits c.in-Missing.is (rest t).rests
+
+-- it was added
+pub returns-in-Missing-clause-told : goal.returns-in-Missing-clause-told
+returns-in-Missing-clause-told g c = λ t kept waits rest.
+    missing_readied kept waits c.shut_gate.result c.in-Missing.is (λ f. g.met.W.Outside.reads_an_image c.shut_gate.new.world f t) rest
+    (c.shut_gate.ensures.told t)
+
+-- nothing was to be done
+pub returns-in-Waiting-clause-told : goal.returns-in-Waiting-clause-told
+returns-in-Waiting-clause-told g c = λ t kept waits rest. waiting_readied kept waits c.in-Waiting.is rest

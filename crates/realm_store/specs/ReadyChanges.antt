@@ -1,0 +1,23 @@
+-- A change that is made and waits to be written. No public clause cites this file.
+use Rattle.std.specs.Prelude.{◌≡◌, ◌-◌, List, length}
+use Rattle.grid_base.specs.declared.kinds.Step.{Step}
+use Rattle.line_grammar.specs.declared.command.Change.{Change}
+use Rattle.record_codec.specs.Fitting.{IsRecord}
+use Rattle.realm_insert.specs.Next.{Next}
+use Rattle.realm_store.specs.declared.committing.Ready.{Ready}
+use Rattle.realm_store.specs.Keeping.{Kept, with_state}
+use Rattle.realm_store.specs.Sound.{IsSound}
+use Rattle.realm_store.specs.Replies.{ok_reply}
+use Rattle.realm_store.specs.Making.{record_of}
+use Rattle.realm_store.specs.NextGates.{IsGateFor}
+
+-- The change leads by some steps to a sound state, at the same place, and its record, the gate of that and its reply wait.
+pub record IsReady (c : Change) (old new : Kept) (ready : Ready) : Type 0 where
+  pub steps : List Step
+  pub next : Next old.state c steps new.state
+  pub sound : IsSound new.state
+  pub same_place : new ≡ with_state new.state old
+  pub gate : IsGateFor ready.gate new.place new.has_gate
+  pub is_record : IsRecord ready.record
+  pub record_is : ready.record ≡ record_of c steps new.state.changes
+  pub reply_is : ready.reply ≡ ok_reply new.state.changes (length steps) old.state.next_id (new.state.next_id - old.state.next_id)

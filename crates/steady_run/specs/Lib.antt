@@ -1,0 +1,2 @@
+-- what a run from nothing has done
+pub mod FromNothing
