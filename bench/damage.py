@@ -27,6 +27,16 @@ def journal():
     return store.files
 
 
+def groups():
+    """Records of one change and of a group in turn in file A, and no file B."""
+    store = rules.Writer()
+    store.change(LINES[0])
+    store.group(LINES[1:7])
+    store.change(LINES[7])
+    store.group(LINES[8:])
+    return store.files
+
+
 def checkpoint():
     """A checkpoint of two pages in file B with records behind it, and the older records in file A."""
     store = rules.Writer()
@@ -93,7 +103,7 @@ def sealed(files, values, chance):
             yield "sealed", pair(files, which, file[:4096] + body + hashlib.sha256(body).digest() + file[8192:])
 
 
-STORES = {"journal": (journal, damages), "checkpoint": (checkpoint, damages), "page": (page, sealed),
+STORES = {"journal": (journal, damages), "groups": (groups, damages), "checkpoint": (checkpoint, damages), "page": (page, sealed),
           "other_page": (other_page, sealed), "twins": (twins, damages)}
 
 

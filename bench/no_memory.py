@@ -7,7 +7,8 @@ import re
 import subprocess
 import tempfile
 
-LINES = b"segment 0 0 3 1\ncheckpoint\nsegment 0 1 3 0\nrealm\n"
+LINES = [b"segment 0 0 3 1\ncheckpoint\nsegment 0 1 3 0\nrealm\n",
+         b"point 9 9\nbegin\nsegment 0 0 3 1\nsegment 0 1 3 0\ncommit\nbegin\nunpoint 9 9\nabandon\nrealm\n"]
 # The statuses of a source fault, a sink fault, a disk fault and want of memory.
 FAULTS = (2, 3, 4, 6)
 
@@ -116,7 +117,7 @@ class Runs:
         return done.stdout if done.returncode == 0 else b"status %d" % done.returncode
 
     def fronts(self):
-        """What `check` says after each number of changes: of each line and those before it, by the first line of the reply."""
+        """What `check` says after each number of commits: of each line and those before it, by the first line of the reply."""
         found = {}
         for count in range(self.lines.count(b"\n") + 1):
             with tempfile.TemporaryDirectory(dir=self.folder) as place:
@@ -124,12 +125,27 @@ class Runs:
                 subprocess.run([self.program, "run"], cwd=place, input=front, stdout=subprocess.DEVNULL, check=True)
                 told = self.check(place)
                 found[int(re.match(rb"changes (\d+)\n", told).group(1))] = told
-        return found
+        return [found[changes] for changes in sorted(found)]
+
+
+def begins_of(whole):
+    """Where the replies to commits begin: to a change outside a group, and to the end of a group with a change."""
+    begins, in_group = [], False
+    for reply in re.finditer(rb"^ok (\d+ |begin|commit \d+|abandon)", whole, re.MULTILINE):
+        word = reply.group(1)
+        if word == b"begin":
+            in_group = True
+        elif word == b"abandon" or word == b"commit 0":
+            in_group = False
+        elif word.startswith(b"commit") or not in_group:
+            in_group = False
+            begins.append(reply.start())
+    return begins
 
 
 def refuse_in_turn(runs, whole, fronts, requests, one):
     """Refuses each request alone, or with all that come after it. How often the run ended with each status."""
-    begins = [match.start() for match in re.finditer(rb"^ok \d", whole, re.MULTILINE)]
+    begins = begins_of(whole)
     ends = collections.Counter()
     for request in range(1, requests + 1):
         status, given, found, _ = runs.run(request, request if one else 1 << 62)
@@ -139,8 +155,8 @@ def refuse_in_turn(runs, whole, fronts, requests, one):
         if not whole.startswith(given):
             raise SystemExit(f"{where}, and {given!r} was given")
         begun = sum(begin < len(given) for begin in begins)
-        if found not in (fronts[begun], fronts.get(begun + 1)):
-            raise SystemExit(f"{where}: {begun} replies to changes had begun, and what is found is {found!r}")
+        if found not in fronts[begun:begun + 2]:
+            raise SystemExit(f"{where}: {begun} replies to commits had begun, and what is found is {found!r}")
         ends[status] += 1
     return ends
 
@@ -151,20 +167,25 @@ def main():
     parser.add_argument("--lines", help="a file with other lines")
     parser.add_argument("--folder", help="where the files are put")
     words = parser.parse_args()
-    lines = LINES
+    scenes = LINES
     if words.lines:
         with open(words.lines, "rb") as file:
-            lines = file.read()
-    with tempfile.TemporaryDirectory(dir=words.folder) as folder:
-        runs = Runs(os.path.abspath(words.program), folder, lines)
-        status, whole, _, requests = runs.run(0, 0)
-        if status != 0 or requests == 0:
-            raise SystemExit(f"status {status} after {requests} requests, of which none was refused")
-        fronts = runs.fronts()
-        for one in (True, False):
-            ends = refuse_in_turn(runs, whole, fronts, requests, one)
-            shown = ", ".join(f"status {status} {count} times" for status, count in sorted(ends.items()))
-            print(f"each of {requests} requests refused {'alone' if one else 'with all after it'}: {shown}; nothing was lost")
+            scenes = [file.read()]
+    for lines in scenes:
+        with tempfile.TemporaryDirectory(dir=words.folder) as folder:
+            refuse_all(Runs(os.path.abspath(words.program), folder, lines))
+
+
+def refuse_all(runs):
+    """Refuses each request of a run in turn, in both ways."""
+    status, whole, _, requests = runs.run(0, 0)
+    if status != 0 or requests == 0:
+        raise SystemExit(f"status {status} after {requests} requests, of which none was refused")
+    fronts = runs.fronts()
+    for one in (True, False):
+        ends = refuse_in_turn(runs, whole, fronts, requests, one)
+        shown = ", ".join(f"status {status} {count} times" for status, count in sorted(ends.items()))
+        print(f"each of {requests} requests refused {'alone' if one else 'with all after it'}: {shown}; nothing was lost")
 
 
 if __name__ == "__main__":

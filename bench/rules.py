@@ -447,6 +447,12 @@ class Source:
     def trace(self):
         return self.number(8), self.items(self.step)
 
+    def entry(self):
+        line = self.bytes(self.number(4))
+        if len(line) > 2 ** 20:
+            raise Outside
+        return line, tuple(self.items(self.step))
+
     def end(self):
         if self.at < len(self.data):
             raise Outside
@@ -532,14 +538,17 @@ def payload_of(letter, file, pages, length):
 
 
 def record_in(source):
-    """The line and the steps of the next record, and its number."""
+    """The number of the first change of the next record, and its entries: the line and the steps of each change."""
     body = Source(source.bytes(source.number(8)))
-    number, line = body.number(8), body.bytes(body.number(4))
-    steps = tuple(body.items(body.step))
+    number, entries = body.number(8), []
+    if number > 0:
+        entries.append(body.entry())
+    else:
+        number, entries = body.number(8), body.items(body.entry)
+        if number == 0 or len(entries) < 2:
+            raise Outside
     body.end()
-    if len(line) > 2 ** 20:
-        raise Outside
-    return number, line, steps
+    return number, entries
 
 
 def state_behind(letter, file, at, state):
@@ -550,10 +559,11 @@ def state_behind(letter, file, at, state):
     while source.at < len(file) and source.bytes(1) == b"\xa5":
         count += 1
         try:
-            number, line, steps = record_in(source)
+            number, entries = record_in(source)
             if number != state.changes + 1:
                 raise Refused
-            state = led(state, line, steps)
+            for line, steps in entries:
+                state = led(state, line, steps)
         except (Outside, Refused) as error:
             raise Damaged(f"file {letter} record {count}") from error
     return state
@@ -613,6 +623,10 @@ def step_bytes(step):
     return bytes([step[0]]) + b"".join(point_bytes(p) for p in places)
 
 
+def entry_bytes(line, steps):
+    return len(line).to_bytes(4, "big") + line + list_bytes([step_bytes(step) for step in steps])
+
+
 def points_bytes(points):
     return list_bytes([point_bytes(p) for p in points])
 
@@ -648,14 +662,26 @@ class Writer:
         self.files[self.newest()] = file + b"\0"
 
     def change(self, line):
+        """A change with a record of its own."""
+        self.append(lambda number: number + self.entry(line))
+
+    def group(self, lines):
+        """Changes, two or more, that have one record."""
+        self.append(lambda number: bytes(8) + number + list_bytes([self.entry(line) for line in lines]))
+
+    def entry(self, line):
         """Makes a change, and settles it by the first step that is found, again and again."""
-        if self.generation == 0:
-            self.checkpoint(b"")
         steps, new = [], changed(self.state, line)
         while (step := new.violation()):
             new.take(step)
             steps.append(step)
         self.state = led(self.state, line, tuple(steps))
-        body = self.state.changes.to_bytes(8, "big") + len(line).to_bytes(4, "big") + line + list_bytes([step_bytes(s) for s in steps])
+        return entry_bytes(line, steps)
+
+    def append(self, body_behind):
+        """Puts a record with this body, whose first change is the next one, behind the last."""
+        if self.generation == 0:
+            self.checkpoint(b"")
+        body = body_behind((self.state.changes + 1).to_bytes(8, "big"))
         file = self.files[self.newest()]
         self.files[self.newest()] = file[:-1] + b"\xa5" + len(body).to_bytes(8, "big") + body + b"\0"

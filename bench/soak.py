@@ -2,16 +2,16 @@
 """Gives random lines to `rose run`, kills it again and again, and compares it with a run that isn't killed. See README.md."""
 import argparse
 import bisect
+import copy
 import os
 import random
 import re
 import subprocess
 import tempfile
-import threading
 import time
 
 import rules
-from kills import feed
+from kills import killed_run
 
 # No command: its reply ends the replies to the command before it.
 END, END_REPLY = b"?\n", b"no line 0\n"
@@ -23,7 +23,10 @@ NUMBERS = [b"area2", b"diameter2", b"no_of_components", b"dist2"]
 QUERIES = ["show", "chain", "trace", "eval", "ask", "num", "faces"]
 # How often each command comes, in a thousand.
 OFTEN = {"segment": 300, "point": 60, "unpoint": 40, "delete": 130, "points": 30, "lines": 60, "regions": 40, "let": 50, "drop": 70,
-         "checkpoint": 15, "bad": 20, "realm": 2, "batch": 8, **{query: 24 for query in QUERIES}}
+         "checkpoint": 15, "begin": 30, "commit": 2, "abandon": 2, "bad": 20, "realm": 2, "batch": 8,
+         **{query: 24 for query in QUERIES}}
+# The same while a group is open.
+OFTEN_IN_GROUP = {**OFTEN, "checkpoint": 2, "begin": 2, "commit": 60, "abandon": 15}
 
 
 class Author:
@@ -31,7 +34,9 @@ class Author:
 
     def __init__(self, random_numbers):
         self.random = random_numbers
-        self.free, self.names, self.points, self.next = [], {}, [], 1
+        self.map = Map()
+        # The map as it was when the open group was begun.
+        self.before = None
 
     def place(self):
         return self.random.randrange(FIELD), self.random.randrange(FIELD)
@@ -47,8 +52,8 @@ class Author:
 
     def name(self):
         """A name that mostly has a value."""
-        if self.names and self.random.random() < 0.95:
-            return self.random.choice(sorted(self.names))
+        if self.map.names and self.random.random() < 0.95:
+            return self.random.choice(sorted(self.map.names))
         return b"n%d" % self.random.randrange(20)
 
     def new_name(self):
@@ -59,12 +64,12 @@ class Author:
         return b"%s %s %s" % (word, self.name(), self.name()) if word in pairs else b"%s %s" % (word, self.name())
 
     def command(self):
-        kinds = list(OFTEN)
-        kind = self.random.choices(kinds, [OFTEN[kind] for kind in kinds])[0]
+        often = OFTEN if self.before is None else OFTEN_IN_GROUP
+        kind = self.random.choices(list(often), list(often.values()))[0]
         # What is drawn is to stay small enough for many starts.
-        if kind == "segment" and len(self.free) > 120:
+        if kind == "segment" and len(self.map.free) > 120:
             kind = "delete"
-        if kind in ("point", "points") and len(self.points) > 60:
+        if kind in ("point", "points") and len(self.map.points) > 60:
             kind = "unpoint"
         return getattr(self, "make_" + kind)() + b"\n"
 
@@ -75,10 +80,10 @@ class Author:
         return b"point %d %d" % self.place()
 
     def make_unpoint(self):
-        return b"unpoint %d %d" % (self.random.choice(self.points) if self.points else self.place())
+        return b"unpoint %d %d" % (self.random.choice(self.map.points) if self.map.points else self.place())
 
     def make_delete(self):
-        return b"delete %d" % (self.random.choice(self.free) if self.free else self.random.randint(0, self.next))
+        return b"delete %d" % (self.random.choice(self.map.free) if self.map.free else self.random.randint(0, self.map.next))
 
     def make_points(self):
         return b"points %s %s" % (self.new_name(), self.walk(self.random.randint(1, 4)))
@@ -100,6 +105,15 @@ class Author:
     def make_checkpoint(self):
         return b"checkpoint"
 
+    def make_begin(self):
+        return b"begin"
+
+    def make_commit(self):
+        return b"commit"
+
+    def make_abandon(self):
+        return b"abandon"
+
     def make_bad(self):
         return self.random.choice([b"segment 0 0 1", b"segment 1 1 1 1", b"point %d 0" % rules.SIDE, b"lines n0 1 1", b"points  n0",
                                    b"batch 0"])
@@ -111,10 +125,10 @@ class Author:
         return b"show " + self.name()
 
     def make_chain(self):
-        return b"chain %d" % (self.random.choice(self.free) if self.free else self.random.randint(0, self.next))
+        return b"chain %d" % (self.random.choice(self.map.free) if self.map.free else self.random.randint(0, self.map.next))
 
     def make_trace(self):
-        return b"trace %d" % self.random.randint(max(0, self.changes - 20), self.changes + 1)
+        return b"trace %d" % self.random.randint(max(0, self.map.changes - 20), self.map.changes + 1)
 
     def make_eval(self):
         return b"eval " + self.operands(OPERATORS, OPERATORS[:4])
@@ -132,16 +146,34 @@ class Author:
         lines = [getattr(self, "make_" + self.random.choice(QUERIES))() for _ in range(self.random.randint(1, 6))]
         return b"\n".join([b"batch %d" % len(lines), *lines])
 
-    changes = 0
-
     def hear(self, command, reply):
-        """Notes what came of a command. True where it was an accepted change."""
-        accepted = re.match(rb"ok (\d+) steps \d+ first (\d+) new (\d+)\n", reply)
-        if not accepted:
-            return False
-        self.changes, first, new = (int(number) for number in accepted.groups())
-        self.next = first + new
-        words = command.split()
+        """Notes what came of a command. True where it was a commit: a change outside a group, or a group with a change."""
+        if command == b"begin\n" and reply == b"ok begin\n":
+            self.before = copy.deepcopy(self.map)
+        elif command == b"abandon\n" and reply == b"ok abandon\n":
+            self.map, self.before = self.before, None
+        elif command == b"commit\n" and reply.startswith(b"ok "):
+            count, self.before = self.map.changes - self.before.changes, None
+            if reply != b"ok commit %d\n" % count:
+                raise SystemExit(f"a group of {count} changes got {reply!r}")
+            return count > 0
+        elif accepted := re.match(rb"ok (\d+) steps \d+ first (\d+) new (\d+)\n", reply):
+            self.map.make(command.split(), *(int(number) for number in accepted.groups()))
+            return self.before is None
+        return False
+
+
+class Map:
+    """What was accepted: the originals of no value, those of each name, the explicit points, and how many changes."""
+
+    def __init__(self):
+        self.free, self.names, self.points, self.next, self.changes = [], {}, [], 1, 0
+
+    def make(self, words, number, first, new):
+        """Makes a change that was accepted."""
+        if number != self.changes + 1:
+            raise SystemExit(f"change {self.changes + 1} has the number {number}")
+        self.changes, self.next = number, first + new
         if words[0] == b"segment":
             self.free.append(first)
         elif words[0] == b"delete":
@@ -154,19 +186,19 @@ class Author:
             self.free += self.names.pop(words[1])
         else:
             self.names[words[1]] = list(range(first, first + new))
-        return True
 
 
 class Steady:
     """The run that isn't killed. It is asked for one command after another, and keeps the replies since the last place. Behind each
-    checkpoint it is ended by the end of its input, and started again."""
+    checkpoint, and behind each group that is given up, it is ended by the end of its input, and started again."""
 
     def __init__(self, program, folder, author):
         self.program, self.folder, self.author = program, folder, author
         self.start()
         self.commands, self.replies = [], []
-        # How many commands were made up to each change since the last place, by its number, and how many came before that place.
+        # Of each commit since the last place, that before it first: the changes that there are then, and the commands up to it.
         self.behind, self.dropped = {0: 0}, 0
+        self.commits = self.checkpoints = self.given_up = 0
 
     def start(self):
         self.run = subprocess.Popen([self.program, "run"], cwd=self.folder, stdin=subprocess.PIPE, stdout=subprocess.PIPE)
@@ -177,8 +209,22 @@ class Steady:
             raise SystemExit(f"the run that isn't killed ended with status {self.run.returncode}")
 
     def more(self):
-        """Makes up one command and has it answered. True where it was a checkpoint."""
+        """Makes up one command and has it answered. True where the run was ended behind it."""
         command = self.author.command()
+        reply = self.ask(command)
+        if command == b"checkpoint\n" and reply == b"ok checkpoint\n":
+            self.checkpoints += 1
+        elif command == b"abandon\n" and reply == b"ok abandon\n":
+            self.given_up += 1
+            self.ask(questions(self.author))
+        else:
+            return False
+        self.stop()
+        self.start()
+        return True
+
+    def ask(self, command):
+        """Gives a command, and answers its reply."""
         self.run.stdin.write(command + END)
         self.run.stdin.flush()
         lines = []
@@ -189,47 +235,33 @@ class Steady:
             lines.append(line)
         self.commands.append(command)
         self.replies.append(b"".join(lines[:-1]))
-        before = self.author.changes
         if self.author.hear(command, self.replies[-1]):
-            if self.author.changes != before + 1:
-                raise SystemExit(f"change {before + 1} got {self.replies[-1]!r}")
-            self.behind[before + 1] = self.end()
-        if command != b"checkpoint\n":
-            return False
-        self.stop()
-        self.start()
-        return True
+            self.behind[self.author.map.changes] = self.end()
+            self.commits += 1
+        return self.replies[-1]
 
     def end(self):
         return self.dropped + len(self.commands)
 
     def drop_before(self, change):
-        """Forgets what came up to a change."""
+        """Forgets what came up to a commit."""
         place = self.behind[change]
         del self.commands[:place - self.dropped]
         del self.replies[:place - self.dropped]
         self.dropped = place
         self.behind = {number: where for number, where in self.behind.items() if number >= change}
 
-
-def killed_run(program, folder, commands, delay):
-    """Gives these commands, kills the program, and answers what it gave."""
-    run = subprocess.Popen([program, "run"], cwd=folder, stdin=subprocess.PIPE, stdout=subprocess.PIPE)
-    writer = threading.Thread(target=feed, args=(run.stdin, commands))
-    killer = threading.Timer(delay, run.kill)
-    writer.start()
-    killer.start()
-    given = run.stdout.read()
-    status = run.wait()
-    killer.cancel()
-    writer.join()
-    try:
-        run.stdin.close()
-    except BrokenPipeError:
-        pass
-    if status != -9:
-        raise SystemExit(f"status {status} before the kill")
-    return given
+    def left_by(self, given):
+        """How many changes there are after those commits whose replies had begun when this was given, and after one more."""
+        if not b"".join(self.replies).startswith(given):
+            raise SystemExit(f"other replies: {given[-200:]!r}")
+        commits = list(self.behind.items())
+        ends = [0]
+        for reply in self.replies:
+            ends.append(ends[-1] + len(reply))
+        begins = [ends[where - self.dropped - 1] for _, where in commits[1:]]
+        begun = bisect.bisect_left(begins, len(given))
+        return [changes for changes, _ in commits[begun:begun + 2]]
 
 
 def asked(program, folder, words, lines=b""):
@@ -244,24 +276,13 @@ def changes_kept(program, folder):
     return int(re.match(rb"changes (\d+)\n", asked(program, folder, ["check"])).group(1))
 
 
-def begun_by(replies, given):
-    """How many accepted changes among these have a reply that has begun, if this is a front of the replies."""
-    if not b"".join(replies).startswith(given):
-        raise SystemExit(f"other replies: {given[-200:]!r}")
-    begins, size = [], 0
-    for reply in replies:
-        if re.match(rb"ok \d", reply):
-            begins.append(size)
-        size += len(reply)
-    return bisect.bisect_left(begins, len(given))
-
-
 def questions(author):
     """All that can be asked of the map."""
+    there = author.map
     names = [b"show n%d\n" % number for number in range(20)]
-    chains = [b"chain %d\n" % number for number in author.free]
-    chains += [b"chain %d\n" % number for ids in author.names.values() for number in ids]
-    traces = [b"trace %d\n" % number for number in range(max(1, author.changes - 17), author.changes + 1)]
+    chains = [b"chain %d\n" % number for number in there.free]
+    chains += [b"chain %d\n" % number for ids in there.names.values() for number in ids]
+    traces = [b"trace %d\n" % number for number in range(max(1, there.changes - 17), there.changes + 1)]
     return b"realm\n" + b"".join(names + chains + traces)
 
 
@@ -275,24 +296,23 @@ class Soak:
         os.mkdir(self.whole)
         self.random = random.Random(seed)
         self.steady = Steady(program, self.whole, Author(self.random))
-        self.kept = self.kills = self.more = self.waited = self.checkpoints = 0
+        self.kept = self.kills = self.more = self.waited = 0
 
     def go_on(self):
-        """Makes up commands to the next checkpoint."""
+        """Makes up commands to where the steady run is ended."""
         while not self.steady.more():
             pass
-        self.checkpoints += 1
 
     def kill(self, longest):
         """One run that is killed, and what is found then. True where all commands had been answered."""
         given = killed_run(self.program, self.killed, self.steady.commands, self.random.uniform(0, longest))
-        begun = begun_by(self.steady.replies, given)
+        left = self.steady.left_by(given)
         found = changes_kept(self.program, self.killed)
         self.kills += 1
-        if found not in (self.kept + begun, self.kept + begun + 1):
-            raise SystemExit(f"kill {self.kills}: {self.kept + begun} replies had begun, and {found} changes are there")
+        if found not in left:
+            raise SystemExit(f"kill {self.kills}: of {left} changes {found} are there")
         whole = len(given) == sum(map(len, self.steady.replies))
-        self.more += found - self.kept - begun
+        self.more += found != left[0]
         self.waited += whole
         self.kept = found
         self.steady.drop_before(found)
@@ -328,8 +348,9 @@ def main():
                 pass
         compared = soak.finish()
         print(f"{soak.kills} kills in {time.time() - began:.0f} s, {soak.waited} of them when all was answered:"
-              f" {soak.steady.end()} commands, {soak.kept} of them changes and {soak.checkpoints} checkpoints; no change with a reply"
-              f" was lost, and {soak.more} times the unanswered change was there")
+              f" {soak.steady.end()} commands, {soak.kept} changes in {soak.steady.commits} commits, {soak.steady.given_up} groups given up"
+              f" and {soak.steady.checkpoints} checkpoints; no commit with a reply was lost, and {soak.more} times the unanswered commit"
+              " was there")
         print(f"at the end `check` and {compared} questions get the same replies as without a kill")
 
 

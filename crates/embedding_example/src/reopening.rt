@@ -1,5 +1,5 @@
 //! A store in a world in memory: what each crash within a commit leaves, and what a store finds there that starts on it.
-ghost use Rattle.std.specs.Prelude.{◌≡◌, ◌≤◌, ◌^◌, length, false, IfOk, OnOk};
+ghost use Rattle.std.specs.Prelude.{◌≡◌, ◌≤◌, ◌^◌, length, false, None, IfOk, OnOk};
 ghost use Rattle.outside_world.specs.Memory.{has_failed};
 ghost use Rattle.realm_store.specs.Keeping.{AllRest};
 
@@ -47,7 +47,7 @@ fn world_of(alloc: Global, a: Vec<u8>, b: Vec<u8>) -> Result<MemoryWorld, NoMemo
     MemoryWorld::new(alloc, Vec::new(alloc), a, b, Vec::new(alloc))
 }
 
-// Commits the change of a line. After Ok another can follow.
+// Commits the change of a line. After Ok another can follow, or a checkpoint: no group is open.
 fn commit<R: Threads + Sync + Print, W: Outside>(
     rt: &R,
     alloc: Global,
@@ -57,10 +57,12 @@ fn commit<R: Threads + Sync + Print, W: Outside>(
 ) -> Result<(), ExampleError>
     requires intact { W.failed world.old ≡ false }
     requires ready { store.old.spent ≡ false }
+    requires alone { store.old.group ≡ None }
     requires short { length line.now ≤ 2 ^ 20 }
     requires rest { W.tells world.old → AllRest store.old.kept (W.view world.old) }
     ensures intact { OnOk result (W.failed world.new ≡ false) }
     ensures ready { OnOk result (store.new.spent ≡ false) }
+    ensures alone { OnOk result (store.new.group ≡ None) }
     ensures rest { OnOk result (W.tells world.new → AllRest store.new.kept (W.view world.new)) }
 {
     match read_line(alloc, line.as_bytes())? {

@@ -31,6 +31,9 @@ every_keyword k.Faces = stands_at 15 all_keywords refl
 every_keyword k.Trace = stands_at 16 all_keywords refl
 every_keyword k.Batch = stands_at 17 all_keywords refl
 every_keyword k.Checkpoint = stands_at 18 all_keywords refl
+every_keyword k.Begin = stands_at 19 all_keywords refl
+every_keyword k.Commit = stands_at 20 all_keywords refl
+every_keyword k.Abandon = stands_at 21 all_keywords refl
 
 -- what a first word says with these values puts these values behind this word
 pub parts_said : (first : Keyword) (v : Values (slots_of (row first))) → parts (said_by (row first) v) ≡ puts first v
@@ -53,6 +56,9 @@ parts_said k.Faces v = refl
 parts_said k.Trace v = refl
 parts_said k.Batch v = refl
 parts_said k.Checkpoint v = refl
+parts_said k.Begin v = refl
+parts_said k.Commit v = refl
+parts_said k.Abandon v = refl
 
 -- a command is what its first word says with what it puts behind it
 pub said_parts : (c : Command)
@@ -76,3 +82,6 @@ said_parts (commands.Query (query.Faces n)) = (n, refl, refl)
 said_parts (commands.Query (query.Trace n)) = (n, refl, refl)
 said_parts (commands.Batch n) = (n, refl, refl)
 said_parts commands.Checkpoint = (tt, refl, refl)
+said_parts commands.Begin = (tt, refl, refl)
+said_parts commands.Commit = (tt, refl, refl)
+said_parts commands.Abandon = (tt, refl, refl)

@@ -1,5 +1,5 @@
 -- The commands: for each its first word, what stands behind it, and what they say together. A word has the
--- space behind it, but for the two with nothing behind them.
+-- space behind it, but for the five with nothing behind them.
 use Rattle.std.specs.Prelude.{ℕ, List, [], ◌∷◌, codes}
 use Rattle.line_grammar.specs.declared.command.Change.TheVariants as change
 use Rattle.line_grammar.specs.declared.command.Query.TheVariants as query
@@ -35,6 +35,9 @@ row k.Faces = Line (codes "faces ") OneName (λ n. commands.Query (query.Faces n
 row k.Trace = Line (codes "trace ") OneNumber (λ n. commands.Query (query.Trace n))
 row k.Batch = Line (codes "batch ") OneNumber (λ n. commands.Batch n)
 row k.Checkpoint = Line (codes "checkpoint") Nothing (λ v. commands.Checkpoint)
+row k.Begin = Line (codes "begin") Nothing (λ v. commands.Begin)
+row k.Commit = Line (codes "commit") Nothing (λ v. commands.Commit)
+row k.Abandon = Line (codes "abandon") Nothing (λ v. commands.Abandon)
 
 -- the first word of a row
 abbrev pub word_of : Row → List ℕ
@@ -57,7 +60,8 @@ abbrev pub all_keywords : List Keyword
 all_keywords =
     k.Point ∷ k.Unpoint ∷ k.Segment ∷ k.Points ∷ k.Lines ∷ k.Regions ∷ k.Let
     ∷ k.Drop ∷ k.Delete ∷ k.Realm ∷ k.Show ∷ k.Chain ∷ k.Eval
-    ∷ k.Ask ∷ k.Num ∷ k.Faces ∷ k.Trace ∷ k.Batch ∷ k.Checkpoint ∷ []
+    ∷ k.Ask ∷ k.Num ∷ k.Faces ∷ k.Trace ∷ k.Batch ∷ k.Checkpoint
+    ∷ k.Begin ∷ k.Commit ∷ k.Abandon ∷ []
 
 -- these values behind this first word
 abbrev pub puts : (first : Keyword) → Values (slots_of (row first)) → Keyword × Filling
@@ -84,3 +88,6 @@ parts (commands.Query (query.Faces n)) = puts k.Faces n
 parts (commands.Query (query.Trace n)) = puts k.Trace n
 parts (commands.Batch n) = puts k.Batch n
 parts commands.Checkpoint = puts k.Checkpoint tt
+parts commands.Begin = puts k.Begin tt
+parts commands.Commit = puts k.Commit tt
+parts commands.Abandon = puts k.Abandon tt

@@ -81,6 +81,12 @@ pub enum Command {
     Batch(u64),
     /// The state is written anew, to the other file.
     Checkpoint,
+    /// The changes from here on are a group.
+    Begin,
+    /// The changes of the group become one record.
+    Commit,
+    /// The changes of the group are given up.
+    Abandon,
 }
 
 /// The first word of a line.
@@ -105,6 +111,9 @@ pub enum Keyword {
     Trace,
     Batch,
     Checkpoint,
+    Begin,
+    Commit,
+    Abandon,
 }
 
 /// The first word at the front.
@@ -133,6 +142,9 @@ pub(crate) fn keyword_of(line: &[u8]) -> Result<(Keyword, &[u8]), ReadError>
             ("trace ", Keyword::Trace),
             ("batch ", Keyword::Batch),
             ("checkpoint", Keyword::Checkpoint),
+            ("begin", Keyword::Begin),
+            ("commit", Keyword::Commit),
+            ("abandon", Keyword::Abandon),
         ],
         line,
     )
@@ -197,6 +209,18 @@ pub(crate) fn command_behind(
             end(line)?;
             Ok(Command::Checkpoint)
         }
+        Keyword::Begin => {
+            end(line)?;
+            Ok(Command::Begin)
+        }
+        Keyword::Commit => {
+            end(line)?;
+            Ok(Command::Commit)
+        }
+        Keyword::Abandon => {
+            end(line)?;
+            Ok(Command::Abandon)
+        }
     }
 }
 
@@ -210,6 +234,9 @@ pub(crate) fn parts_of(c: &Command) -> (Keyword, Parts<'_>)
         Command::Query(query) => query_parts(query),
         Command::Batch(count) => (Keyword::Batch, Parts::OneNumber(*count)),
         Command::Checkpoint => (Keyword::Checkpoint, Parts::Nothing),
+        Command::Begin => (Keyword::Begin, Parts::Nothing),
+        Command::Commit => (Keyword::Commit, Parts::Nothing),
+        Command::Abandon => (Keyword::Abandon, Parts::Nothing),
     }
 }
 
@@ -274,5 +301,8 @@ pub(crate) fn first_word(first: Keyword) -> &'static str
         Keyword::Trace => "trace ",
         Keyword::Batch => "batch ",
         Keyword::Checkpoint => "checkpoint",
+        Keyword::Begin => "begin",
+        Keyword::Commit => "commit",
+        Keyword::Abandon => "abandon",
     }
 }

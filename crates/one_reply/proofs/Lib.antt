@@ -12,6 +12,8 @@ mod OneMeasure
 mod OneQuery
 -- the payload of a state
 mod OnePayload
+-- a state that fits into pages has one
+mod SomePayload
 -- what a change comes to
 mod OneChange
 -- the reply to a line
@@ -32,6 +34,22 @@ mod SomeTruth
 mod Picks
 -- areas, distances and widths
 mod SomeNumber
+-- numbers of the classes of a border
+mod SomeClassNumbers
+-- a border that shuts in the area of another, or doesn't
+mod SomeEnclosures
+-- how many connected parts lines have, and faces a region
+mod SomeComponents
+-- an even border is cut into cycles
+mod SomeCycles
+-- cycles in order, each from its least vertex on
+mod SortedCycles
+-- the faces of a region
+mod SomeFaces
+-- states that pages keep are drawn on the grid
+mod KeptOnGrid
+-- what is told of the faces of a value
+mod ShownFaces
 -- replies to queries
 mod SomeReply
 -- replies to lines

@@ -1,8 +1,10 @@
 -- This file shows that what is in a list can be listed in order: each once, or what stands there an odd number of times.
-use Rattle.std.proofs.Common.{◌≡◌, ◌⊎◌, ◌↔◌, ◌%◌, Bool, List, [], ◌∷◌, Contains, All, AllPairs, count_by}
+use Rattle.std.proofs.Common.{◌≡◌, ◌⊎◌, ◌↔◌, ◌%◌, ◌<◌, ℕ, Bool, List, [], ◌∷◌, Contains, All, AllPairs, count_by}
 use Rattle.std.proofs.Common.{Ordering, Less, Equal, Greater, refl, sym, ap, subst, ◌∙◌, inl, inr, arith}
 use Rattle.std.specs.Cmp.{IsTotalOrder}
-use Rattle.std.specs.Ordering.{ordering_reverse}
+use Rattle.std.specs.Ordering.{ordering_reverse, nat_cmp}
+use Rattle.std.proofs.lemmas.Bool.Decides.{nat_tests}
+use Rattle.std.proofs.lemmas.Cmp.{nat_cmp_total}
 use Rattle.std.proofs.lemmas.List.Elements.{All-contains, Contains-get_or}
 use Rattle.std.proofs.lemmas.List.Kept.{AllPairs-cons}
 use Rattle.grid_base.specs.Point.{GridPoint, IsBefore, point_cmp}
@@ -227,7 +229,13 @@ module _ {X : Type 0} (cmp : X → X → Ordering) (total : IsTotalOrder cmp) (B
         },
       )
 
--- ---- points and segments
+-- ---- points, segments and numbers
+number_less : (m n : ℕ) → nat_cmp m n ≡ Less ↔ (m < n)
+number_less m n = (λ h. grind (arith, nat_tests), λ h. grind (arith, nat_tests))
+
+number_same : (m n : ℕ) → nat_cmp m n ≡ Equal ↔ (m ≡ n)
+number_same m n = (λ h. grind (arith, nat_tests), λ h. grind (arith, nat_tests))
+
 said_of : {X : Type 0} (Q : X → Type 0) (xs those list : List X) → ArePicked Q xs those
     → ((x : X) → Contains list x ↔ Contains those x) → ArePicked Q xs list
 said_of Q xs those list are same = said_by (λ x. Contains xs x × Q x) those list are same
@@ -253,3 +261,6 @@ pub picked_segments : (Q : GridSegment → Type 0) (xs : List GridSegment) → (
 picked_segments Q xs decide =
     let (those, are) = picked Q xs decide in
     let (list, is) = listed_segments those in (list, is.ascending, said_of Q xs those list are is.exact)
+
+pub listed_numbers : (xs : List ℕ) → (list : List ℕ) × IsListed (λ m n. m < n) xs list
+listed_numbers = listed nat_cmp nat_cmp_total (λ m n. m < n) number_less number_same

@@ -28,7 +28,7 @@ has_beside : (C B : List GridSegment) (s : GridSegment) (d : Side) (P Q : Place 
     → HasBeside B s d P → HasBeside C s d Q
 has_beside C B s d P Q part weaker (q, beside, holds) = (q, beside_of_part C B s d q part beside, weaker q holds)
 
-outer_of_part : (C B : List GridSegment) (q : Place) → IsPart C B → IsOuter B q → IsOuter C q
+pub outer_of_part : (C B : List GridSegment) (q : Place) → IsPart C B → IsOuter B q → IsOuter C q
 outer_of_part C B q part (p, left, one) =
     (p, record { real = left.real; left = λ s there. left.left s (part s there) }, class_of_part C B p q part one)
 

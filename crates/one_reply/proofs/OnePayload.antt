@@ -13,7 +13,7 @@ use Rattle.realm_insert.specs.Snapshots.{state_of, kept_steps}
 use Rattle.realm_store.specs.Stands.{Opens}
 
 -- what can be taken back from each element can be from the list
-taken_back : {X Y : Type 0} (f : X → Y) (back : Y → X) → ((x : X) → back (f x) ≡ x) → (xs : List X) → map back (map f xs) ≡ xs
+pub taken_back : {X Y : Type 0} (f : X → Y) (back : Y → X) → ((x : X) → back (f x) ≡ x) → (xs : List X) → map back (map f xs) ≡ xs
 taken_back f back same [] = refl
 taken_back {X} f back same (x ∷ xs) = ap₂ (λ (y : X) (ys : List X). y ∷ ys) (same x) (taken_back f back same xs)
 
@@ -24,7 +24,7 @@ same_list {X} {Y} f back same xs ys mapped =
     sym (taken_back f back same xs) ∙ ap (λ (l : List Y). map back l) mapped ∙ taken_back f back same ys
 
 -- a name with its value, as it is kept
-abbrev kept_entry : List ℕ × Value → Named
+abbrev pub kept_entry : List ℕ × Value → Named
 kept_entry entry = record { name = entry.0; value = record { kind = entry.1.kind; parts = kept_parts entry.1.parts } }
 
 -- it is the one that it was made of

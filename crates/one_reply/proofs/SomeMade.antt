@@ -1,7 +1,8 @@
--- This file shows that every operator but `interior` makes something of the values that it takes.
+-- This file shows that every operator makes something of the values that it takes.
 use Rattle.std.proofs.Common.{◌≡◌, ◌⊎◌, ◌↔◌, ℕ, Bool, true, false, List, [], ◌∷◌, ◌++◌, Contains, All, AllPairs, Any, Option, Some, None}
 use Rattle.std.proofs.Common.{Result, Ok, Err, IfOk, IfSome, refl, sym, ap, subst, inl, inr}
 use Rattle.std.specs.Prelude.{option_map}
+use Rattle.std.proofs.lemmas.List.{append-nil}
 use Rattle.std.proofs.lemmas.List.Elements.{recursion_from_All, All-contains, Contains-append_left, Contains-append_right}
 use Rattle.grid_base.specs.Border.{AreNoded, IsEvenBorder}
 use Rattle.grid_base.specs.Point.{GridPoint, IsBefore}
@@ -15,6 +16,8 @@ use Rattle.rose_values.specs.declared.operators.Op.TheVariants.{Intersection, Pl
 use Rattle.rose_values.specs.Geometry.{kind_of}
 use Rattle.rose_values.specs.Kinds.{result_kind_of}
 use Rattle.rose_values.specs.Operators.{HasEnds, HasEither, HasMeetings, HasWithin, LiesIn, IsEndOfSome, IsNoSharedEnd, IsCombination}
+use Rattle.plane_cells.specs.Rims.{rims}
+use Rattle.plane_cells.proofs.RimCounts.{rims_part, rims_ascend}
 use Rattle.side_parity.proofs.BothSides.{left_answer, right_answer, tells_left, tells_right}
 use Rattle.side_parity.proofs.Pictures.{meet_noded}
 use Rattle.side_parity.proofs.SidesBy.{IsSound}
@@ -34,11 +37,11 @@ use Rattle.rose_measure.proofs.Members.{Contains-flat_map, joined_from}
 use Rattle.realm_insert.specs.declared.refusal.Refusal.TheVariants.{Types}
 use Rattle.rose_query.specs.Replies.{no_reply, value_reply}
 use Rattle.rose_query.specs.Results.{TellsResult}
-use Rattle.one_reply.specs.Answerable.{IsOverlay}
 use Rattle.one_reply.proofs.Decisions.{Decided, same_decided, not_decided, both_decided, either_decided, test_decided}
 use Rattle.one_reply.proofs.Decisions.{any_decided, point_there}
 use Rattle.one_reply.proofs.Listings.{listed_points, listed_segments, picked_points, picked_segments}
-use Rattle.one_reply.proofs.SomeOperands.{AreFit}
+use Rattle.one_reply.proofs.SomeClassNumbers.{some_numbers, border_of_realm}
+use Rattle.one_reply.proofs.SomeOperands.{AreFit, AreAllOnGrid, first_on_grid}
 
 -- ---- ends
 -- the two ends of a segment
@@ -179,15 +182,31 @@ made : (op : Op) (a : Geometry) (b : Option Geometry) (g : Geometry) → IsResul
 made op a b g right up taken =
     record { result = Ok g; right = right; wrong = (λ e. cc, λ e. absurd (taken e)); reply = value_reply g; tells = (up, refl) }
 
+-- `interior` asks for segments on the grid, and the other operators for nothing
+abbrev pub MayMake : Op → Geometry → Option Geometry → Type 0
+MayMake Interior a b = AreAllOnGrid a b
+MayMake op a b = Unit {0}
+
+-- the segments that have the outer class on just one side are the border of what the lines shut in
+interior_made : (lines : List GridSegment) → AreAllOnGrid (L lines) None → AreFit (L lines) None → IsOperated Interior (L lines) None
+interior_made lines grid fit =
+    let noded = subst AreNoded (append-nil lines) fit.noded in
+    let has = some_numbers lines (border_of_realm lines noded fit.first_ascends (first_on_grid (L lines) None grid)) in
+    made Interior (L lines) None (R (rims lines has.numbers)) (record {
+      of_these = rims_part lines has.numbers;
+      even = has.interior.even;
+      places = has.interior.places;
+    }) (rims_ascend lines has.numbers fit.first_ascends) (λ e. cc)
+
 -- one value, by the table of operators
-one_made : (op : Op) (a : Geometry) → IsOverlay op → AreFit a None → IsOperated op a None
-one_made Interior a overlay fit = absurd overlay
-one_made Vertices (L lines) overlay fit =
+one_made : (op : Op) (a : Geometry) → MayMake op a None → AreFit a None → IsOperated op a None
+one_made Interior (L lines) grid fit = interior_made lines grid fit
+one_made Vertices (L lines) may fit =
     let (points, up, are) = some_ends lines in made Vertices (L lines) None (P points) are up (λ e. cc)
-one_made Vertices (R border) overlay fit =
+one_made Vertices (R border) may fit =
     let (points, up, are) = some_ends border in made Vertices (R border) None (P points) are up (λ e. cc)
-one_made Contour (R border) overlay fit = made Contour (R border) None (L border) refl fit.first_ascends (λ e. cc)
-one_made op a overlay fit = not_taken op a None refl
+one_made Contour (R border) may fit = made Contour (R border) None (L border) refl fit.first_ascends (λ e. cc)
+one_made op a may fit = not_taken op a None refl
 
 -- what either list has, in order
 either : {X : Type 0} (A B list : List X) → ((x : X) → Contains list x ↔ Contains (A ++ B) x) → HasEither A B list
@@ -197,42 +216,41 @@ either A B list same x = (
 )
 
 -- two values, by the table
-two_made : (op : Op) (a b : Geometry) → IsOverlay op → AreFit a (Some b) → IsOperated op a (Some b)
-two_made Interior a b overlay fit = absurd overlay
-two_made Intersection (P A) (P B) overlay fit =
+two_made : (op : Op) (a b : Geometry) → AreFit a (Some b) → IsOperated op a (Some b)
+two_made Intersection (P A) (P B) fit =
     let (list, up, are) = picked_points (Contains B) A (λ p there. point_there B p) in
     made Intersection (P A) (Some (P B)) (P list) are up (λ e. cc)
-two_made Plus (P A) (P B) overlay fit =
+two_made Plus (P A) (P B) fit =
     let (list, is) = listed_points (A ++ B) in
     made Plus (P A) (Some (P B)) (P list) (either A B list is.exact) is.ascending (λ e. cc)
-two_made Minus (P A) (P B) overlay fit =
+two_made Minus (P A) (P B) fit =
     let (list, up, are) = picked_points (λ p. Contains B p → ⊥) A (λ p there. not_decided (point_there B p)) in
     made Minus (P A) (Some (P B)) (P list) are up (λ e. cc)
-two_made Intersection (L A) (L B) overlay fit =
+two_made Intersection (L A) (L B) fit =
     let (list, up, are) = some_meetings A B in made Intersection (L A) (Some (L B)) (P list) are up (λ e. cc)
-two_made Plus (L A) (L B) overlay fit =
+two_made Plus (L A) (L B) fit =
     let (list, is) = listed_segments (A ++ B) in
     made Plus (L A) (Some (L B)) (L list) (either A B list is.exact) is.ascending (λ e. cc)
-two_made Minus (L A) (L B) overlay fit =
+two_made Minus (L A) (L B) fit =
     let (list, up, are) = picked_segments (λ s. Contains B s → ⊥) A (λ s there. not_decided (there_or_not s B)) in
     made Minus (L A) (Some (L B)) (L list) are up (λ e. cc)
-two_made Intersection (R A) (L B) overlay fit =
+two_made Intersection (R A) (L B) fit =
     let (list, up, are) = some_within A B fit.noded fit.ordered fit.first_even in
     made Intersection (R A) (Some (L B)) (L list) are up (λ e. cc)
-two_made Intersection (R A) (R B) overlay fit =
+two_made Intersection (R A) (R B) fit =
     let (list, up, are) = some_combination Intersection A B (are_borders A B fit.noded fit.ordered fit.first_even fit.second_even) in
     made Intersection (R A) (Some (R B)) (R list) are up (λ e. cc)
-two_made Plus (R A) (R B) overlay fit =
+two_made Plus (R A) (R B) fit =
     let (list, up, are) = some_combination Plus A B (are_borders A B fit.noded fit.ordered fit.first_even fit.second_even) in
     made Plus (R A) (Some (R B)) (R list) are up (λ e. cc)
-two_made Minus (R A) (R B) overlay fit =
+two_made Minus (R A) (R B) fit =
     let (list, up, are) = some_combination Minus A B (are_borders A B fit.noded fit.ordered fit.first_even fit.second_even) in
     made Minus (R A) (Some (R B)) (R list) are up (λ e. cc)
-two_made CommonBorder (R A) (R B) overlay fit =
+two_made CommonBorder (R A) (R B) fit =
     let (list, up, are) = picked_segments (Contains B) A (λ s there. there_or_not s B) in
     made CommonBorder (R A) (Some (R B)) (L list) are up (λ e. cc)
-two_made op a b overlay fit = not_taken op a (Some b) refl
+two_made op a b fit = not_taken op a (Some b) refl
 
-pub some_operated : (op : Op) (a : Geometry) (b : Option Geometry) → IsOverlay op → AreFit a b → IsOperated op a b
-some_operated op a None overlay fit = one_made op a overlay fit
-some_operated op a (Some b) overlay fit = two_made op a b overlay fit
+pub some_operated : (op : Op) (a : Geometry) (b : Option Geometry) → MayMake op a b → AreFit a b → IsOperated op a b
+some_operated op a None may fit = one_made op a may fit
+some_operated op a (Some b) may fit = two_made op a b fit

@@ -1,21 +1,27 @@
--- This file shows that in a valid state each query of those that are listed has a reply.
+-- This file shows that in a valid state each query has a reply, where what it rests on is on the grid.
 use Rattle.std.proofs.Common.{◌≡◌, ◌⊎◌, ◌↔◌, ℕ, List, ◌++◌, flat_map, Contains, Option, Some, None, Ok, Err}
 use Rattle.std.proofs.Common.{refl, sym, subst, ◌∙◌, inl, inr}
 use Rattle.std.proofs.lemmas.Bool.{cases_eq, true≢false}
+use Rattle.std.proofs.lemmas.List.{append-nil}
 use Rattle.std.proofs.lemmas.List.Elements.{All-contains, Contains-get_or, Contains-append_left, Contains-append_right}
 use Rattle.std.proofs.lemmas.List.Elements.{Contains-append_cases}
+use Rattle.grid_base.specs.Border.{AreNoded}
 use Rattle.grid_base.specs.Point.{GridPoint}
 use Rattle.grid_base.specs.Segment.{GridSegment}
 use Rattle.grid_base.specs.Drawing.{Drawing, IsPoint, IsPiece}
 use Rattle.grid_base.specs.declared.original.Original.{Original}
 use Rattle.rose_values.specs.declared.geometry.Geometry.{Geometry}
+use Rattle.rose_values.specs.declared.geometry.Geometry.TheVariants.{P, L, R}
 use Rattle.rose_values.specs.declared.operators.Num.{Num}
+use Rattle.rose_values.specs.declared.operators.Num.TheVariants.{NoOfComponents}
 use Rattle.rose_values.specs.declared.operators.Op.{Op}
+use Rattle.rose_values.specs.declared.operators.Op.TheVariants.{Interior}
 use Rattle.rose_values.specs.declared.operators.Pred.{Pred}
+use Rattle.rose_values.specs.declared.operators.Pred.TheVariants.{Encloses}
 use Rattle.rose_measure.proofs.Members.{Contains-flat_map, joined_from}
 use Rattle.rose_predicates.specs.declared.answering.HoldsError.TheVariants.{WrongTypes}
 use Rattle.line_grammar.specs.declared.command.Query.{Query}
-use Rattle.line_grammar.specs.declared.command.Query.TheVariants.{Realm, Show, Chain, Eval, Trace, Ask}
+use Rattle.line_grammar.specs.declared.command.Query.TheVariants.{Realm, Show, Chain, Eval, Trace, Ask, Faces}
 use Rattle.line_grammar.specs.declared.command.Query.TheVariants.{Num as Measure}
 use Rattle.realm_drawing.specs.Chains.{AllValid}
 use Rattle.realm_drawing.specs.Ids.{LacksId, IsAscending as RiseById}
@@ -27,20 +33,24 @@ use Rattle.realm_insert.specs.Snapshots.{IsValidState}
 use Rattle.realm_insert.specs.declared.refusal.Refusal.TheVariants.{NoName, Types, NoId, NoTrace}
 use Rattle.rose_query.specs.Asking.{AnswersAsk, AnswersNum}
 use Rattle.rose_query.specs.Causes.{Answer, Unless}
-use Rattle.rose_query.specs.Replies.{no_reply, realm_reply, chain_reply, value_reply, trace_reply, truth_reply}
+use Rattle.rose_query.specs.Outlines.{AnswersFaces}
+use Rattle.rose_query.specs.Told.{TellsFaces}
+use Rattle.rose_query.specs.Replies.{no_reply, realm_reply, chain_reply, value_reply, trace_reply, truth_reply, faces_reply}
 use Rattle.rose_query.specs.Answers.{ShowsRealm, ShowsChain, ShowsTrace, LacksTrace, AnswersEval, AnswersQuery}
 use Rattle.rose_query.proofs.DrawnOperands.{operands_are_outside}
+use Rattle.one_reply.proofs.ShownFaces.{faces_shown}
 use Rattle.rose_query.proofs.Results.{told_answers}
 use Rattle.rose_query.proofs.Told.{measured_answers, asked_answers}
 use Rattle.rose_query.proofs.ValueAnswers.{value_shown}
-use Rattle.one_reply.specs.Answerable.{IsExtent, IsOverlay, IsComparison, HasSomeReply}
+use Rattle.one_reply.specs.Answerable.{IsDrawnOnGrid, HasSomeReply}
 use Rattle.one_reply.proofs.Decisions.{first_with, answer_of}
 use Rattle.one_reply.proofs.Listings.{listed_points, listed_segments}
 use Rattle.one_reply.proofs.SomeGeometry.{only_one, some_value}
-use Rattle.one_reply.proofs.SomeMade.{some_operated}
-use Rattle.one_reply.proofs.SomeNumber.{some_measure}
-use Rattle.one_reply.proofs.SomeOperands.{AreFit, some_operands}
-use Rattle.one_reply.proofs.SomeTruth.{some_truth}
+use Rattle.one_reply.proofs.SomeFaces.{some_faces}
+use Rattle.one_reply.proofs.SomeMade.{MayMake, some_operated}
+use Rattle.one_reply.proofs.SomeNumber.{MayMeasure, some_measure}
+use Rattle.one_reply.proofs.SomeOperands.{AreFit, AreAllOnGrid, some_operands, first_on_grid, operands_on_grid}
+use Rattle.one_reply.proofs.SomeTruth.{MayTell, some_truth}
 
 -- the answer allows some reply in the state
 abbrev pub IsTold : Answer → State → Type 0
@@ -139,31 +149,50 @@ told_value name s valid = elim (some_value s name valid) [
 ]
 
 -- what the operator makes of them
-told_made : (op : Op) (first : List ℕ) (second : Option (List ℕ)) (s : State) → IsOverlay op → IsValidState s
-    → IsTold (AnswersEval op first second) s
-told_made op first second s overlay valid = elim (some_operands s first second valid) [
+may_make : (op : Op) (a : Geometry) (b : Option Geometry) (first : List ℕ) (second : Option (List ℕ)) (s : State)
+    → HasSomeReply (Eval op first second) s → (IsDrawnOnGrid s → AreAllOnGrid a b) → MayMake op a b
+may_make Interior a b first second s some grid = grid some
+may_make op a b first second s some grid = tt
+
+told_made : (op : Op) (first : List ℕ) (second : Option (List ℕ)) (s : State) → HasSomeReply (Eval op first second) s
+    → IsValidState s → IsTold (AnswersEval op first second) s
+told_made op first second s some valid = elim (some_operands s first second valid) [
   | inl lacks ↦ (no_reply NoName, inl (lacks, refl))
   | inr of ↦
-      let made = some_operated op of.a of.b overlay of.fit in
+      let may = may_make op of.a of.b first second s some (λ grid. operands_on_grid s first second valid grid of) in
+      let made = some_operated op of.a of.b may of.fit in
       (made.reply, told_answers s first second of.a of.b of.are op made.result made.right made.wrong made.reply made.tells)
 ]
 
 -- their number
-told_number : (num : Num) (first : List ℕ) (second : Option (List ℕ)) (s : State) → IsExtent num → IsValidState s
-    → IsTold (AnswersNum num first second) s
-told_number num first second s extent valid = elim (some_operands s first second valid) [
+may_measure : (num : Num) (a : Geometry) (b : Option Geometry) (first : List ℕ) (second : Option (List ℕ)) (s : State)
+    → HasSomeReply (Measure num first second) s → (IsDrawnOnGrid s → AreAllOnGrid a b) → MayMeasure num a b
+may_measure NoOfComponents a b first second s some grid = grid some
+may_measure num a b first second s some grid = tt
+
+told_number : (num : Num) (first : List ℕ) (second : Option (List ℕ)) (s : State) → HasSomeReply (Measure num first second) s
+    → IsValidState s → IsTold (AnswersNum num first second) s
+told_number num first second s some valid = elim (some_operands s first second valid) [
   | inl lacks ↦ (no_reply NoName, inl (lacks, refl))
   | inr of ↦
-      let (reply, told) = some_measure num of.a of.b extent of.fit in
+      let may = may_measure num of.a of.b first second s some (λ grid. operands_on_grid s first second valid grid of) in
+      let (reply, told) = some_measure num of.a of.b may of.fit in
       (reply, measured_answers num s first second of.a of.b of.are reply told)
 ]
 
 -- each point of a value is explicit and each segment a piece, so no point is inside a segment
-told_of : (pred : Pred) (first second : List ℕ) (s : State) (a : Geometry) (b : Option Geometry) → IsComparison pred → IsValidState s
-    → AreOperands first (Some second) s a b → AreFit a b → IsTold (AnswersAsk pred first second) s
-told_of pred first second s a None compares valid are fit = absurd are.is_second
-told_of pred first second s a (Some b) compares valid are fit =
-    elim (some_truth pred a b compares fit (operands_are_outside s valid.realm valid.values_fit a b are)) [
+may_tell : (pred : Pred) (a b : Geometry) (first second : List ℕ) (s : State) → HasSomeReply (Ask pred first second) s
+    → (IsDrawnOnGrid s → AreAllOnGrid a (Some b)) → MayTell pred a b
+may_tell Encloses a b first second s some grid = grid some
+may_tell pred a b first second s some grid = tt
+
+told_of : (pred : Pred) (first second : List ℕ) (s : State) (a : Geometry) (b : Option Geometry)
+    → HasSomeReply (Ask pred first second) s → IsValidState s → AreOperands first (Some second) s a b → AreFit a b
+    → (IsDrawnOnGrid s → AreAllOnGrid a b) → IsTold (AnswersAsk pred first second) s
+told_of pred first second s a None some valid are fit grid = absurd are.is_second
+told_of pred first second s a (Some b) some valid are fit grid =
+    elim (some_truth pred a b (may_tell pred a b first second s some grid) fit
+    (operands_are_outside s valid.realm valid.values_fit a b are)) [
       | inl untaken ↦ (
         no_reply Types,
         asked_answers s first second a b are pred (Err WrongTypes) tt (λ e. untaken, λ e. refl) (no_reply Types) refl,
@@ -177,16 +206,38 @@ told_of pred first second s a (Some b) compares valid are fit =
     ]
 
 -- so a predicate holds of them or doesn't
-told_truth : (pred : Pred) (first second : List ℕ) (s : State) → IsComparison pred → IsValidState s
+told_truth : (pred : Pred) (first second : List ℕ) (s : State) → HasSomeReply (Ask pred first second) s → IsValidState s
     → IsTold (AnswersAsk pred first second) s
-told_truth pred first second s compares valid = elim (some_operands s first (Some second) valid) [
+told_truth pred first second s some valid = elim (some_operands s first (Some second) valid) [
   | inl lacks ↦ (no_reply NoName, inl (lacks, refl))
-  | inr of ↦ told_of pred first second s of.a of.b compares valid of.are of.fit
+  | inr of ↦ told_of pred first second s of.a of.b some valid of.are of.fit
+      (λ grid. operands_on_grid s first (Some second) valid grid of)
 ]
 
--- ---- every query of these
+-- the faces of a region
+listed_faces : (g : Geometry) → AreFit g None → AreAllOnGrid g None → (reply : List ℕ) × TellsFaces g reply
+listed_faces (P points) fit grid = (no_reply Types, refl)
+listed_faces (L lines) fit grid = (no_reply Types, refl)
+listed_faces (R border) fit grid =
+    let noded = subst AreNoded (append-nil border) fit.noded in
+    let (faces, are) = some_faces border noded fit.first_ascends fit.first_even (first_on_grid (R border) None grid) in
+    (faces_reply faces, record { ascending = fit.first_ascends; faces = faces; are_faces = are; reply_is = refl })
+
+told_faces : (name : List ℕ) (s : State) → IsDrawnOnGrid s → IsValidState s → IsTold (AnswersFaces name) s
+told_faces name s grid valid = elim (some_operands s name None valid) [
+  | inl lacks ↦ elim lacks [ inl none ↦ (no_reply NoName, inl (none, refl)) | inr never ↦ absurd never ]
+  | inr of ↦ faces_of of.a of.b of.are of.fit (operands_on_grid s name None valid grid of)
+]
+  where
+    faces_of : (a : Geometry) (b : Option Geometry) → AreOperands name None s a b → AreFit a b → AreAllOnGrid a b
+        → IsTold (AnswersFaces name) s
+    faces_of a None are fit on_grid =
+        let (reply, told) = listed_faces a fit on_grid in (reply, faces_shown s name a reply are.is_first told)
+    faces_of a (Some b) are fit on_grid = absurd are.is_second
+
+-- ---- every query
 -- each by its kind
-pub some_reply : (q : Query) (s : State) → HasSomeReply q → IsValidState s → IsTold (AnswersQuery q) s
+pub some_reply : (q : Query) (s : State) → HasSomeReply q s → IsValidState s → IsTold (AnswersQuery q) s
 some_reply Realm s some valid = told_realm s valid
 some_reply (Show name) s some valid = told_value name s valid
 some_reply (Chain id) s some valid = told_chain id s valid
@@ -194,4 +245,4 @@ some_reply (Trace number) s some valid = told_trace number s
 some_reply (Measure num first second) s some valid = told_number num first second s some valid
 some_reply (Eval op first second) s some valid = told_made op first second s some valid
 some_reply (Ask pred first second) s some valid = told_truth pred first second s some valid
-some_reply _ s some valid = absurd some
+some_reply (Faces name) s some valid = told_faces name s some valid

@@ -1,4 +1,4 @@
--- This file shows that every predicate but `encloses` holds or doesn't of the values that it takes.
+-- This file shows that every predicate holds or doesn't of the values that it takes.
 use Rattle.std.proofs.Common.{◌≡◌, ◌⊎◌, ◌↔◌, ◌==◌, false, true, not, List, [], ◌++◌, length, All, AllPairs, Contains, Some, refl, inl, inr}
 use Rattle.std.proofs.lemmas.Bool.{cases_eq}
 use Rattle.std.proofs.lemmas.List.Elements.{All-contains, Contains-append_cases, Contains-append_left, Contains-append_right}
@@ -24,11 +24,11 @@ use Rattle.rose_predicates.proofs.PointSets.{points_inside, points_shared, point
 use Rattle.rose_predicates.proofs.PointsAndRegions.{IsEndOrOdd, points_in_region, points_touch_region}
 use Rattle.rose_predicates.proofs.LinesAndRegions as lines
 use Rattle.rose_predicates.proofs.RegionSets as regions
-use Rattle.one_reply.specs.Answerable.{IsComparison}
 use Rattle.one_reply.proofs.Decisions.{Decided, same_decided, not_decided, both_decided, either_decided, test_decided}
 use Rattle.one_reply.proofs.Decisions.{all_decided, any_decided, point_there}
 use Rattle.one_reply.proofs.SomeMade.{some_ends, some_within, some_combination, are_borders, ordered_first, ordered_second}
-use Rattle.one_reply.proofs.SomeOperands.{AreFit}
+use Rattle.one_reply.proofs.SomeEnclosures.{AreOnGrid, shuts_in_or_not}
+use Rattle.one_reply.proofs.SomeOperands.{AreFit, AreAllOnGrid}
 
 -- one claim is the other, read from behind
 back : {P Q : Type 0} → P ↔ Q → Q ↔ P
@@ -170,22 +170,37 @@ abbrev pub IsToldOf : Pred → Geometry → Geometry → Type 0
 IsToldOf p a b =
     (takes_kinds p (kind_of a) (kind_of b) ≡ false) ⊎ ((takes_kinds p (kind_of a) (kind_of b) ≡ true) × Decided (IsTrueOf p a b))
 
-of_regions : (p : Pred) (A B : List GridSegment) → IsComparison p → AreFit (R A) (Some (R B)) → IsToldOf p (R A) (R B)
-of_regions pred.Encloses A B compares fit = absurd compares
-of_regions pred.Equal A B compares fit = inr (refl, both_decided (within A B fit) (around A B fit))
-of_regions pred.Inside A B compares fit = inr (refl, within A B fit)
-of_regions pred.EdgeInside A B compares fit = inr (refl, both_decided (within A B fit) (not_decided (segment A B fit)))
-of_regions pred.VertexInside A B compares fit = inr (refl, both_decided (within A B fit) (not_decided (vertex A B fit)))
-of_regions pred.AreaDisjoint A B compares fit = inr (refl, not_decided (meet A B fit))
-of_regions pred.EdgeDisjoint A B compares fit =
+-- `encloses` asks for segments on the grid, and the other predicates for nothing
+abbrev pub MayTell : Pred → Geometry → Geometry → Type 0
+MayTell pred.Encloses a b = AreAllOnGrid a (Some b)
+MayTell p a b = Unit {0}
+
+on_grid : (A B : List GridSegment) → AreAllOnGrid (R A) (Some (R B)) → AreFit (R A) (Some (R B)) → AreOnGrid A B
+on_grid A B grid fit = record {
+  noded = fit.noded;
+  first_ascends = fit.first_ascends;
+  second_ascends = fit.second_ascends;
+  second_even = fit.second_even;
+  grid = grid;
+}
+
+of_regions : (p : Pred) (A B : List GridSegment) → MayTell p (R A) (R B) → AreFit (R A) (Some (R B)) → IsToldOf p (R A) (R B)
+of_regions pred.Encloses A B grid fit =
+    inr (refl, both_decided (not_decided (meet A B fit)) (shuts_in_or_not A B (on_grid A B grid fit)))
+of_regions pred.Equal A B may fit = inr (refl, both_decided (within A B fit) (around A B fit))
+of_regions pred.Inside A B may fit = inr (refl, within A B fit)
+of_regions pred.EdgeInside A B may fit = inr (refl, both_decided (within A B fit) (not_decided (segment A B fit)))
+of_regions pred.VertexInside A B may fit = inr (refl, both_decided (within A B fit) (not_decided (vertex A B fit)))
+of_regions pred.AreaDisjoint A B may fit = inr (refl, not_decided (meet A B fit))
+of_regions pred.EdgeDisjoint A B may fit =
     inr (refl, both_decided (not_decided (meet A B fit)) (not_decided (segment A B fit)))
-of_regions pred.Disjoint A B compares fit = inr (refl, not_decided (of_both A B fit))
-of_regions pred.Intersects A B compares fit = inr (refl, meet A B fit)
-of_regions pred.Meets A B compares fit =
+of_regions pred.Disjoint A B may fit = inr (refl, not_decided (of_both A B fit))
+of_regions pred.Intersects A B may fit = inr (refl, meet A B fit)
+of_regions pred.Meets A B may fit =
     inr (refl, both_decided (both_decided (not_decided (meet A B fit)) (not_decided (segment A B fit))) (of_both A B fit))
-of_regions pred.Adjacent A B compares fit = inr (refl, both_decided (not_decided (meet A B fit)) (segment A B fit))
-of_regions pred.BorderInCommon A B compares fit = inr (refl, segment A B fit)
-of_regions pred.OnBorderOf A B compares fit = inl refl
+of_regions pred.Adjacent A B may fit = inr (refl, both_decided (not_decided (meet A B fit)) (segment A B fit))
+of_regions pred.BorderInCommon A B may fit = inr (refl, segment A B fit)
+of_regions pred.OnBorderOf A B may fit = inl refl
 
 of_lines_and_region : (p : Pred) (A B : List GridSegment) → AreFit (L A) (Some (R B)) → IsToldOf p (L A) (R B)
 of_lines_and_region pred.Inside A B fit = inr (refl, lines_in A B fit.noded fit.ordered fit.second_even)
@@ -239,14 +254,14 @@ region_and_lines pred.Equal = refl
 region_and_lines _ = refl
 
 -- by the table of predicates
-pub some_truth : (p : Pred) (a b : Geometry) → IsComparison p → AreFit a (Some b)
+pub some_truth : (p : Pred) (a b : Geometry) → MayTell p a b → AreFit a (Some b)
     → AreOutside (points_of a ++ points_of b) (segments_of a ++ segments_of b) → IsToldOf p a b
-some_truth p (P A) (P B) compares fit outside = of_points p A B
-some_truth p (P A) (L B) compares fit outside = of_points_and_lines p A B (apart A B outside) (ordered_second [] B fit.ordered)
-some_truth p (P A) (R B) compares fit outside = of_points_and_region p A B (apart A B outside) (ordered_second [] B fit.ordered)
-some_truth p (L A) (L B) compares fit outside = of_lines p A B fit
-some_truth p (L A) (R B) compares fit outside = of_lines_and_region p A B fit
-some_truth p (R A) (R B) compares fit outside = of_regions p A B compares fit
-some_truth p (L A) (P B) compares fit outside = inl (lines_and_points p)
-some_truth p (R A) (P B) compares fit outside = inl (region_and_points p)
-some_truth p (R A) (L B) compares fit outside = inl (region_and_lines p)
+some_truth p (P A) (P B) may fit outside = of_points p A B
+some_truth p (P A) (L B) may fit outside = of_points_and_lines p A B (apart A B outside) (ordered_second [] B fit.ordered)
+some_truth p (P A) (R B) may fit outside = of_points_and_region p A B (apart A B outside) (ordered_second [] B fit.ordered)
+some_truth p (L A) (L B) may fit outside = of_lines p A B fit
+some_truth p (L A) (R B) may fit outside = of_lines_and_region p A B fit
+some_truth p (R A) (R B) may fit outside = of_regions p A B may fit
+some_truth p (L A) (P B) may fit outside = inl (lines_and_points p)
+some_truth p (R A) (P B) may fit outside = inl (region_and_points p)
+some_truth p (R A) (L B) may fit outside = inl (region_and_lines p)

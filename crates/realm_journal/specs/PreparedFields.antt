@@ -8,7 +8,7 @@ use Rattle.realm_journal.specs.declared.prepared.Prepared.TheInside.{Inside}
 
 -- what was read, and a record that has no text where nothing was
 abbrev pub record_or_none : Option (Record × List ℕ) → Record
-record_or_none None = record { number = 0; line = []; trace = [] }
+record_or_none None = record { number = 0; entries = [] }
 record_or_none (Some read) = read.0
 
 -- the record that is read from the block

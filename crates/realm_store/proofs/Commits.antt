@@ -1,64 +1,39 @@
 -- This file shows what a commit makes of what is kept, and what it leaves of the files.
-use Rattle.std.proofs.Common.{◌≡◌, inl, ◌<◌, ◌^◌, ◌+◌, ◌-◌, ℕ, Bool, List, Some, length, refl, sym, ◌∙◌, ap, subst, arith}
+use Rattle.std.proofs.Common.{◌≡◌, inl, ◌<◌, ◌^◌, ℕ, Bool, List, Option, Some, None, refl, sym, ◌∙◌, ap, subst}
 use Rattle.std.proofs.lemmas.Result.{IfOk-from_err}
-use Rattle.std.specs.Prelude.{Result, Ok, IsErr}
+use Rattle.std.specs.Prelude.{Result, Ok, Err, OnOk, IsErr, MatchOption}
 use Rattle.outside_world.specs.declared.world.FileName.{FileName}
 use Rattle.outside_world.specs.View.{View}
-use Rattle.grid_base.specs.declared.kinds.Step.{Step}
 use Rattle.line_grammar.specs.declared.command.Change.{Change}
 use Rattle.line_grammar.specs.Spellable.{IsSpellableChange}
 use Rattle.record_codec.specs.declared.record.Record.{Record}
 use Rattle.record_codec.specs.Fitting.{IsRecord}
 use Rattle.record_codec.specs.Spelling.{record_text}
 use Rattle.realm_insert.specs.State.{State}
-use Rattle.realm_insert.specs.Next.{Next}
 use Rattle.realm_journal.specs.Appending.{Appended}
 use Rattle.realm_journal.specs.declared.error.JournalError.{JournalError}
 use Rattle.realm_files.specs.Writing.{place_or_first, Committed}
 use Rattle.realm_files.specs.declared.place.Place.{Place}
 use Rattle.realm_files.proofs.Appends.{committed}
 use Rattle.realm_files.proofs.ReadyGates.{committed_by}
-use Rattle.realm_files.proofs.Runs.{leaves_wider}
+use Rattle.realm_files.proofs.Rests.{rest_in_each}
+use Rattle.realm_files.proofs.Runs.{leaves_none, leaves_wider}
 use Rattle.realm_store.specs.declared.committing.Ready.{Ready}
 use Rattle.realm_store.specs.Leading.{Leads}
 use Rattle.realm_store.specs.Stands.{meaning}
-use Rattle.realm_store.specs.Keeping.{Kept, SpendableKept, AllRest, with_state}
-use Rattle.realm_store.specs.Sound.{IsSound}
-use Rattle.realm_store.specs.Replies.{ok_reply}
-use Rattle.realm_store.specs.Making.{IsMade, next_gate, record_of, place_behind, kept_behind}
+use Rattle.realm_store.specs.Keeping.{Kept, Group, SpendableKept, AllRest, with_state}
+use Rattle.realm_store.specs.Making.{IsMade, next_gate, place_behind, kept_behind, Joins, Commits}
 use Rattle.realm_store.specs.NextGates.{IsGateFor}
 use Rattle.realm_store.specs.ReadyChanges.{IsReady}
-use Rattle.realm_store.specs.Committing.{Readied, Keeps}
+use Rattle.realm_store.specs.Committing.{Readied, IsWritten, Keeps}
 
 -- ---- a change is made
-
--- A store keeps this of the files, the engine makes the change from its state by these steps, and all that is written is ready.
-pub is_ready : {start : Kept} {spent : Bool} {self : SpendableKept} → record { kept = start; spent = spent } ≡ self
-    → {c : Change} {steps : List Step} {state : State} → Next start.state c steps state → IsSound state
-    → {ready : Ready} → IsGateFor ready.gate start.place start.has_gate
-    → {number first : ℕ} (added : ℕ) → (ready.record ≡ record_of c steps number) × IsRecord ready.record
-    → ready.reply ≡ ok_reply number (length steps) first added
-    → number ≡ state.changes → (first ≡ start.state.next_id) × (start.state.next_id + added ≡ state.next_id)
-    → IsReady c self.kept (with_state state start) ready
-is_ready {start} is {c} {steps} {state} next sound {ready} gate added (record_is, is_record) reply number numbers =
-    let more = numbers.1 in
-    let count : added ≡ state.next_id - start.state.next_id = omega (arith, more) in
-    subst (λ (s : SpendableKept). IsReady c s.kept (with_state state start) ready) is (record {
-      steps = steps;
-      next = next;
-      sound = sound;
-      same_place = refl;
-      gate = gate;
-      is_record = is_record;
-      record_is = record_is ∙ ap (λ n. record_of c steps n) number;
-      reply_is = reply ∙ (λ i. ok_reply (number i) (length steps) (numbers.0 i) (count i));
-    })
 
 -- A change was made of what is kept, and waits to be written.
 module _ {c : Change} {old new : Kept} {ready : Ready} (made : IsReady c old new ready) where
   -- its record will stand behind the gate that waited
   abbrev pub after : Kept
-  after = kept_behind new ready.record
+  after = kept_behind new ready.record new.state
 
   -- so it is made of what is kept
   pub is_made : next_gate old < 2 ^ 61 → IsMade c old ready.reply after
@@ -78,10 +53,7 @@ module _ {c : Change} {old new : Kept} {ready : Ready} (made : IsReady c old new
   leads : IsSpellableChange c → Leads old.state ready.record new.state
   leads spellable = subst (λ (r : Record). Leads old.state r new.state) (sym made.record_is) (record {
     number = made.next.changes;
-    change = c;
-    spellable = spellable;
-    line = refl;
-    next = made.next;
+    entries = (new.state, record { change = c; spellable = spellable; line = refl; next = made.next }, refl);
   })
 
   before : with_state old.state new ≡ old
@@ -98,11 +70,35 @@ module _ {c : Change} {old new : Kept} {ready : Ready} (made : IsReady c old new
   kept_from {v} {w} {r} spellable rest told =
       subst (λ k. Keeps v w k after r) before (told old.state (rests_before rest) (leads spellable))
 
+-- a change outside a group
+pub commits_alone : {c : Change} (old after : SpendableKept) {reply : List ℕ} → old.group ≡ None → IsMade c old.kept reply after.kept
+    → after.group ≡ None → Commits c old reply after
+commits_alone {c} old after {reply} alone made none =
+    subst (λ g. MatchOption g (IsMade c old.kept reply after.kept × (after.group ≡ None))
+    (λ group. (after.kept ≡ old.kept) × ((more : Group) × (after.group ≡ Some more) × Joins c old.kept group reply more))) (sym alone)
+    (made, none)
+
+pub made_alone : {c : Change} (old new : SpendableKept) {reply : List ℕ} → old.group ≡ None → Commits c old reply new
+    → IsMade c old.kept reply new.kept × (new.group ≡ None)
+made_alone {c} old new {reply} alone commits =
+    subst (λ g. MatchOption g (IsMade c old.kept reply new.kept × (new.group ≡ None))
+    (λ group. (new.kept ≡ old.kept) × ((more : Group) × (new.group ≡ Some more) × Joins c old.kept group reply more))) alone commits
+
+-- ---- nothing is written
+
+pub unwritten : {v : View} {kept later : Kept} → AllRest kept v → IsWritten v v kept later
+unwritten rest = leaves_none (λ files images _. inl (inl (rest_in_each meaning rest files images)))
+
+pub written_in_group : {T X E : Type 0} {v : View} {kept : Kept} (later : Kept) (r : Result X E) → (T → AllRest kept v)
+    → OnOk r (T → IsWritten v v kept later)
+written_in_group later (Ok x) rest = λ t. unwritten (rest t)
+written_in_group later (Err e) rest = tt
+
 -- ---- its record is written
 
 -- the place is that of the gate which a store keeps
-pub place_is : {start : Kept} {spent : Bool} {self : SpendableKept} {place : Place} → record { kept = start; spent = spent } ≡ self
-    → place ≡ place_or_first start.place → place ≡ place_or_first self.kept.place
+pub place_is : {start : Kept} {group : Option Group} {spent : Bool} {self : SpendableKept} {place : Place}
+    → record { kept = start; group = group; spent = spent } ≡ self → place ≡ place_or_first start.place → place ≡ place_or_first self.kept.place
 place_is is there = there ∙ ap (λ (s : SpendableKept). place_or_first s.kept.place) is
 
 -- the gate isn't ready yet, or the record isn't whole,
@@ -118,20 +114,20 @@ module _ {old mid new : View} {start : Kept} {state : State} {place : Place} {r 
     (is_record : IsRecord r) (leads : Leads start.state r state) {x : Unit {0}} (ready : Readied old mid start (place_or_first start.place) (Ok x))
     (reads : (f : FileName) → new.image f (new.reads f)) where
   behind : (a : Result ℕ JournalError) → Appended mid new place.file place.next (record_text r) a
-      → Committed meaning old new start (kept_behind (with_state state start) r) a
+      → Committed meaning old new start (kept_behind start r state) a
   behind a appended =
       let here = subst (λ (p : Place). Appended mid new p.file p.next (record_text r) a) there appended in
       committed_by meaning refl ready (committed meaning state r is_record leads ready.rest a reads here)
 
   pub kept_cut : (a : Result ℕ JournalError) (s : Result Unit JournalError) → IsErr s
-      → Appended mid new place.file place.next (record_text r) a → Keeps old new start (kept_behind (with_state state start) r) s
+      → Appended mid new place.file place.next (record_text r) a → Keeps old new start (kept_behind start r state) s
   kept_cut a s failed appended = record {
     written = (behind a appended).written;
-    rest = IfOk-from_err s (λ _. AllRest (kept_behind (with_state state start) r) new) failed;
+    rest = IfOk-from_err s (λ _. AllRest (kept_behind start r state) new) failed;
   }
 
   pub kept_whole : {n : ℕ} {y : Unit {0}} → Appended mid new place.file place.next (record_text r) (Ok n)
-      → Keeps old new start (kept_behind (with_state state start) r) (Ok y)
+      → Keeps old new start (kept_behind start r state) (Ok y)
   kept_whole {n} appended =
       let done = behind (Ok n) appended in
       record { written = done.written; rest = done.rest }

@@ -6,12 +6,18 @@ pub mod EmptyStates
 pub mod EmptyFiles
 -- what the next gate is, and how it is made ready
 pub mod ReadyGates
+-- what is seen of a group
+pub mod Groups
 -- what a commit makes and leaves
 pub mod Commits
+-- what the end of a group makes
+pub mod Endings
 -- what a checkpoint makes
 pub mod Checkpoints
 -- and two files have one reading
 pub mod OneReading
+-- what files stood for when each record was one change
+pub mod OldImages
 -- where a record leads that is made again
 pub mod Replays
 -- what files stand for whose records were made again

@@ -2,8 +2,10 @@
 use Rattle.std.proofs.Common.{◌≡◌, ℕ, ◌+◌, ◌<◌, Bool, true, false, List, [], ◌∷◌, ◌++◌, length, take, drop, get_or}
 use Rattle.std.proofs.Common.{refl, sym, ◌∙◌, ap, subst, arith}
 use Rattle.std.proofs.lemmas.List.{take_more, drop_more, take-append-drop, length-take-le}
+use Rattle.std.specs.Prelude.{Result, Ok, Err, IfOk}
 use Rattle.grid_base.specs.declared.kinds.Step.{Step}
 use Rattle.line_grammar.specs.declared.command.Change.{Change}
+use Rattle.record_codec.specs.declared.entry.Entry.{Entry}
 use Rattle.record_codec.specs.declared.record.Record.{Record}
 use Rattle.realm_insert.specs.State.{State, SpendableState}
 use Rattle.realm_insert.specs.Next.{Next}
@@ -11,34 +13,34 @@ use Rattle.realm_insert.specs.Refusals.{IsRefusedBy}
 use Rattle.realm_insert.specs.Misfits.{MisfitsAt}
 use Rattle.realm_insert.specs.declared.refusal.Refusal.{Refusal}
 use Rattle.realm_insert.proofs.SameStates.{not_refused, fits}
-use Rattle.realm_store.specs.Leading.{Leads}
-use Rattle.realm_store.specs.Replaying.{IsReplayable, LeadOn, LeadsNowhere, Remade, Replayed}
-use Rattle.realm_store.proofs.LedOnce.{one_change}
+use Rattle.realm_store.specs.Leading.{LeadsBy, LeadOnBy, Leads}
+use Rattle.realm_store.specs.Replaying.{IsReplayable, LeadOn, LeadsNowhere, RemadeBy, RemadeOnBy, Remade, Replayed}
+use Rattle.realm_store.proofs.LedOnce.{one_change, leads_by_once}
 
--- the record leads on,
-pub remade : {state : State} {r : Record} {engine : SpendableState} → engine.spent ≡ false → Leads state r engine.state
-    → Remade state r true engine
-remade ready leads = record { ready = λ _. ready; led = λ _. leads; nowhere = λ no. absurd cc }
+-- the entry leads on,
+pub made_by : {state : State} {e : Entry} {engine : SpendableState} → engine.spent ≡ false → LeadsBy state e engine.state
+    → RemadeBy state e true engine
+made_by ready leads = record { ready = λ _. ready; led = λ _. leads; nowhere = λ no. absurd cc }
 
 -- or to no state,
-pub not_remade : {state : State} {r : Record} {engine : SpendableState} → LeadsNowhere state r → Remade state r false engine
-not_remade nowhere = record { ready = λ no. absurd cc; led = λ no. absurd cc; nowhere = λ _. nowhere }
+not_made_by : {state : State} {e : Entry} {engine : SpendableState} → ((after : State) → LeadsBy state e after → ⊥)
+    → RemadeBy state e false engine
+not_made_by nowhere = record { ready = λ no. absurd cc; led = λ no. absurd cc; nowhere = λ _. nowhere }
 
 unspent : (b : Bool) → (b ≡ true → ⊥) → b ≡ false
 unspent true never = absurd (never refl)
 unspent false never = refl
 
-module _ {state : State} {r : Record} {c : Change} (of_line : IsReplayable r.line c) where
+module _ {state : State} {e : Entry} {c : Change} (of_line : IsReplayable e.line c) where
   -- where its line is the text of a change, it leads to what that change makes by its trace
-  next_of : (after : State) → Leads state r after → Next state c r.trace after
+  next_of : (after : State) → LeadsBy state e after → Next state c e.trace after
   next_of after leads =
       let same = one_change leads.change c leads.spellable of_line.spellable (sym leads.line ∙ of_line.is_text) in
-      subst (λ d. Next state d r.trace after) same leads.next
+      subst (λ d. Next state d e.trace after) same leads.next
 
-  pub remade_by : (engine : SpendableState) (steps : List Step) → r.number ≡ state.changes + 1 → steps ≡ r.trace
-      → (engine.spent ≡ true → ⊥) → Next state c steps engine.state → Remade state r true engine
-  remade_by engine steps number is ready next = remade (unspent engine.spent ready) (record {
-    number = number;
+  pub remade_by : (engine : SpendableState) (steps : List Step) → steps ≡ e.trace
+      → (engine.spent ≡ true → ⊥) → Next state c steps engine.state → RemadeBy state e true engine
+  remade_by engine steps is ready next = made_by (unspent engine.spent ready) (record {
     change = c;
     spellable = of_line.spellable;
     line = of_line.is_text;
@@ -46,15 +48,66 @@ module _ {state : State} {r : Record} {c : Change} (of_line : IsReplayable r.lin
   })
 
   -- and nowhere where that is refused, or fails by its trace
-  pub remade_refused : (engine : SpendableState) (word : Refusal) → IsRefusedBy c state word → Remade state r false engine
+  pub remade_refused : (engine : SpendableState) (word : Refusal) → IsRefusedBy c state word → RemadeBy state e false engine
   remade_refused engine word refused =
-      not_remade (λ after leads. not_refused state after c r.trace word (next_of after leads) refused)
+      not_made_by (λ after leads. not_refused state after c e.trace word (next_of after leads) refused)
 
-  pub remade_misfit : (engine : SpendableState) (steps : List Step) (number : ℕ) → steps ≡ r.trace → MisfitsAt c state steps number
-      → Remade state r false engine
+  pub remade_misfit : (engine : SpendableState) (steps : List Step) (number : ℕ) → steps ≡ e.trace → MisfitsAt c state steps number
+      → RemadeBy state e false engine
   remade_misfit engine steps number is misfits =
       let of_trace = subst (λ l. MisfitsAt c state l number) is misfits in
-      not_remade (λ after leads. fits state after c r.trace number (next_of after leads) of_trace)
+      not_made_by (λ after leads. fits state after c e.trace number (next_of after leads) of_trace)
+
+-- ---- the entries of a record
+
+-- one entry more leads on
+pub lead_on_by : (start mid new : State) (es : List Entry) (e : Entry) → LeadOnBy start es mid → LeadsBy mid e new
+    → LeadOnBy start (es ++ e ∷ []) new
+lead_on_by start mid new [] e is leads = (new, subst (λ s. LeadsBy s e new) is leads, refl)
+lead_on_by start mid new (d ∷ es) e (next, first, later) leads = (next, first, lead_on_by next mid new es e later leads)
+
+-- where one leads nowhere, all of them do
+stuck : (start mid : State) (before : List Entry) (e : Entry) (left : List Entry) → LeadOnBy start before mid
+    → ((after : State) → LeadsBy mid e after → ⊥) → (after : State) → LeadOnBy start (before ++ e ∷ left) after → ⊥
+stuck start mid [] e left is nowhere after (next, first, later) = nowhere next (subst (λ s. LeadsBy s e next) (sym is) first)
+stuck start mid (d ∷ before) e left (there, first, later) nowhere after (next, also, then) =
+    let same = leads_by_once start next there d also first in
+    stuck there mid before e left later nowhere after (subst (λ s. LeadOnBy s (before ++ e ∷ left) after) same then)
+
+module _ (start : State) (entries : List Entry) (i : ℕ) where
+  pub lead_by_more : (mid new : State) (e d : Entry) → i < length entries → e ≡ get_or entries i d
+      → LeadOnBy start (take i entries) mid → LeadsBy mid e new → LeadOnBy start (take (i + 1) entries) new
+  lead_by_more mid new e d within is lead leads =
+      subst (λ l. LeadOnBy start l new) (sym (take_more entries i d within))
+      (lead_on_by start mid new (take i entries) (get_or entries i d) lead (subst (λ x. LeadsBy mid x new) is leads))
+
+  pub lead_nowhere : (mid : State) (e d : Entry) (engine : SpendableState) → i < length entries → e ≡ get_or entries i d
+      → LeadOnBy start (take i entries) mid → ((after : State) → LeadsBy mid e after → ⊥) → RemadeOnBy start entries false engine
+  lead_nowhere mid e d engine within is lead nowhere =
+      let here = subst (λ x. (after : State) → LeadsBy mid x after → ⊥) is nowhere in
+      let none = stuck start mid (take i entries) (get_or entries i d) (drop (i + 1) entries) lead here in
+      let in_order = sym (take-append-drop i entries) ∙ ap (λ l. take i entries ++ l) (drop_more entries i d within) in record {
+        ready = λ no. absurd cc;
+        led = λ no. absurd cc;
+        nowhere = λ _ after leads. none after (subst (λ l. LeadOnBy start l after) in_order leads);
+      }
+
+-- ---- a record
+
+-- with the next number it leads on where its entries do
+remade_on : {state : State} {r : Record} {engine : SpendableState} (leads : Bool) → r.number ≡ state.changes + 1
+    → RemadeOnBy state r.entries leads engine → Remade state r leads engine
+remade_on leads number made = record {
+  ready = made.ready;
+  led = λ is. record { number = number; entries = made.led is };
+  nowhere = λ is after led. made.nowhere is after led.entries;
+}
+
+pub all_remade : {E : Type 0} (state : State) (r : Record) (engine : SpendableState) (result : Result Bool E)
+    → r.number ≡ state.changes + 1 → IfOk result (λ leads. RemadeOnBy state r.entries leads engine)
+    → IfOk result (λ leads. Remade state r leads engine)
+all_remade state r engine (Ok leads) number made = remade_on leads number made
+all_remade state r engine (Err e) number made = tt
 
 -- one record more leads on
 lead_one : (start mid new : State) (rs : List Record) (r : Record) → LeadOn start rs mid → Leads mid r new

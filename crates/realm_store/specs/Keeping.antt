@@ -1,6 +1,7 @@
--- What a store keeps of the files between two changes.
-use Rattle.std.specs.Prelude.{Bool, true, None}
+-- What a store keeps of the files between two changes, and the group of changes that is open.
+use Rattle.std.specs.Prelude.{◌≡◌, ℕ, Bool, true, false, List, length, Option, Some, None, IsSome}
 use Rattle.outside_world.specs.View.{View}
+use Rattle.record_codec.specs.declared.entry.Entry.{Entry}
 use Rattle.realm_insert.specs.State.{State, empty_state}
 use Rattle.realm_files.specs.Stands.{Files}
 use Rattle.realm_files.specs.Keeping as files
@@ -30,7 +31,46 @@ AllRest = files.AllRest meaning
 abbrev pub StandsGated : Files → State → Type 0
 StandsGated = files.StandsGated meaning
 
--- a store: what it keeps of the files, and whether it is spent, so that nothing is said of that
+-- an open group: the state that its changes have led to, and their entries
+pub record Group : Type 0 where
+  pub state : State
+  pub entries : List Entry
+
+-- A store: what it keeps of the files, the group where one is open, and whether it is spent, so that nothing is said of the
+-- rest. While a group is open, the files and what is kept of them stand as they did at its begin.
 pub record SpendableKept : Type 0 where
   pub kept : Kept
+  pub group : Option Group
   pub spent : Bool
+
+-- the state of the group, where one is open
+abbrev pub state_with : State → Option Group → State
+state_with state None = state
+state_with state (Some group) = group.state
+
+-- the state at present
+abbrev pub present : SpendableKept → State
+present s = state_with s.kept.state s.group
+
+-- a group is open
+abbrev pub HasGroup : SpendableKept → Type 0
+HasGroup s = IsSome s.group
+
+-- none is open
+abbrev pub HasNoGroup : SpendableKept → Type 0
+HasNoGroup s = s.group ≡ None
+
+-- a store with no group, and one with this group
+abbrev pub without_group : Kept → SpendableKept
+without_group kept = record { kept = kept; group = None; spent = false }
+
+abbrev pub with_group : Kept → Group → SpendableKept
+with_group kept group = record { kept = kept; group = Some group; spent = false }
+
+-- how many changes the group has, 0 where none is open
+abbrev pub changes_of : Option Group → ℕ
+changes_of None = 0
+changes_of (Some group) = length group.entries
+
+abbrev pub changes_in : SpendableKept → ℕ
+changes_in s = changes_of s.group

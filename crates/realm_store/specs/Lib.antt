@@ -2,6 +2,8 @@
 pub mod Leading
 -- what the two files stand for
 pub mod Stands
+-- what they stood for when each record was one change
+pub mod Before
 -- files that stand for no state
 pub mod Damages
 -- what every state of a store is like
@@ -14,6 +16,8 @@ pub mod Replies
 pub mod Making
 -- the gate behind which the next record is to be written
 pub mod NextGates
+-- a group as a store holds it
+pub mod Groups
 -- what the writing of a change and of a generation does
 pub mod Committing
 -- a change that is made and waits to be written

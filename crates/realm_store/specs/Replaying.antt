@@ -4,10 +4,11 @@ use Rattle.std.specs.Prelude.{◌≡◌, ℕ, Bool, true, false, List, [], ◌�
 use Rattle.line_grammar.specs.declared.command.Change.{Change}
 use Rattle.line_grammar.specs.Spelling.{change_text}
 use Rattle.line_grammar.specs.Spellable.{IsSpellableChange}
+use Rattle.record_codec.specs.declared.entry.Entry.{Entry}
 use Rattle.record_codec.specs.declared.record.Record.{Record}
 use Rattle.realm_insert.specs.State.{State, SpendableState}
 use Rattle.realm_files.specs.Rows as rows
-use Rattle.realm_store.specs.Leading.{Leads}
+use Rattle.realm_store.specs.Leading.{LeadsBy, LeadOnBy, Leads}
 use Rattle.realm_store.specs.Stands.{meaning}
 
 -- the line is the text of the change
@@ -22,6 +23,18 @@ LeadOn = rows.LeadOn meaning
 -- the record leads from the state to none
 abbrev pub LeadsNowhere : State → Record → Type 0
 LeadsNowhere = rows.LeadsNowhere meaning
+
+-- the entry led the engine from the state to its own; or it leads from it to none
+pub record RemadeBy (state : State) (e : Entry) (leads : Bool) (engine : SpendableState) : Type 0 where
+  pub ready : leads ≡ true → engine.spent ≡ false
+  pub led : leads ≡ true → LeadsBy state e engine.state
+  pub nowhere : leads ≡ false → (after : State) → LeadsBy state e after → ⊥
+
+-- and so of entries, one after another
+pub record RemadeOnBy (state : State) (entries : List Entry) (leads : Bool) (engine : SpendableState) : Type 0 where
+  pub ready : leads ≡ true → engine.spent ≡ false
+  pub led : leads ≡ true → LeadOnBy state entries engine.state
+  pub nowhere : leads ≡ false → (after : State) → LeadOnBy state entries after → ⊥
 
 -- the record led the engine from the state to its own; or it leads from it to none
 pub record Remade (state : State) (r : Record) (leads : Bool) (engine : SpendableState) : Type 0 where

@@ -1,7 +1,9 @@
-//! Why a change isn't committed, and why no checkpoint is made.
+//! Why a change isn't committed, why no checkpoint is made, and why no group is begun or ended.
 ghost use Rattle.std.specs.Prelude.{◌≡◌};
+ghost use Rattle.realm_store.specs.declared.error.BeginError.TheVariants.{NoMemory as NoBegin};
 ghost use Rattle.realm_store.specs.declared.error.CheckpointError.TheVariants.{Disk as Unrenewed, NoMemory as NoCheckpoint};
 ghost use Rattle.realm_store.specs.declared.error.CommitError.TheVariants.{Disk as Unwritten, NoMemory as NoCommit};
+ghost use Rattle.realm_store.specs.declared.error.EndError.TheVariants.{Disk as Unended, NoMemory as NoEnd};
 
 use grid_base::NoMemory;
 use realm_insert::Refusal;
@@ -65,5 +67,54 @@ impl From<JournalError> for CheckpointError {
 
     fn from(_: JournalError) -> CheckpointError {
         CheckpointError::Disk
+    }
+}
+
+/// Why no group is begun. In each case the store is unchanged.
+#[derive(Clone, Copy, Debug, PartialEq, Eq, Error)]
+pub enum BeginError {
+    /// A group is open already.
+    #[error("a group is open")]
+    InGroup,
+    /// Memory ran out.
+    #[error("no memory")]
+    NoMemory,
+}
+
+impl From<NoMemory> for BeginError {
+    ghost from_gives = { λ _ e. e ≡ NoBegin };
+
+    fn from(_: NoMemory) -> BeginError {
+        BeginError::NoMemory
+    }
+}
+
+/// Why a group isn't ended.
+#[derive(Clone, Copy, Debug, PartialEq, Eq, Error)]
+pub enum EndError {
+    /// No group is open. The store and the files are unchanged.
+    #[error("no group is open")]
+    NoGroup,
+    /// The disk failed: the files stand for the state before the group or behind it. The store is spent.
+    #[error("disk fault")]
+    Disk,
+    /// Memory ran out before anything was written. The store is spent.
+    #[error("no memory")]
+    NoMemory,
+}
+
+impl From<NoMemory> for EndError {
+    ghost from_gives = { λ _ e. e ≡ NoEnd };
+
+    fn from(_: NoMemory) -> EndError {
+        EndError::NoMemory
+    }
+}
+
+impl From<JournalError> for EndError {
+    ghost from_gives = { λ _ e. e ≡ Unended };
+
+    fn from(_: JournalError) -> EndError {
+        EndError::Disk
     }
 }

@@ -9,6 +9,7 @@ ghost use Rattle.realm_files.specs.declared.place.Place.{Place as Seen};
 ghost use Rattle.realm_store.specs.Stands.{meaning, StandsAt, StandsFor, AreEmpty};
 ghost use Rattle.realm_store.specs.Keeping.{Kept, RestsAt, StandsGated, nothing_kept};
 ghost use Rattle.realm_store.specs.Damages.{IsDamaged};
+ghost use Rattle.realm_store.specs.Before.{StoodBefore};
 
 /// Files stand for one state with one place, or have one damage.
 pub fn one_reading()
@@ -35,4 +36,10 @@ pub fn empty_files_stand()
 pub fn gate_is_kept()
     ensures { (files : Files) (state : State) (kept : Kept) → StandsGated files state → RestsAt kept files
         → KnowsGate kept files → (kept.has_gate ≡ true) × (kept.state ≡ state) }
+{}
+
+/// What two files stood for when each record was one change, they stand for now that a record may be a group.
+pub fn stands_as_before()
+    ensures { (files : Files) (state : State) (place : Option Seen) → StoodBefore files state place
+        → StandsAt files state place }
 {}

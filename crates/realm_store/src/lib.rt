@@ -4,8 +4,10 @@
 //! writing leaves of that, is told by `realm_files`.
 #![tactic(auto)]
 
+mod changing;
 mod committing;
 mod error;
+mod grouping;
 mod laws;
 mod looking;
 mod opening;
@@ -15,7 +17,7 @@ mod replies;
 mod store;
 mod writing;
 
-pub use error::{CheckpointError, CommitError};
-pub use laws::{empty_files_stand, gate_is_kept, one_reading, stands_alone};
+pub use error::{BeginError, CheckpointError, CommitError, EndError};
+pub use laws::{empty_files_stand, gate_is_kept, one_reading, stands_alone, stands_as_before};
 pub use realm_pages::{Damage, PagesError as StartError};
 pub use store::Store;

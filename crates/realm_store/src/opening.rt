@@ -1,5 +1,5 @@
 //! Opens the newest of two files when a store is started: the state of its payload, and the changes of its records.
-ghost use Rattle.std.specs.Prelude.{◌≡◌, ◌≤◌, ◌<◌, ◌↔◌, ◌-◌, ◌^◌, ℕ, List, false, length, drop, Err, IfOk, IsTrue, IsErrOf};
+ghost use Rattle.std.specs.Prelude.{◌≡◌, ◌≤◌, ◌<◌, ◌↔◌, ◌-◌, ◌^◌, ℕ, List, false, length, drop, None, Err, IfOk, IsTrue, IsErrOf};
 ghost use Rattle.outside_world.specs.Counts.{Rose};
 ghost use Rattle.outside_world.specs.GoesOn.{GoesOn};
 ghost use Rattle.realm_insert.specs.Snapshots.{state_of, IsValidState};
@@ -31,6 +31,7 @@ pub(crate) fn open_newest<R: Threads + Sync, W: Outside>(
 ) -> Result<Store, StartError>
     requires intact { W.failed world.old ≡ false }
     ensures ready { IfOk result (λ store. store.spent ≡ false) }
+    ensures no_group { IfOk result (λ store. store.group ≡ None) }
     ensures told { W.tells world.new → Opened (W.view world.old) (W.view world.new) result }
     ensures intact { ¬ (IsErrOf result StartError.Disk) → W.failed world.new ≡ false }
     ensures disk_fault { IsErrOf result StartError.Disk
@@ -52,6 +53,7 @@ fn open_found<R: Threads + Sync, W: Outside>(
 ) -> Result<Store, StartError>
     requires intact { W.failed world.old ≡ false }
     ensures ready { IfOk result (λ store. store.spent ≡ false) }
+    ensures no_group { IfOk result (λ store. store.group ≡ None) }
     ensures told { W.tells world.new → IsFound (W.view world.old).reads found
         → Opened (W.view world.old) (W.view world.new) result }
     ensures intact { ¬ (IsErrOf result StartError.Disk) → W.failed world.new ≡ false }
@@ -101,6 +103,7 @@ fn open_records<R: Threads + Sync, W: Outside>(
     requires intact { W.failed world.old ≡ false }
     requires ready { engine.spent ≡ false }
     ensures ready { IfOk result (λ store. store.spent ≡ false) }
+    ensures no_group { IfOk result (λ store. store.group ≡ None) }
     ensures told { W.tells world.new → (payload : List ℕ)
         → HoldsNewest (W.view world.old).reads place.file (numbered place.generation payload)
         → place.next ≡ gate_of (numbered place.generation payload) → Opens payload engine.state
@@ -127,6 +130,7 @@ fn open_bytes<R: Threads + Sync>(
 ) -> Result<Store, StartError>
     requires ready { engine.spent ≡ false }
     ensures ready { IfOk result (λ store. store.spent ≡ false) }
+    ensures no_group { IfOk result (λ store. store.group ≡ None) }
     ensures row { (file : List ℕ) → length file < 2 ^ 64 → bytes.now ≡ drop place.next file
         → place.next ≤ length file → OpensRow file engine.state place result }
     ensures no_fault { IsErrOf result StartError.Disk → ⊥ }

@@ -1,15 +1,15 @@
-//! Makes the changes of records again. A record is asked for its number, its line and its trace; that it stands in a
-//! file doesn't matter here.
-ghost use Rattle.std.specs.Prelude.{◌≡◌, ◌+◌, false, IfOk, MatchOption};
+//! Makes the changes of records again. A record is asked for its number and its entries, an entry for its line and its
+//! trace; that the record stands in a file doesn't matter here.
+ghost use Rattle.std.specs.Prelude.{◌≡◌, false, IfOk, MatchOption};
 ghost use Rattle.line_grammar.specs.declared.command.Change.{Change as Seen};
 ghost use Rattle.line_grammar.specs.Spelling.{change_text};
 ghost use Rattle.line_grammar.specs.Spellable.{IsSpellableChange};
-ghost use Rattle.realm_store.specs.Replaying.{Remade, Replayed, IsReplayable};
+ghost use Rattle.realm_store.specs.Replaying.{RemadeBy, RemadeOnBy, Remade, Replayed, IsReplayable};
 
 use grid_base::NoMemory;
 use line_grammar::{Change, Command, LineError, read_line};
 use realm_insert::{Engine, ReplayError};
-use record_codec::Record;
+use record_codec::{Entry, Record};
 use std::alloc::Global;
 use std::thread::Threads;
 
@@ -31,7 +31,7 @@ pub(crate) fn replay_all<R: Threads + Sync>(
     Ok(records.len())
 }
 
-// Makes the change of a record again, and answers whether the record leads on.
+// Makes the changes of a record again, and answers whether the record leads on.
 fn replay_one<R: Threads + Sync>(
     rt: &R,
     alloc: Global,
@@ -44,25 +44,55 @@ fn replay_one<R: Threads + Sync>(
     if record.number != engine.changes() + 1 {
         return Ok(false);
     }
-    match replayable(alloc, record.line.bytes())? {
-        Some(change) => remake(rt, engine, &change, record),
+    replay_entries(rt, alloc, engine, record.entries.entries())
+}
+
+// Makes the changes of these entries again, and answers whether they lead on.
+fn replay_entries<R: Threads + Sync>(
+    rt: &R,
+    alloc: Global,
+    engine: &mut Engine,
+    entries: &[Entry],
+) -> Result<bool, NoMemory>
+    requires ready { engine.old.spent ≡ false }
+    ensures { IfOk result (λ leads. RemadeOnBy engine.old.state entries.now leads engine.new) }
+{
+    for entry in entries {
+        if !replay_entry(rt, alloc, engine, entry)? {
+            return Ok(false);
+        }
+    }
+    Ok(true)
+}
+
+// Makes the change of an entry again, and answers whether the entry leads on.
+fn replay_entry<R: Threads + Sync>(
+    rt: &R,
+    alloc: Global,
+    engine: &mut Engine,
+    entry: &Entry,
+) -> Result<bool, NoMemory>
+    requires ready { engine.old.spent ≡ false }
+    ensures { IfOk result (λ leads. RemadeBy engine.old.state entry.now leads engine.new) }
+{
+    match replayable(alloc, entry.line.bytes())? {
+        Some(change) => remake(rt, engine, &change, entry),
         None => Ok(false),
     }
 }
 
-// Makes this change again by the trace of its record, and answers whether the record leads on.
+// Makes this change again by the trace of its entry, and answers whether the entry leads on.
 fn remake<R: Threads + Sync>(
     rt: &R,
     engine: &mut Engine,
     change: &Change,
-    record: &Record,
+    entry: &Entry,
 ) -> Result<bool, NoMemory>
     requires ready { engine.old.spent ≡ false }
-    requires number { record.now.number ≡ engine.old.state.changes + 1 }
-    requires of_line { IsReplayable record.now.line change.now }
-    ensures { IfOk result (λ leads. Remade engine.old.state record.now leads engine.new) }
+    requires of_line { IsReplayable entry.now.line change.now }
+    ensures { IfOk result (λ leads. RemadeBy engine.old.state entry.now leads engine.new) }
 {
-    match engine.replay(rt, change, record.trace.steps()) {
+    match engine.replay(rt, change, entry.trace.steps()) {
         Ok(_) => Ok(true),
         Err(ReplayError::Refused(_)) => Ok(false),
         Err(ReplayError::Mismatch { .. }) => Ok(false),

@@ -1,37 +1,32 @@
-//! The store: the engine, and the files that keep its state.
-ghost use Rattle.std.specs.Prelude.{◌≡◌, ◌⊎◌, ◌↔◌, ◌≤◌, ◌<◌, ◌^◌, ℕ, List, true, false, length, Err, IfOk, OnOk, OnErr};
-ghost use Rattle.std.specs.Prelude.{IsErr, IsErrOf};
+//! The store: the engine, the files that keep its state, and the group of changes that is open.
+ghost use Rattle.std.specs.Prelude.{◌≡◌, ◌≢◌, ◌⊎◌, ◌↔◌, ◌≤◌, ◌<◌, ◌^◌, ℕ, List, [], true, false, length, None, Err, IfOk, OnOk};
+ghost use Rattle.std.specs.Prelude.{OnErr, IsErrOf, IsTrue};
 ghost use Rattle.outside_world.specs.Counts.{Rose};
 ghost use Rattle.outside_world.specs.GoesOn.{GoesOn};
 ghost use Rattle.line_grammar.specs.Spelling.{change_text};
 ghost use Rattle.line_grammar.specs.Spellable.{IsSpellableChange};
-ghost use Rattle.record_codec.specs.Fitting.{IsRecord};
-ghost use Rattle.realm_insert.specs.Refusals.{IsRefusedBy};
 ghost use Rattle.realm_insert.specs.declared.refusal.Refusal.{Refusal as Word};
-ghost use Rattle.realm_insert.specs.State.{State};
 ghost use Rattle.realm_files.specs.Writing.{generation_of};
-ghost use Rattle.realm_store.specs.Leading.{Leads};
-ghost use Rattle.realm_store.specs.Keeping.{Kept, AllRest, with_state};
+ghost use Rattle.realm_store.specs.Keeping.{Kept, SpendableKept, AllRest, present, HasGroup};
+ghost use Rattle.realm_store.specs.Keeping.{without_group, with_group, changes_in};
 ghost use Rattle.realm_store.specs.Sound.{IsSound};
-ghost use Rattle.realm_store.specs.Making.{next_gate, kept_behind, IsMade, IsFull, IsRefusedFor};
-ghost use Rattle.realm_store.specs.NextGates.{IsGateFor};
-ghost use Rattle.realm_store.specs.ReadyChanges.{IsReady};
-ghost use Rattle.realm_store.specs.Committing.{IsWritten, IsReplaced, Keeps};
+ghost use Rattle.realm_store.specs.Making.{IsRefusedFor, Commits, Ends};
+ghost use Rattle.realm_store.specs.Committing.{IsWritten, IsReplaced};
 ghost use Rattle.realm_store.specs.Renewing.{IsRenewed, HasLastGeneration};
 ghost use Rattle.realm_store.specs.Starting.{Started};
 
-use crate::committing::{Ready, make_ready, place_or_first};
-use crate::error::{CheckpointError, CommitError};
+use crate::committing::place_or_first;
+use crate::error::{BeginError, CheckpointError, CommitError, EndError};
+use crate::grouping::{OpenGroup, begin_group, changes_of, prepare_group};
 use crate::looking::is_sound;
 use crate::opening::open_newest;
 use crate::renewing::{generation_of, next_file, prepare_state};
-use crate::writing::{put_next, ready_gate};
+use crate::writing::put_next;
 use grid_base::{NoMemory, Reply};
-use line_grammar::Change;
+use line_grammar::{Change, write_change};
 use outside_world::Outside;
 use realm_files::{Place, sync_both};
-use realm_insert::{ChangeError, Engine, Refusal};
-use realm_journal::{JournalError, append};
+use realm_insert::Engine;
 use realm_pages::PagesError as StartError;
 use std::alloc::Global;
 use std::marker::Model;
@@ -43,28 +38,31 @@ const NO_PLACE: u64 = 2_305_843_009_213_693_952;
 // No generation has a greater number than this, 2^63.
 const LAST_GENERATION: u64 = 9_223_372_036_854_775_808;
 
-/// The state, and where its next record will stand. Between two calls the files stand for the state. It is let go of by
-/// one call, as its engine is.
+/// The state, and where its next record will stand. Between two calls the files stand for the state; for that at the begin
+/// of the group, where one is open. It is let go of by one call, as its engine is.
 pub struct Store {
-    alloc: Global,
-    engine: Engine,
-    place: Option<Place>,
-    has_gate: bool,
-    spent: bool,
+    pub(crate) alloc: Global,
+    pub(crate) engine: Engine,
+    pub(crate) group: Option<OpenGroup>,
+    pub(crate) place: Option<Place>,
+    pub(crate) has_gate: bool,
+    pub(crate) spent: bool,
 }
 
 impl Model for Store {
     ghost use Rattle.std.specs.Prelude.{◌≡◌, false};
     ghost use Rattle.realm_store.specs.Keeping.{SpendableKept};
+    ghost use Rattle.realm_store.specs.Groups.{filed_state, group_seen, Holds};
 
     ghost Value = { SpendableKept };
 
     ghost view = { λ s. record {
-      kept = record { state = s.engine.state; place = s.place; has_gate = s.has_gate };
+      kept = record { state = filed_state s.engine.state s.group; place = s.place; has_gate = s.has_gate };
+      group = group_seen s.engine.state s.group;
       spent = s.spent;
     } };
 
-    ghost invariant = { λ s. s.spent ≡ false → s.engine.spent ≡ false };
+    ghost invariant = { λ s. s.spent ≡ false → Holds s.engine s.place s.has_gate s.group };
 }
 
 impl Drop for Store {
@@ -72,6 +70,7 @@ impl Drop for Store {
         let Store {
             alloc: _,
             engine: _engine,
+            group: _group,
             place: _,
             has_gate: _,
             spent: _,
@@ -88,6 +87,7 @@ impl Store {
     ) -> Result<Store, StartError>
         requires intact { W.failed world.old ≡ false }
         ensures ready { IfOk result (λ store. store.spent ≡ false) }
+        ensures no_group { IfOk result (λ store. store.group ≡ None) }
         ensures told { W.tells world.new → Started (W.view world.old) (W.view world.new) result }
         ensures rest { IfOk result (λ store. W.tells world.new → AllRest store.kept (W.view world.new)) }
         ensures intact { ¬ (IsErrOf result StartError.Disk) → W.failed world.new ≡ false }
@@ -99,29 +99,35 @@ impl Store {
         open_newest(rt, alloc, world)
     }
 
-    // A store that isn't spent.
+    // A store that isn't spent, and has no group.
     pub(crate) fn of(alloc: Global, engine: Engine, place: Option<Place>, has_gate: bool) -> Store
         requires ready { engine.spent ≡ false }
         ensures kept { result.kept ≡ record { state = engine.state; place = place; has_gate = has_gate } }
         ensures ready { result.spent ≡ false }
+        ensures no_group { result.group ≡ None }
     {
         Store {
             alloc,
             engine,
+            group: None,
             place,
             has_gate,
             spent: false,
         }
     }
 
-    /// The state, which is sound.
+    /// The state at present, which is sound, as that at the begin of a group is.
     pub fn state(&self) -> &Engine
         requires ready { self.now.spent ≡ false }
-        ensures state { result.now.state ≡ self.now.kept.state }
+        ensures state { result.now.state ≡ present self.now }
         ensures ready { result.now.spent ≡ false }
-        ensures sound { IsSound self.now.kept.state }
+        ensures sound { IsSound (present self.now) }
+        ensures kept_sound { IsSound self.now.kept.state }
     {
         is_sound(&self.engine);
+        if let Some(group) = &self.group {
+            is_sound(&group.begun);
+        }
         &self.engine
     }
 
@@ -132,7 +138,8 @@ impl Store {
         self.spent
     }
 
-    /// Makes a change, and answers its reply. After `Ok` the record of the change is stable.
+    /// Makes a change, and answers its reply. After `Ok` the record of the change is stable, where no group is open.
+    /// In a group no file is touched.
     pub fn commit<R: Threads + Sync, W: Outside>(
         &mut self,
         rt: &R,
@@ -144,9 +151,10 @@ impl Store {
         requires spellable { IsSpellableChange c.now }
         requires short { length (change_text c.now) ≤ 2 ^ 20 }
         requires rest { W.tells world.old → AllRest self.old.kept (W.view world.old) }
-        ensures made { IfOk result (λ reply. IsMade c.now self.old.kept reply self.new.kept) }
+        ensures made { IfOk result (λ reply. Commits c.now self.old reply self.new) }
         ensures refused { (word : Word) → result ≡ Err (CommitError.Refused word)
-            → IsRefusedFor c.now self.old.kept word × (self.new ≡ self.old) × (world.new ≡ world.old) }
+            → IsRefusedFor c.now (present self.old) self.old.kept word × (self.new ≡ self.old) × (world.new ≡ world.old) }
+        ensures grouped { HasGroup self.old → (world.new ≡ world.old) × (result ≢ Err CommitError.Disk) }
         ensures untouched { result ≡ Err CommitError.NoMemory → world.new ≡ world.old }
         ensures spent { (self.new.spent ≡ true)
             ↔ ((result ≡ Err CommitError.Disk) ⊎ (result ≡ Err CommitError.NoMemory)) }
@@ -157,94 +165,149 @@ impl Store {
         ensures written { OnOk result (W.tells world.new
             → IsWritten (W.view world.old) (W.view world.new) self.old.kept self.new.kept) }
         ensures cut_off { IsErrOf result CommitError.Disk → W.tells world.new
-            → (reply : List ℕ) × (after : Kept) × IsMade c.now self.old.kept reply after
-            × IsWritten (W.view world.old) (W.view world.new) self.old.kept after }
+            → (reply : List ℕ) × (after : SpendableKept) × Commits c.now self.old reply after
+            × IsWritten (W.view world.old) (W.view world.new) self.old.kept after.kept }
         ensures goes_on { GoesOn ⟦<W as Outside>⟧ world.old world.new }
     {
-        if place_or_first(self.place).next >= NO_PLACE {
-            return Err(self.refuse_full(rt, c));
-        }
-        let ready = self.make(rt, c)?;
-        self.write_ready(world, &ready)?;
-        Ok(ready.reply)
-    }
-
-    // Why a change isn't made, where its record would stand too far.
-    fn refuse_full<R: Threads + Sync>(&mut self, rt: &R, c: &Change) -> CommitError
-        requires ready { self.old.spent ≡ false }
-        requires spellable { IsSpellableChange c.now }
-        requires full { IsFull self.old.kept }
-        ensures refused { (word : Word) → result ≡ CommitError.Refused word
-            → IsRefusedFor c.now self.old.kept word × (self.new ≡ self.old) }
-        ensures not_disk { result ≡ CommitError.Disk → ⊥ }
-        ensures spent { (self.new.spent ≡ true) ↔ (result ≡ CommitError.NoMemory) }
-    {
-        match self.engine.refusal(rt, c) {
-            Ok(Some(word)) => CommitError::Refused(word),
-            Ok(None) => CommitError::Refused(Refusal::Full),
+        match write_change(self.alloc, c) {
+            Ok(line) => self.commit_line(rt, world, c, line.bytes()),
             Err(NoMemory) => {
-                self.spent = true;
-                CommitError::NoMemory
-            }
-        }
-    }
-
-    // Makes a change in the engine, and takes all the memory that its writing needs. Nothing is written.
-    fn make<R: Threads + Sync>(&mut self, rt: &R, c: &Change) -> Result<Ready, CommitError>
-        requires ready { self.old.spent ≡ false }
-        requires spellable { IsSpellableChange c.now }
-        requires short { length (change_text c.now) ≤ 2 ^ 20 }
-        ensures made { IfOk result (λ ready. IsReady c.now self.old.kept self.new.kept ready) }
-        ensures refused { (word : Word) → result ≡ Err (CommitError.Refused word)
-            → IsRefusedBy c.now self.old.kept.state word × (self.new ≡ self.old) }
-        ensures not_disk { IsErrOf result CommitError.Disk → ⊥ }
-        ensures spent { (self.new.spent ≡ true) ↔ (result ≡ Err CommitError.NoMemory) }
-    {
-        match self.engine.change(rt, c) {
-            Ok(applied) => {
-                is_sound(&self.engine);
-                self.spent = true;
-                let number = self.engine.changes();
-                let ready = make_ready(self.alloc, self.place, self.has_gate, number, c, applied)?;
-                self.spent = false;
-                Ok(ready)
-            }
-            Err(ChangeError::Refused(word)) => Err(CommitError::Refused(word)),
-            Err(ChangeError::NoMemory) => {
                 self.spent = true;
                 Err(CommitError::NoMemory)
             }
         }
     }
 
-    // Writes the record of a change that the engine has made, behind its gate. No memory is taken.
-    fn write_ready<W: Outside>(&mut self, world: &mut W, ready: &Ready) -> Result<(), JournalError>
+    /// Makes a change of which this line is the text, as `commit` does, so that the text isn't made again.
+    pub fn commit_line<R: Threads + Sync, W: Outside>(
+        &mut self,
+        rt: &R,
+        world: &mut W,
+        c: &Change,
+        line: &[u8],
+    ) -> Result<Reply, CommitError>
         requires intact { W.failed world.old ≡ false }
         requires ready { self.old.spent ≡ false }
-        requires gate { IsGateFor ready.now.gate self.old.kept.place self.old.kept.has_gate }
-        requires is_record { IsRecord ready.now.record }
-        requires room { next_gate self.old.kept < 2 ^ 61 }
-        requires rest { (before : State)
-            × (W.tells world.old → AllRest (with_state before self.old.kept) (W.view world.old)) }
-        ensures kept { OnOk result (self.new.kept ≡ kept_behind self.old.kept ready.now.record) }
-        ensures spent { (self.new.spent ≡ true) ↔ IsErr result }
-        ensures told { W.tells world.new → (before : State)
-            → AllRest (with_state before self.old.kept) (W.view world.old)
-            → Leads before ready.now.record self.old.kept.state
-            → Keeps (W.view world.old) (W.view world.new) (with_state before self.old.kept)
-            (kept_behind self.old.kept ready.now.record) result }
-        ensures intact { OnOk result (W.failed world.new ≡ false) }
-        ensures disk_fault { OnErr result (Rose (W.disk_faults world.old) (W.disk_faults world.new)) }
+        requires spellable { IsSpellableChange c.now }
+        requires short { length (change_text c.now) ≤ 2 ^ 20 }
+        requires rest { W.tells world.old → AllRest self.old.kept (W.view world.old) }
+        requires says { line.now ≡ change_text c.now }
+        ensures made { IfOk result (λ reply. Commits c.now self.old reply self.new) }
+        ensures refused { (word : Word) → result ≡ Err (CommitError.Refused word)
+            → IsRefusedFor c.now (present self.old) self.old.kept word × (self.new ≡ self.old) × (world.new ≡ world.old) }
+        ensures grouped { HasGroup self.old → (world.new ≡ world.old) × (result ≢ Err CommitError.Disk) }
+        ensures untouched { result ≡ Err CommitError.NoMemory → world.new ≡ world.old }
+        ensures spent { (self.new.spent ≡ true)
+            ↔ ((result ≡ Err CommitError.Disk) ⊎ (result ≡ Err CommitError.NoMemory)) }
+        ensures intact { ¬ (IsErrOf result CommitError.Disk) → W.failed world.new ≡ false }
+        ensures disk_fault { IsErrOf result CommitError.Disk
+            → Rose (W.disk_faults world.old) (W.disk_faults world.new) }
+        ensures rest { OnOk result (W.tells world.new → AllRest self.new.kept (W.view world.new)) }
+        ensures written { OnOk result (W.tells world.new
+            → IsWritten (W.view world.old) (W.view world.new) self.old.kept self.new.kept) }
+        ensures cut_off { IsErrOf result CommitError.Disk → W.tells world.new
+            → (reply : List ℕ) × (after : SpendableKept) × Commits c.now self.old reply after
+            × IsWritten (W.view world.old) (W.view world.new) self.old.kept after.kept }
         ensures goes_on { GoesOn ⟦<W as Outside>⟧ world.old world.new }
     {
-        self.spent = true;
-        ready_gate(world, &ready.gate)?;
-        let place = place_or_first(self.place);
-        let next = append(world, place.file, place.next, &ready.record)?;
-        self.place = Some(Place { next, ..place });
-        self.has_gate = true;
-        self.spent = false;
+        if place_or_first(self.place).next >= NO_PLACE {
+            return Err(self.refuse_full(rt, c));
+        }
+        if self.in_group() {
+            return self.join(rt, c, line);
+        }
+        let ready = self.make(rt, c, line)?;
+        self.write_ready(world, &ready.gate, &ready.record)?;
+        Ok(ready.reply)
+    }
+
+    /// Opens a group: what its changes make of the state is written by `end_group`, as one record, or given up.
+    pub fn begin(&mut self) -> Result<(), BeginError>
+        requires ready { self.old.spent ≡ false }
+        ensures begun { OnOk result (self.new
+            ≡ with_group self.old.kept (record { state = self.old.kept.state; entries = [] })) }
+        ensures open { IsErrOf result BeginError.InGroup ↔ HasGroup self.old }
+        ensures unchanged { OnErr result (self.new ≡ self.old) }
+    {
+        if self.in_group() {
+            return Err(BeginError::InGroup);
+        }
+        let group = begin_group(self.alloc, &self.engine, self.place, self.has_gate)?;
+        self.group = Some(group);
         Ok(())
+    }
+
+    /// Ends the open group, and answers how many changes it has. After `Ok` the record of all its changes is stable;
+    /// of none, nothing is written.
+    pub fn end_group<W: Outside>(&mut self, world: &mut W) -> Result<u64, EndError>
+        requires intact { W.failed world.old ≡ false }
+        requires ready { self.old.spent ≡ false }
+        requires rest { W.tells world.old → AllRest self.old.kept (W.view world.old) }
+        ensures ended { IfOk result (λ count. Ends self.old count self.new) }
+        ensures none { IsErrOf result EndError.NoGroup ↔ (self.old.group ≡ None) }
+        ensures unchanged { IsErrOf result EndError.NoGroup → (self.new ≡ self.old) × (world.new ≡ world.old) }
+        ensures nothing { IfOk result (λ count. count ≡ 0 → world.new ≡ world.old) }
+        ensures untouched { IsErrOf result EndError.NoMemory → world.new ≡ world.old }
+        ensures spent { (self.new.spent ≡ true)
+            ↔ ((result ≡ Err EndError.Disk) ⊎ (result ≡ Err EndError.NoMemory)) }
+        ensures intact { ¬ (IsErrOf result EndError.Disk) → W.failed world.new ≡ false }
+        ensures disk_fault { IsErrOf result EndError.Disk
+            → Rose (W.disk_faults world.old) (W.disk_faults world.new) }
+        ensures rest { OnOk result (W.tells world.new → AllRest self.new.kept (W.view world.new)) }
+        ensures written { OnOk result (W.tells world.new
+            → IsWritten (W.view world.old) (W.view world.new) self.old.kept self.new.kept) }
+        ensures cut_off { IsErrOf result EndError.Disk → W.tells world.new
+            → (count : ℕ) × (after : SpendableKept) × Ends self.old count after × (0 < count)
+            × IsWritten (W.view world.old) (W.view world.new) self.old.kept after.kept }
+        ensures goes_on { GoesOn ⟦<W as Outside>⟧ world.old world.new }
+    {
+        let count = self.changes_in_group();
+        is_sound(&self.engine);
+        let Some(group) = self.group.take() else {
+            return Err(EndError::NoGroup);
+        };
+        if count == 0 {
+            return Ok(0);
+        }
+        self.spent = true;
+        let OpenGroup {
+            begun,
+            entries,
+            gate,
+        } = group;
+        let record = prepare_group(self.alloc, &begun, entries)?;
+        self.spent = false;
+        self.write_ready(world, &gate, &record)?;
+        Ok(count)
+    }
+
+    /// Gives up the open group, so that the state is that at its begin, and answers whether one was open.
+    pub fn abandon(&mut self) -> bool
+        requires ready { self.old.spent ≡ false }
+        ensures open { IsTrue result ↔ HasGroup self.old }
+        ensures given_up { self.new ≡ without_group self.old.kept }
+    {
+        match self.group.take() {
+            None => false,
+            Some(group) => {
+                self.engine = group.begun;
+                true
+            }
+        }
+    }
+
+    /// Whether a group is open.
+    pub fn in_group(&self) -> bool
+        ensures { IsTrue result ↔ HasGroup self.now }
+    {
+        self.group.is_some()
+    }
+
+    /// How many changes the open group has, 0 where none is open.
+    pub fn changes_in_group(&self) -> u64
+        ensures { result ≡ changes_in self.now }
+    {
+        changes_of(&self.group)
     }
 
     /// Writes the state to the file that isn't the newest, as the next generation, so that this file is the newest then
@@ -252,8 +315,10 @@ impl Store {
     pub fn checkpoint<W: Outside>(&mut self, world: &mut W) -> Result<(), CheckpointError>
         requires intact { W.failed world.old ≡ false }
         requires ready { self.old.spent ≡ false }
+        requires alone { self.old.group ≡ None }
         requires rest { W.tells world.old → AllRest self.old.kept (W.view world.old) }
         ensures renewed { OnOk result (IsRenewed self.old.kept self.new.kept) }
+        ensures alone { OnOk result (self.new.group ≡ None) }
         ensures generations { IsErrOf result CheckpointError.Generations ↔ HasLastGeneration self.old.kept }
         ensures unchanged { IsErrOf result CheckpointError.Generations
             → (self.new ≡ self.old) × (world.new ≡ world.old) }

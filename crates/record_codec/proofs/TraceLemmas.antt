@@ -1,11 +1,10 @@
--- This file shows that a step with a text may be added to a trace, and that every trace fits in a record.
-use Rattle.std.proofs.Common.{◌*◌, ◌<◌, ◌≤◌, ◌^◌, List, [], ◌∷◌, ◌++◌, length, arith}
+-- This file shows that a step with a text may be added to a trace, and how long the texts of its steps are.
+use Rattle.std.proofs.Common.{◌*◌, ◌≤◌, List, [], ◌∷◌, ◌++◌, length, arith}
 use Rattle.std.specs.List.{AllByRecursion, flat_map}
 use Rattle.std.proofs.lemmas.List.{length-append}
 use Rattle.grid_base.specs.declared.kinds.Step.{Step}
 use Rattle.grid_base.specs.declared.kinds.Step.TheVariants.{Split, Meet, Corner}
-use Rattle.record_codec.specs.declared.record.Record.{Record}
-use Rattle.record_codec.specs.Spelling.{point, segment, step, string, list, body}
+use Rattle.record_codec.specs.Spelling.{point, segment, step}
 use Rattle.record_codec.specs.Traces.{IsStep}
 
 -- each step of the longer trace has a text
@@ -20,12 +19,7 @@ step_is_short (Split p t) = omega arith
 step_is_short (Meet t u x) = omega arith
 step_is_short (Corner t u) = omega arith
 
-steps_are_short : (trace : List Step) → length (flat_map step trace) ≤ 41 * length trace
+pub steps_are_short : (trace : List Step) → length (flat_map step trace) ≤ 41 * length trace
 steps_are_short [] = omega arith
 steps_are_short (s ∷ trace) =
     omega (arith, length-append (step s) (flat_map step trace), step_is_short s, steps_are_short trace)
-
--- so fewer than 2^57 of them have fewer than 2^63
-pub body_fits : (r : Record) → length r.line ≤ 1048576 → length r.trace < 2 ^ 57 → length (body r) < 2 ^ 64
-unfolding body string list
-body_fits r short few = omega (arith, length-append r.line (list step r.trace), short, few, steps_are_short r.trace)

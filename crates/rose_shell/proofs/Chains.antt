@@ -8,7 +8,7 @@ use Rattle.realm_files.proofs.Pairs.{same_files}
 use Rattle.realm_store.specs.Keeping.{StandsGated}
 use Rattle.realm_store.proofs.OneReading.{gate_is_kept}
 use Rattle.rose_shell.specs.declared.status.Status.{Status}
-use Rattle.rose_shell.specs.Running.{state_in, is_accepted, ready_store, StandForState, IsCrashOf, HasRun}
+use Rattle.rose_shell.specs.Running.{state_in, is_commit, ready_store, StandForState, IsCrashOf, HasRun}
 use Rattle.rose_shell.specs.Chains.{CrashedRun, IsChain, IsLeftBy, Survives}
 use Rattle.rose_shell.proofs.Prefixes.{start_is_prefix}
 
@@ -33,7 +33,7 @@ module _ (old : View) (only_now : (m : Moment) → old.left_since old.moment m �
       ⊎_elim
       (λ past.
       let may = only_now m past in
-      start_is_prefix state_in is_accepted StandForState start turns old.given m may.0
+      start_is_prefix state_in is_commit StandForState start turns old.given m may.0
       (subst (λ (s : State). StandsGated m.files s) (sym kept.1) (untouched m may)))
       (λ is. is)
       ((begun.served.prefix kept.0).nothing_else old.moment m (omega arith) left) in

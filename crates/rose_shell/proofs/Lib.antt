@@ -34,6 +34,8 @@ mod Ends
 mod Prefixes
 -- sessions of the store
 mod Sessions
+-- a session behind which an open group is given up
+mod GivenUp
 -- a session that begins after the files were read
 mod Openings
 -- how a run ends that counts no fault

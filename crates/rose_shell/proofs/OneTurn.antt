@@ -35,12 +35,12 @@ left_at_rest {v = v} rest files may = left_as_read v rest.stable files may
 module _ {S : Type 0} (terms : Terms S) where
   -- the moments of one turn: of its answer, and then of its reply
   while_answered : (old : View) (start : S) (turn : Turn S) (m : Moment)
-      → (m.given ≡ old.given) × StandsBetween terms.stands start turn.after old.reads m.files
-      → IsMoment terms.stands start old.reads (turn ∷ []) old.given m
+      → (m.given ≡ old.given) × StandsBetween terms.same terms.stands start turn.after old.reads m.files
+      → IsMoment terms.same terms.stands start old.reads (turn ∷ []) old.given m
   while_answered old start turn m is = inl is
 
   while_given : (old mid : View) (start : S) (turn : Turn S) (m : Moment) → mid.given ≡ old.given → AllRestBy terms mid turn.after
-      → mid.reads ≡ turn.files → IsGiving mid turn.reply m → IsMoment terms.stands start old.reads (turn ∷ []) old.given m
+      → mid.reads ≡ turn.files → IsGiving mid turn.reply m → IsMoment terms.same terms.stands start old.reads (turn ∷ []) old.given m
   while_given old mid start turn m same rest files giving =
       let given : m.given ≡ old.given ++ giving.0 = giving.3 ∙ ap (λ (l : List ℕ). l ++ giving.0) same in
       let left : m.files ≡ mid.reads = left_at_rest rest m.files giving.4 in
@@ -119,15 +119,15 @@ module _ {S : Type 0} {terms : Terms S} where
     files = record {
       crash = only_wider settled.leaves.crash here;
       still = tt;
-      reads = settled.still refl;
+      reads = settled.still (terms.same_here start);
       rest = λ _. settled.rest;
     };
     ended = refl;
   }
     where
-      here : (m : Moment) → (m.given ≡ old.given) × StandsBetween terms.stands start start old.reads m.files
-          → IsMoment terms.stands start old.reads [] old.given m
-      here m (given, (stands, same)) = (given, ⊎_elim (λ here. here) (λ here. here) stands, same refl)
+      here : (m : Moment) → (m.given ≡ old.given) × StandsBetween terms.same terms.stands start start old.reads m.files
+          → IsMoment terms.same terms.stands start old.reads [] old.given m
+      here m (given, (stands, same)) = (given, ⊎_elim (λ here. here) (λ here. here) stands, same (terms.same_here start))
   stopped_before {old} {new} {start} {line = line} faults.Disk none treats cut =
       let turn : Turn S = record { line = line; batch = []; reply = cut.reply; after = cut.after; files = new.reads } in
       record {

@@ -1,6 +1,6 @@
 -- This file shows that a session that begins after the files were read is one from before.
 use Rattle.std.proofs.Common.{◌≡◌, inl, inr, ⊎_elim, ℕ, ◌≤◌, false, List, ◌++◌, sym, ◌∙◌, ap, subst, arith}
-use Rattle.std.specs.Prelude.{◌^◌}
+use Rattle.std.specs.Prelude.{◌^◌, None}
 use Rattle.outside_world.specs.View.{View, Asked, Moment, MayLeave}
 use Rattle.outside_world.specs.Since.{LeavesOnly}
 use Rattle.outside_world.proofs.Moments.{only_wider, only_then}
@@ -19,7 +19,7 @@ use Rattle.rose_shell.specs.Desk.{Terms, StandsBetween}
 use Rattle.rose_shell.specs.Turns.{Turn, end_of, files_after, replies}
 use Rattle.rose_shell.specs.Moments.{IsMoment, AreLeft, FollowsTurns}
 use Rattle.rose_shell.specs.Session.{IsAnswered, IsCutOff, Work, EndsBy, Served}
-use Rattle.rose_shell.specs.Running.{state_in, is_accepted, StandForState, IsCrashOf, HasServed, HasBegun, ready_store}
+use Rattle.rose_shell.specs.Running.{state_in, is_commit, StandForState, IsCrashOf, AreUntouched, HasServed, HasBegun, ready_store}
 use Rattle.rose_shell.proofs.Prefixes.{start_is_prefix}
 
 -- what a crash could leave at the call counts as left before it
@@ -65,7 +65,8 @@ module _ {old mid : View} (now : (t : ℕ) (m : Moment) → t ≤ old.moment →
       given_before = cut.given_before ∙ ap (λ (l : List ℕ). l ++ replies cut.before) asks.given;
       may_write = cut.may_write;
       now = λ files image.
-          subst (λ (f : Files). StandsBetween terms.stands (end_of start cut.before) cut.last.after (files_after f cut.before) files)
+          subst
+          (λ (f : Files). StandsBetween terms.same terms.stands (end_of start cut.before) cut.last.after (files_after f cut.before) files)
           same_reads (cut.now files image);
     }
 
@@ -73,10 +74,10 @@ module _ {old mid : View} (now : (t : ℕ) (m : Moment) → t ≤ old.moment →
     files_from : {P : Type 0} {turns : List (Turn S)} → FollowsTurns terms P mid new start turns
         → FollowsTurns terms P old new start turns
     files_from {turns = turns} files = record {
-      crash = crash_behind new (λ given m. IsMoment terms.stands start old.reads turns given m)
+      crash = crash_behind new (λ given m. IsMoment terms.same terms.stands start old.reads turns given m)
           (only_wider files.crash (λ m is.
-          subst (λ (f : Files). IsMoment terms.stands start f turns mid.given m) same_reads is));
-      still = subst (λ (f : Files). AreLeft start f turns) same_reads files.still;
+          subst (λ (f : Files). IsMoment terms.same terms.stands start f turns mid.given m) same_reads is));
+      still = subst (λ (f : Files). AreLeft terms.same start f turns) same_reads files.still;
       reads = files.reads ∙ ap (λ (f : Files). files_after f turns) same_reads;
       rest = files.rest;
     }
@@ -134,8 +135,11 @@ module _ {old mid : View} (now : (t : ℕ) (m : Moment) → t ≤ old.moment →
           knows = knows;
           end = end;
           served = record {
+            last = served.last;
             session = served_from served.session;
+            given_up = served.given_up;
             sound = served.sound;
+            grouped = subst (λ (f : Files). AreUntouched first f turns) same_reads served.grouped;
             counted = served.counted;
             prefix = λ has. crash_behind new (λ given m. IsCrashOf first turns given m) (served.prefix has);
             rest = served.rest;
@@ -149,7 +153,7 @@ module _ {old mid : View} (now : (t : ℕ) (m : Moment) → t ≤ old.moment →
           settled = λ has m since.
               ⊎_elim
               (λ before. let is = opened.settled m before in
-              start_is_prefix state_in is_accepted StandForState first turns old.given m is.0
+              start_is_prefix state_in is_commit StandForState first turns old.given m is.0
               (subst (λ (files : Files). StandsGated files start.state) (sym (same_files is.1)) (stands_gated meaning has rests)))
               (λ during. subst (λ (g : List ℕ). IsCrashOf first turns g m) asks.given during)
               ((served.prefix has).nothing_else opened.since m opened.by_now since);
@@ -161,11 +165,11 @@ module _ {old mid : View} (now : (t : ℕ) (m : Moment) → t ≤ old.moment →
               (served.session.asked.nothing_else old.moment a asks.takes.later asked);
         }
 
-  -- the store that was started isn't spent
-  pub begun_by : {new : View} {first end : SpendableKept} {status : Status} → first.spent ≡ false → IsOpened old mid
+  -- the store that was started isn't spent, and has no group
+  pub begun_by : {new : View} {first end : SpendableKept} {status : Status} → first.spent ≡ false → first.group ≡ None → IsOpened old mid
       → RestsAt first.kept old.reads → KnowsGate first.kept old.reads → HasServed mid new first end (2 ^ 40) status
       → HasBegun old new status
-  begun_by {new} {first} {end} {status} ready opened rests knows served =
+  begun_by {new} {first} {end} {status} ready alone opened rests knows served =
       has_begun opened rests knows
       (subst (λ (s : SpendableKept). HasServed mid new s end (2 ^ 40) status)
-      (λ i. record { kept = first.kept; spent = ready i }) served)
+      (λ i. record { kept = first.kept; group = alone i; spent = ready i }) served)

@@ -60,21 +60,21 @@ module _ {S : Type 0} {terms : Terms S} {old mid : View} {start between : S} {ts
   stops_behind new end unsent faults.NoMemory stops = stops
 
   -- a moment of theirs, from the state, the files and the bytes at which these ended
-  moment_then : (m : Moment) → IsMoment terms.stands between mid.reads us mid.given m
-      → IsMoment terms.stands start old.reads (ts ++ us) old.given m
+  moment_then : (m : Moment) → IsMoment terms.same terms.stands between mid.reads us mid.given m
+      → IsMoment terms.same terms.stands start old.reads (ts ++ us) old.given m
   moment_then m is =
-      moment_behind terms.stands start old.reads ts us old.given m
-      (subst (λ (s : S). IsMoment terms.stands s (files_after old.reads ts) us (old.given ++ replies ts) m) made.ends
-      (subst (λ (f : Files). IsMoment terms.stands between f us (old.given ++ replies ts) m) made.files.reads
-      (subst (λ (g : List ℕ). IsMoment terms.stands between mid.reads us g m) made.given is)))
+      moment_behind terms.same terms.stands start old.reads ts us old.given m
+      (subst (λ (s : S). IsMoment terms.same terms.stands s (files_after old.reads ts) us (old.given ++ replies ts) m) made.ends
+      (subst (λ (f : Files). IsMoment terms.same terms.stands between f us (old.given ++ replies ts) m) made.files.reads
+      (subst (λ (g : List ℕ). IsMoment terms.same terms.stands between mid.reads us g m) made.given is)))
 
   pub files_then : {P : Type 0} {new : View} → FollowsTurns terms P mid new between us → FollowsTurns terms P old new start (ts ++ us)
   files_then {new = new} more = record {
-    crash = only_then (only_wider made.files.crash (moment_before terms.stands start old.reads ts us old.given)) made.later
+    crash = only_then (only_wider made.files.crash (moment_before terms.same terms.stands start old.reads ts us old.given)) made.later
         (only_wider more.crash moment_then);
-    still = left-append start old.reads ts us made.files.still
-        (subst (λ (s : S). AreLeft s (files_after old.reads ts) us) made.ends
-        (subst (λ (f : Files). AreLeft between f us) made.files.reads more.still));
+    still = left-append terms.same start old.reads ts us made.files.still
+        (subst (λ (s : S). AreLeft terms.same s (files_after old.reads ts) us) made.ends
+        (subst (λ (f : Files). AreLeft terms.same between f us) made.files.reads more.still));
     reads = more.reads ∙ ap (λ (f : Files). files_after f us) made.files.reads ∙ sym (files_after-append old.reads ts us);
     rest = λ p. subst (λ (s : S). AllRestBy terms new s) ends_then (more.rest p);
   }

@@ -1,6 +1,6 @@
--- This file shows that each turn of a session is one step, so each state on the way is sound, its changes are counted, and
--- each crash leaves the state after a prefix of them.
-use Rattle.std.proofs.Common.{◌≡◌, ◌⊎◌, inl, inr, nat_lt, ℕ, ◌+◌, ◌<◌, Bool, true, false, MatchBool, List, [], ◌∷◌, ◌++◌, length, All}
+-- This file shows that each turn of a session is one step, so each state on the way is sound, its commits are counted, no file
+-- is touched within a group, and each crash leaves the state after a prefix of the commits.
+use Rattle.std.proofs.Common.{◌≡◌, ◌⊎◌, inl, inr, nat_lt, ℕ, ◌<◌, Bool, true, false, MatchBool, List, [], ◌∷◌, ◌++◌, length, All}
 use Rattle.std.proofs.Common.{sym, ap, subst, arith}
 use Rattle.std.specs.Prelude.{◌≢◌}
 use Rattle.std.proofs.lemmas.Bool.Decides.{nat_tests}
@@ -12,18 +12,18 @@ use Rattle.realm_insert.specs.State.{State}
 use Rattle.realm_files.specs.Stands.{Files}
 use Rattle.realm_files.proofs.Rests.{stands_gated_from}
 use Rattle.realm_store.specs.Stands.{meaning}
-use Rattle.realm_store.specs.Keeping.{Kept, SpendableKept, AllRest, StandsGated}
-use Rattle.realm_store.specs.Sound.{IsSound}
+use Rattle.realm_store.specs.Keeping.{Kept, SpendableKept, AllRest, StandsGated, without_group}
 use Rattle.rose_shell.specs.declared.status.Status.{Status}
 use Rattle.rose_shell.specs.declared.status.Status.TheVariants.{DiskFault, NoMemory}
 use Rattle.rose_shell.specs.Lines.{longest_line}
 use Rattle.rose_shell.specs.Desk.{FilesRule}
 use Rattle.rose_shell.specs.Turns.{Turn, Treats, IsSingle, IsBatch, IsRun}
-use Rattle.rose_shell.specs.Moments.{IsMoment}
+use Rattle.rose_shell.specs.Moments.{IsMoment, AreLeft}
 use Rattle.rose_shell.specs.Session.{Served}
 use Rattle.rose_shell.specs.Prefixes.{IsCounted}
-use Rattle.rose_shell.specs.Running.{StoreTerms, state_in, is_accepted, StandForState, IsCrashOf, HasServed}
-use Rattle.rose_shell.proofs.Steps.{IsOneStep, stays_by, line_steps}
+use Rattle.rose_shell.specs.Running.{StoreTerms, state_in, is_commit, IsSoundStore, StandForState, IsCrashOf, AreUntouched}
+use Rattle.rose_shell.specs.Running.{HasServed}
+use Rattle.rose_shell.proofs.Steps.{StaysAt, IsCommit, IsOneStep, stays_whole, line_steps}
 use Rattle.rose_shell.proofs.Prefixes.{moment_is_prefix}
 use Rattle.rose_shell.proofs.Stores.{rests_in_store}
 
@@ -34,60 +34,70 @@ either false P Q R first second chosen = second chosen
 
 -- each turn is one step: a batch changes nothing
 treated_steps : (old : SpendableKept) (line reply : List ℕ) (new : SpendableKept) → Treats StoreTerms.answers old line reply new
-    → IsOneStep old.kept reply new.kept
+    → IsOneStep old reply new
 treated_steps old line reply new treated =
-    either (nat_lt longest_line (length line)) _ _ (IsOneStep old.kept reply new.kept)
-    (λ refused. inl (stays_by (ap (λ (s : SpendableKept). s.kept) refused.1)))
-    (λ answered. line_steps old.kept line reply new.kept answered.outcome)
+    either (nat_lt longest_line (length line)) _ _ (IsOneStep old reply new)
+    (λ refused. stays_whole refused.1)
+    (λ answered. line_steps old line reply new answered.outcome)
     treated
 
 turn_steps : (old : SpendableKept) (turn : Turn SpendableKept)
-    → IsSingle StoreTerms.answers old turn ⊎ IsBatch StoreTerms.tells old turn → IsOneStep old.kept turn.reply turn.after.kept
+    → IsSingle StoreTerms.answers old turn ⊎ IsBatch StoreTerms.tells old turn → IsOneStep old turn.reply turn.after
 turn_steps old turn (inl single) = treated_steps old turn.line turn.reply turn.after single.treats
-turn_steps old turn (inr batch) = inl (stays_by (ap (λ (s : SpendableKept). s.kept) batch.stays))
+turn_steps old turn (inr batch) = stays_whole batch.stays
 
--- a step leads from a sound state to a sound state
-step_sound : (old : Kept) (reply : List ℕ) (new : Kept) → IsOneStep old reply new → IsSound old.state → IsSound new.state
-step_sound old reply new (inl stays) sound = subst (λ (s : State). IsSound s) (sym stays.state) sound
-step_sound old reply new (inr accepted) sound = accepted.sound
-
+-- so each leads from sound states to sound states
 run_sound : (start : SpendableKept) (turns : List (Turn SpendableKept)) → IsRun StoreTerms start turns
-    → IsSound start.kept.state → All (λ turn. IsSound turn.after.kept.state) turns
-run_sound start [] run sound = All-nil (λ turn. IsSound turn.after.kept.state)
+    → IsSoundStore start → All (λ turn. IsSoundStore turn.after) turns
+run_sound start [] run sound = All-nil (λ turn. IsSoundStore turn.after)
 run_sound start (turn ∷ turns) run sound =
-    let step = turn_steps start turn run.0 in
-    let after = step_sound start.kept turn.reply turn.after.kept step sound in
-    All-cons (λ t. IsSound t.after.kept.state) turn turns after (run_sound turn.after turns run.1 after)
+    let after = (turn_steps start turn run.0).sound sound in
+    All-cons (λ t. IsSoundStore t.after) turn turns after (run_sound turn.after turns run.1 after)
+
+-- and within a group the files keep the same, so they are left
+run_grouped : (start : SpendableKept) (files : Files) (turns : List (Turn SpendableKept)) → IsRun StoreTerms start turns
+    → AreLeft StoreTerms.same start files turns → AreUntouched start files turns
+run_grouped start files [] run left = tt
+run_grouped start files (turn ∷ turns) run left = (
+  λ before after. left.0 (sym ((turn_steps start turn run.0).grouped before after)),
+  run_grouped turn.after turn.files turns run.1 left.1,
+)
 
 -- the test of the numbers of changes
 is_same : (m n : ℕ) → n ≡ m → nat_lt m n ≡ false
 is_same m n same = grind (arith, nat_tests)
 
-is_more : (m n : ℕ) → n ≡ m + 1 → nat_lt m n ≡ true
+is_more : (m n : ℕ) → m < n → nat_lt m n ≡ true
 is_more m n more = grind (arith, nat_tests)
 
--- and tells whether a step was a change
-step_counted : (old : Kept) (reply : List ℕ) (new : Kept) → IsOneStep old reply new
+-- and tells whether a step was a commit
+step_counted : (old : Kept) (reply : List ℕ) (new : Kept) → StaysAt old new ⊎ IsCommit old reply new
     → MatchBool (nat_lt old.state.changes new.state.changes) (0 < length reply) (new.state ≡ old.state)
 step_counted old reply new (inl stays) =
     subst (λ (b : Bool). MatchBool b (0 < length reply) (new.state ≡ old.state))
     (sym (is_same old.state.changes new.state.changes (ap (λ (s : State). s.changes) stays.state))) stays.state
-step_counted old reply new (inr accepted) =
+step_counted old reply new (inr commit) =
     subst (λ (b : Bool). MatchBool b (0 < length reply) (new.state ≡ old.state))
-    (sym (is_more old.state.changes new.state.changes accepted.changes)) accepted.has_reply
+    (sym (is_more old.state.changes new.state.changes commit.changes)) commit.has_reply
 
 run_counted : (start : SpendableKept) (turns : List (Turn SpendableKept)) → IsRun StoreTerms start turns
-    → IsCounted state_in is_accepted start turns
+    → IsCounted state_in is_commit start turns
 run_counted start [] run = tt
 run_counted start (turn ∷ turns) run = (
-  step_counted start.kept turn.reply turn.after.kept (turn_steps start turn run.0),
+  step_counted start.kept turn.reply turn.after.kept (turn_steps start turn run.0).kept,
   run_counted turn.after turns run.1,
 )
 
 -- a gate that is there stays there
-step_gate : (old : Kept) (reply : List ℕ) (new : Kept) → IsOneStep old reply new → old.has_gate ≡ true → new.has_gate ≡ true
+step_gate : (old : Kept) (reply : List ℕ) (new : Kept) → StaysAt old new ⊎ IsCommit old reply new → old.has_gate ≡ true
+    → new.has_gate ≡ true
 step_gate old reply new (inl stays) has = stays.has_gate has
-step_gate old reply new (inr accepted) has = accepted.has_gate
+step_gate old reply new (inr commit) has = commit.has_gate
+
+turn_gate : (start : SpendableKept) (turn : Turn SpendableKept)
+    → IsSingle StoreTerms.answers start turn ⊎ IsBatch StoreTerms.tells start turn → start.kept.has_gate ≡ true
+    → turn.after.kept.has_gate ≡ true
+turn_gate start turn is has = step_gate start.kept turn.reply turn.after.kept (turn_steps start turn is).kept has
 
 -- so the files stand for the state, with their next gate, at each moment of the run
 abbrev StandForTheirs : FilesRule SpendableKept
@@ -97,52 +107,51 @@ stand_gated : (s : SpendableKept) (files : Files) → s.kept.has_gate ≡ true �
 stand_gated s files has stands = stands_gated_from meaning has (stands has)
 
 moment_stands : (start : SpendableKept) (files : Files) (turns : List (Turn SpendableKept)) (given : List ℕ) (m : Moment)
-    → IsRun StoreTerms start turns → start.kept.has_gate ≡ true → IsMoment StoreTerms.stands start files turns given m
-    → IsMoment StandForTheirs start files turns given m
+    → IsRun StoreTerms start turns → start.kept.has_gate ≡ true
+    → IsMoment StoreTerms.same StoreTerms.stands start files turns given m
+    → IsMoment StoreTerms.same StandForTheirs start files turns given m
 moment_stands start files [] given m run has is = (is.0, stand_gated start m.files has is.1, is.2)
 moment_stands start files (turn ∷ turns) given m run has (inl (is, (inl before, same))) =
     inl (is, (inl (stand_gated start m.files has before), same))
 moment_stands start files (turn ∷ turns) given m run has (inl (is, (inr after, same))) =
-    let step = turn_steps start turn run.0 in
-    inl (is, (inr (stand_gated turn.after m.files (step_gate start.kept turn.reply turn.after.kept step has) after), same))
+    inl (is, (inr (stand_gated turn.after m.files (turn_gate start turn run.0 has) after), same))
 moment_stands start files (turn ∷ turns) given m run has (inr (inl (sent, unsent, split, is, stand, same))) =
-    let step = turn_steps start turn run.0 in
-    inr (inl (
-      sent,
-      unsent,
-      split,
-      is,
-      stand_gated turn.after m.files (step_gate start.kept turn.reply turn.after.kept step has) stand,
-      same,
-    ))
+    inr (inl (sent, unsent, split, is, stand_gated turn.after m.files (turn_gate start turn run.0 has) stand, same))
 moment_stands start files (turn ∷ turns) given m run has (inr (inr later)) =
-    let step = turn_steps start turn run.0 in
-    inr (inr (moment_stands turn.after turn.files turns (given ++ turn.reply) m run.1
-    (step_gate start.kept turn.reply turn.after.kept step has) later))
+    inr (inr (moment_stands turn.after turn.files turns (given ++ turn.reply) m run.1 (turn_gate start turn run.0 has) later))
 
--- and each crash leaves the state after a prefix of the changes
+-- and each crash leaves the state after a prefix of the commits
 run_prefix : (old new : View) (start : SpendableKept) (turns : List (Turn SpendableKept)) → IsRun StoreTerms start turns
-    → LeavesOnly old new (IsMoment StoreTerms.stands start old.reads turns old.given) → start.kept.has_gate ≡ true
+    → LeavesOnly old new (IsMoment StoreTerms.same StoreTerms.stands start old.reads turns old.given) → start.kept.has_gate ≡ true
     → LeavesOnly old new (IsCrashOf start turns old.given)
 run_prefix old new start turns run crash has =
-    only_wider crash (λ m is. moment_is_prefix state_in is_accepted StandForState StandForTheirs
+    only_wider crash (λ m is. moment_is_prefix state_in is_commit StandForState StoreTerms.same StandForTheirs
     (λ s files stands. stands) start old.reads turns old.given m (moment_stands start old.reads turns old.given m run has is)
     (run_counted start turns run))
 
--- what a store has served that begins with a sound state
-pub has_served : (old new : View) (start end : SpendableKept) (budget : ℕ) (status : Status) → IsSound start.kept.state
-    → Served StoreTerms old new start end budget status → HasServed old new start end budget status
-has_served old new start end budget status sound served = record {
-  session = served;
-  sound = (sound, run_sound start served.work.turns served.state.is_run sound);
-  counted = run_counted start served.work.turns served.state.is_run;
-  prefix = run_prefix old new start served.work.turns served.state.is_run served.files.crash;
-  rest = λ no_fault. rests_in_store (served.files.rest no_fault);
-}
+-- what a store has served that begins with sound states, and what is left of it once a group that was open is given up
+pub has_served : (old new : View) (start last end : SpendableKept) (budget : ℕ) (status : Status) → IsSoundStore start
+    → (status ≢ NoMemory → status ≢ DiskFault → end ≡ without_group last.kept)
+    → Served StoreTerms old new start last budget status → HasServed old new start end budget status
+has_served old new start last end budget status sound given_up served =
+    let turns = served.work.turns in
+    let run = served.state.is_run in
+    record {
+      last = last;
+      session = served;
+      given_up = given_up;
+      sound = (sound, run_sound start turns run sound);
+      grouped = run_grouped start old.reads turns run served.files.still;
+      counted = run_counted start turns run;
+      prefix = run_prefix old new start turns run served.files.crash;
+      rest = λ no_fault. rests_in_store (served.files.rest no_fault);
+    }
 
 -- a store that can go on is at rest
-pub rests_in_the_end : {old new : View} {start end : SpendableKept} {budget : ℕ} {status : Status}
-    → Served StoreTerms old new start end budget status → status ≢ NoMemory → status ≢ DiskFault → AllRest end.kept new
-rests_in_the_end {new = new} served no_memory no_fault =
-    subst (λ (s : SpendableKept). AllRest s.kept new) (sym (served.state.ends no_memory no_fault))
-    (rests_in_store (served.files.rest no_fault))
+pub rests_in_the_end : {old new : View} {start last end : SpendableKept} {budget : ℕ} {status : Status}
+    → (status ≢ NoMemory → status ≢ DiskFault → end ≡ without_group last.kept)
+    → Served StoreTerms old new start last budget status → status ≢ NoMemory → status ≢ DiskFault → AllRest end.kept new
+rests_in_the_end {new = new} given_up served no_memory no_fault =
+    subst (λ (s : SpendableKept). AllRest s.kept new) (sym (given_up no_memory no_fault))
+    (subst (λ (s : SpendableKept). AllRest s.kept new) (sym (served.state.ends no_memory no_fault))
+    (rests_in_store (served.files.rest no_fault)))

@@ -108,7 +108,7 @@ module _ {S : Type 0} {terms : Terms S} where
             crash = only_then made.files.crash made.later (only_wider (only_of_adds ticks.crash)
                 (λ m may.
                 let left : m.files ≡ mid.reads = left_at_rest rest m.files (λ f. files.images f (m.files f) (may.1 f)) in
-                moment_now terms.stands start old.reads turns old.given m (may.0 ∙ given_now)
+                moment_now terms.same terms.stands start old.reads turns old.given m (may.0 ∙ given_now)
                 (subst (λ (f : Files). terms.stands (end_of start turns) f) (sym left)
                 (terms.rest_stands (end_of start turns) mid.reads rest.rests))
                 (left ∙ made.files.reads)));

@@ -51,21 +51,24 @@ module _ {S : Type 0} (answers : Rule S) where
       (answers start line too_long_reply start))
       (sym (is_long longest_line (length line) long)) (refl, refl)
 
--- a refusal calls no desk, and leaves the files as they were
+-- what calls no file leaves the files as they were, as a refusal does, which leaves the desk too
 module _ {S : Type 0} {terms : Terms S} where
-  pub settled_still : {v : View} {s : S} → AllRestBy terms v s → Settled terms v v s s
-  settled_still {v} {s} rest = record {
+  pub settled_beside : {v : View} {start end : S} → AllRestBy terms v start → AllRestBy terms v end → Settled terms v v start end
+  settled_beside {v} {start} rest after = record {
     leaves = record {
       takes = none_taken;
       given = refl;
       crash = only_nothing;
       now = λ files may.
           let left = left_at_rest rest files may in
-          (inl (subst (λ (f : Files). terms.stands s f) (sym left) (terms.rest_stands s v.reads rest.rests)), λ _. left);
+          (inl (subst (λ (f : Files). terms.stands start f) (sym left) (terms.rest_stands start v.reads rest.rests)), λ _. left);
     };
     still = λ _. refl;
-    rest = rest;
+    rest = after;
   }
+
+  pub settled_still : {v : View} {s : S} → AllRestBy terms v s → Settled terms v v s s
+  settled_still rest = settled_beside rest rest
 
 -- and so does want of memory before there is a reply
 module _ {S : Type 0} (terms : Terms S) (v : View) (start end : S) (line : List ℕ) where

@@ -18,10 +18,10 @@ module _ {S : Type 0} where
   files_after-append files (t ∷ ts) us = files_after-append t.files ts us
 
   -- what turns leave as it was, so do more turns
-  pub left-append : (start : S) (files : Files) (ts us : List (Turn S)) → AreLeft start files ts
-      → AreLeft (end_of start ts) (files_after files ts) us → AreLeft start files (ts ++ us)
-  left-append start files [] us first second = second
-  left-append start files (t ∷ ts) us first second = (first.0, left-append t.after t.files ts us first.1 second)
+  pub left-append : (same : S → S → Type 0) (start : S) (files : Files) (ts us : List (Turn S)) → AreLeft same start files ts
+      → AreLeft same (end_of start ts) (files_after files ts) us → AreLeft same start files (ts ++ us)
+  left-append same start files [] us first second = second
+  left-append same start files (t ∷ ts) us first second = (first.0, left-append same t.after t.files ts us first.1 second)
 
   pub replies-append : (ts us : List (Turn S)) → replies (ts ++ us) ≡ replies ts ++ replies us
   replies-append [] us = refl
@@ -88,8 +88,8 @@ module _ {S : Type 0} {terms : Terms S} {old mid new : View} where
             ∙ ap (λ (l : List ℕ). old.given ++ l) (sym (replies-append ts before));
         may_write = subst (λ (s : S). terms.writes s cut.last.line) state cut.may_write;
         now = λ left image.
-            subst (λ (s : S). StandsBetween terms.stands s cut.last.after (files_after old.reads (ts ++ before)) left) state
-            (subst (λ (f : Files). StandsBetween terms.stands (end_of (end_of start ts) before) cut.last.after f left) files
+            subst (λ (s : S). StandsBetween terms.same terms.stands s cut.last.after (files_after old.reads (ts ++ before)) left) state
+            (subst (λ (f : Files). StandsBetween terms.same terms.stands (end_of (end_of start ts) before) cut.last.after f left) files
             (cut.now left image));
       }
 
@@ -100,9 +100,9 @@ module _ {S : Type 0} (terms : Terms S) where
   run-append start (t ∷ ts) us first second = (first.0, run-append t.after ts us first.1 second)
 
 -- a moment of a run is one of a longer run, whether turns come behind it or before it
-module _ {S : Type 0} (stands : FilesRule S) where
+module _ {S : Type 0} (same : S → S → Type 0) (stands : FilesRule S) where
   pub moment_before : (start : S) (files : Files) (ts us : List (Turn S)) (given : List ℕ) (m : Moment)
-      → IsMoment stands start files ts given m → IsMoment stands start files (ts ++ us) given m
+      → IsMoment same stands start files ts given m → IsMoment same stands start files (ts ++ us) given m
   moment_before start files [] [] given m is = is
   moment_before start files [] (u ∷ us) given m is = inl (is.0, (inl is.1, λ _. is.2))
   moment_before start files (t ∷ ts) us given m (inl before) = inl before
@@ -111,18 +111,18 @@ module _ {S : Type 0} (stands : FilesRule S) where
       inr (inr (moment_before t.after t.files ts us (given ++ t.reply) m later))
 
   pub moment_behind : (start : S) (files : Files) (ts us : List (Turn S)) (given : List ℕ) (m : Moment)
-      → IsMoment stands (end_of start ts) (files_after files ts) us (given ++ replies ts) m
-      → IsMoment stands start files (ts ++ us) given m
-  moment_behind start files [] us given m is = subst (λ (g : List ℕ). IsMoment stands start files us g m) (append-nil given) is
+      → IsMoment same stands (end_of start ts) (files_after files ts) us (given ++ replies ts) m
+      → IsMoment same stands start files (ts ++ us) given m
+  moment_behind start files [] us given m is = subst (λ (g : List ℕ). IsMoment same stands start files us g m) (append-nil given) is
   moment_behind start files (t ∷ ts) us given m is =
       inr (inr (moment_behind t.after t.files ts us (given ++ t.reply) m
-      (subst (λ (g : List ℕ). IsMoment stands (end_of t.after ts) (files_after t.files ts) us g m)
+      (subst (λ (g : List ℕ). IsMoment same stands (end_of t.after ts) (files_after t.files ts) us g m)
       (sym (append_assoc given t.reply (replies ts))) is)))
 
   -- the moment behind all turns
   pub moment_now : (start : S) (files : Files) (ts : List (Turn S)) (given : List ℕ) (m : Moment)
       → m.given ≡ given ++ replies ts → stands (end_of start ts) m.files → m.files ≡ files_after files ts
-      → IsMoment stands start files ts given m
-  moment_now start files ts given m is stand same =
-      subst (λ (l : List (Turn S)). IsMoment stands start files l given m) (append-nil ts)
-      (moment_behind start files ts [] given m (is, stand, same))
+      → IsMoment same stands start files ts given m
+  moment_now start files ts given m is stand left =
+      subst (λ (l : List (Turn S)). IsMoment same stands start files l given m) (append-nil ts)
+      (moment_behind start files ts [] given m (is, stand, left))

@@ -8,7 +8,7 @@ use Rattle.realm_files.specs.Stands.{Files}
 use Rattle.realm_store.specs.Keeping.{StandsGated}
 use Rattle.rose_shell.specs.declared.status.Status.{Status}
 use Rattle.rose_shell.specs.Prefixes.{state_after, replies_begun}
-use Rattle.rose_shell.specs.Running.{state_in, is_accepted, ready_store, HasRun}
+use Rattle.rose_shell.specs.Running.{state_in, is_commit, ready_store, HasRun}
 
 -- a run, from world to world, and a crash that came while it ran or behind it
 pub record CrashedRun (World : Type 0) : Type 0 where
@@ -31,15 +31,15 @@ IsChain outside files [] = Unit {0}
 IsChain outside files (run ∷ runs) = IsRunOver outside files run × IsChain outside run.crash.files runs
 
 -- What a crash of a run leaves of this state: the state itself where nothing was served. Else it is served from, and the crash
--- leaves the state after k accepted changes or after k + 1, where the replies to k of them had begun.
+-- leaves the state after k commits or after k + 1, where the replies to k of them had begun.
 abbrev pub IsLeftBy : {old new : View} {status : Status} → HasRun old new status → Moment → State → State → Type 0
 IsLeftBy (inl not_begun) m state after = after ≡ state
 IsLeftBy {old} (inr begun) m state after =
     let start = ready_store begun.start in
     let turns = begun.served.session.work.turns in
-    let k = replies_begun state_in is_accepted start turns (length m.given - length old.given) in
-    (begun.start.state ≡ state) × ((after ≡ state_after state_in is_accepted start turns k)
-    ⊎ (after ≡ state_after state_in is_accepted start turns (suc k)))
+    let k = replies_begun state_in is_commit start turns (length m.given - length old.given) in
+    (begun.start.state ≡ state) × ((after ≡ state_after state_in is_commit start turns k)
+    ⊎ (after ≡ state_after state_in is_commit start turns (suc k)))
 
 -- The files stand for the state, with the byte of their next gate, and so do those that each crash leaves, for what it leaves
 -- of the state before.

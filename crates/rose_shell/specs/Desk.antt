@@ -21,6 +21,9 @@ pub record Terms (S : Type 0) : Type 1 where
   pub tells : S → Option (List ℕ) → List ℕ → Type 0
   -- in this state, this line may write to the files
   pub writes : S → List ℕ → Type 0
+  -- the files keep the same in both states, as they do in one
+  pub same : S → S → Type 0
+  pub same_here : (s : S) → same s s
   -- files that stand for this state
   pub stands : FilesRule S
   -- files as a desk in this state leaves them between two answers
@@ -32,16 +35,16 @@ pub record AllRestBy {S : Type 0} (terms : Terms S) (v : View) (s : S) : Type 0 
   pub stable : AllStable v
   pub rests : terms.rests s v.reads
 
--- Files while an answer leads from the first state to the second: they stand for the one or the other, and where the state
--- stays they are as they were.
-abbrev pub StandsBetween : {S : Type 0} → FilesRule S → S → S → Files → Files → Type 0
-StandsBetween stands start end were files = (stands start files ⊎ stands end files) × (end ≡ start → files ≡ were)
+-- Files while an answer leads from the first state to the second: they stand for the one or the other, and where the files
+-- keep the same in both they are as they were.
+abbrev pub StandsBetween : {S : Type 0} → (S → S → Type 0) → FilesRule S → S → S → Files → Files → Type 0
+StandsBetween same stands start end were files = (stands start files ⊎ stands end files) × (same start end → files ≡ were)
 
 -- An answer was made, and nothing was taken or given: meanwhile the files stood for the first state or the second, and now
 -- they are at rest in the second.
 pub record Settled {S : Type 0} (terms : Terms S) (old new : View) (start end : S) : Type 0 where
-  pub leaves : LeavesFiles old new (StandsBetween terms.stands start end old.reads)
-  pub still : end ≡ start → new.reads ≡ old.reads
+  pub leaves : LeavesFiles old new (StandsBetween terms.same terms.stands start end old.reads)
+  pub still : terms.same start end → new.reads ≡ old.reads
   pub rest : AllRestBy terms new end
 
 -- An answer was begun when the disk failed: the line may write, there is a reply to it, nothing was taken or given, and the
@@ -51,8 +54,8 @@ pub record CutShort {S : Type 0} (terms : Terms S) (old new : View) (start : S) 
   pub after : S
   pub answer : terms.answers start line reply after
   pub may_write : terms.writes start line
-  pub leaves : LeavesFiles old new (StandsBetween terms.stands start after old.reads)
-  pub still : after ≡ start → new.reads ≡ old.reads
+  pub leaves : LeavesFiles old new (StandsBetween terms.same terms.stands start after old.reads)
+  pub still : terms.same start after → new.reads ≡ old.reads
 
 -- One answer of a desk: the line was answered, or the disk failed meanwhile, or memory ran out, which leaves all as it was before.
 abbrev pub Answered : {S : Type 0} → Terms S → View → View → S → S → List ℕ → Result (List ℕ) Fault → Type 0

@@ -6,7 +6,7 @@ pub mod Faults
 pub mod Lines
 -- lines that are answered together
 pub mod Batches
--- the replies to a checkpoint
+-- the replies to a checkpoint, and to the lines of a group
 pub mod Replies
 -- what each line is answered
 pub mod Answers
@@ -20,12 +20,14 @@ pub mod Turns
 pub mod Moments
 -- a run over many lines
 pub mod Session
--- what a crash leaves of one, counted by the changes
+-- what a crash leaves of one, counted by the commits
 pub mod Prefixes
 -- a part of a run
 pub mod Loop
 -- what is promised of the word `run`, and of `serve`
 pub mod Running
+-- the store's answer to a command, at the desk
+pub mod AtDesk
 -- what is promised of each command
 pub mod Telling
 -- runs one after another

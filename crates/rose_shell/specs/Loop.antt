@@ -1,5 +1,6 @@
 -- What a part of the loop has done with some lines. No public clause cites this file.
-use Rattle.std.specs.Prelude.{◌≡◌, ◌≢◌, ◌⊎◌, ◌<◌, ◌≤◌, ℕ, ◌+◌, List, [], ◌∷◌, ◌++◌, Option, length, map, Result, Ok, Err}
+use Rattle.std.specs.Prelude.{◌≡◌, ◌≢◌, ◌⊎◌, ◌<◌, ◌≤◌, ℕ, ◌+◌, List, [], ◌∷◌, ◌++◌, Option, Bool, true, false, length, map}
+use Rattle.std.specs.Prelude.{Result, Ok, Err}
 use Rattle.outside_world.specs.View.{View}
 use Rattle.outside_world.specs.Since.{TakesNone}
 use Rattle.rose_shell.specs.declared.fault.Fault.{Fault}
@@ -12,8 +13,12 @@ use Rattle.realm_store.specs.declared.error.CommitError.{CommitError}
 use Rattle.realm_store.specs.declared.error.CommitError.TheVariants as commits
 use Rattle.realm_store.specs.declared.error.CheckpointError.{CheckpointError}
 use Rattle.realm_store.specs.declared.error.CheckpointError.TheVariants as checkpoints
+use Rattle.realm_store.specs.declared.error.BeginError.{BeginError}
+use Rattle.realm_store.specs.declared.error.BeginError.TheVariants as begins
+use Rattle.realm_store.specs.declared.error.EndError.{EndError}
+use Rattle.realm_store.specs.declared.error.EndError.TheVariants as ends
 use Rattle.rose_query.specs.Replies.{no_reply}
-use Rattle.rose_shell.specs.Replies.{no_generations_reply}
+use Rattle.rose_shell.specs.Replies.{no_generations_reply, in_group_reply, no_group_reply}
 use Rattle.query_batch.specs.Joined.{AreJoined}
 use Rattle.rose_shell.specs.Giving.{GaveSome}
 use Rattle.rose_shell.specs.Batches.{OpensBatch, OpensNone, heard}
@@ -97,3 +102,19 @@ ToldOfCheckpoint reply (Ok done) told = told ≡ Ok reply
 ToldOfCheckpoint reply (Err checkpoints.Generations) told = (told ≡ Ok no_generations_reply) ⊎ (told ≡ Err faults.NoMemory)
 ToldOfCheckpoint reply (Err checkpoints.Disk) told = told ≡ Err faults.Disk
 ToldOfCheckpoint reply (Err checkpoints.NoMemory) told = told ≡ Err faults.NoMemory
+
+-- and of a group that is begun, ended or given up, with this reply
+abbrev pub ToldOfBegin : List ℕ → Result Unit BeginError → Result (List ℕ) Fault → Type 0
+ToldOfBegin reply (Ok done) told = told ≡ Ok reply
+ToldOfBegin reply (Err begins.InGroup) told = (told ≡ Ok in_group_reply) ⊎ (told ≡ Err faults.NoMemory)
+ToldOfBegin reply (Err begins.NoMemory) told = told ≡ Err faults.NoMemory
+
+abbrev pub ToldOfEnd : List ℕ → Result ℕ EndError → Result (List ℕ) Fault → Type 0
+ToldOfEnd reply (Ok count) told = told ≡ Ok reply
+ToldOfEnd reply (Err ends.NoGroup) told = (told ≡ Ok no_group_reply) ⊎ (told ≡ Err faults.NoMemory)
+ToldOfEnd reply (Err ends.Disk) told = told ≡ Err faults.Disk
+ToldOfEnd reply (Err ends.NoMemory) told = told ≡ Err faults.NoMemory
+
+abbrev pub ToldOfAbandon : List ℕ → Bool → Result (List ℕ) Fault → Type 0
+ToldOfAbandon reply true told = told ≡ Ok reply
+ToldOfAbandon reply false told = (told ≡ Ok no_group_reply) ⊎ (told ≡ Err faults.NoMemory)

@@ -31,7 +31,7 @@ pub record IsCutOff {S : Type 0} (terms : Terms S) (old new : View) (start : S) 
   pub none_given : unsent ≡ last.reply
   pub given_before : new.given ≡ old.given ++ replies before
   pub may_write : terms.writes (end_of start before) last.line
-  pub now : InEachImage new (StandsBetween terms.stands (end_of start before) last.after (files_after old.reads before))
+  pub now : InEachImage new (StandsBetween terms.same terms.stands (end_of start before) last.after (files_after old.reads before))
 
 -- the turns are those of the whole lines among these bytes, but for a batch that lacks lines still
 pub record AreTurnsOf {S : Type 0} (turns : List (Turn S)) (bytes : List ℕ) : Type 0 where

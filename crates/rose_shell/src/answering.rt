@@ -1,16 +1,24 @@
-//! The store at the desk that the loop serves: what it answers a line. A change is stable in its file
-//! before its reply is there to be given. Want of memory within a change, and a disk fault, leave the store
-//! spent.
-ghost use Rattle.std.specs.Prelude.{◌≡◌, false, Err, IfOk, MatchResult};
+//! The store at the desk that the loop serves: what it answers a line. A change is stable in its file before its
+//! reply is there to be given, and one in a group with the whole group, before the reply to its commit is. Want of
+//! memory within a change or a commit, and a disk fault, leave the store spent.
+ghost use Rattle.std.specs.Prelude.{◌≡◌, ◌≤◌, ℕ, List, Err, IfOk, MatchResult, false, length};
+ghost use Rattle.outside_world.specs.GoesOn.{GoesOn};
+ghost use Rattle.line_grammar.specs.Lines.{Says};
+ghost use Rattle.line_grammar.specs.declared.command.Command.TheVariants as commands;
+ghost use Rattle.realm_store.specs.Keeping.{AllRest};
+ghost use Rattle.rose_shell.specs.Lines.{longest_line};
+ghost use Rattle.rose_shell.specs.Batches.{OpensNone};
 ghost use Rattle.rose_shell.specs.Loop.{ToldOfChange, ToldOfCheckpoint};
+ghost use Rattle.rose_shell.specs.AtDesk.{AtDesk};
 ghost use Rattle.rose_shell.specs.Replies.{checkpoint_reply, no_generations_reply};
 ghost use Rattle.rose_shell.specs.Running.{StoreTerms};
 
 use crate::desk::Desk;
 use crate::fault::Fault;
+use crate::grouping::{answer_abandon, answer_begin, answer_commit, refuse_in_group};
 use crate::means::Means;
 use grid_base::{NoMemory, Reply};
-use line_grammar::{Command, LineError, read_line};
+use line_grammar::{Change, Command, LineError, read_line};
 use outside_world::Outside;
 use query_batch::{Gate, refuse_text};
 use realm_insert::{Engine, Refusal};
@@ -31,19 +39,7 @@ impl<W: Outside> Desk<W> for Store {
         line: &[u8],
     ) -> Result<Reply, Fault> {
         match read_line(means.alloc, line) {
-            Ok(command) => match &command {
-                Command::Change(change) => {
-                    told_of_change(means.alloc, self.commit(means.rt, world, change))
-                }
-                Command::Query(query) => {
-                    told(answer(means.rt, means.alloc, self.state(), query))
-                }
-                Command::Batch(_) => told(refuse(means.alloc, Refusal::Range)),
-                Command::Checkpoint => {
-                    let reply = accept_checkpoint(means.alloc)?;
-                    told_of_checkpoint(means.alloc, reply, self.checkpoint(world))
-                }
-            },
+            Ok(command) => answer_command(means.rt, means.alloc, self, world, line, &command),
             Err(LineError::Bad { at }) => told(refuse_text(means.alloc, at)),
             Err(LineError::NoMemory) => Err(Fault::NoMemory),
         }
@@ -52,6 +48,76 @@ impl<W: Outside> Desk<W> for Store {
     fn engine(&self) -> &Engine {
         self.state()
     }
+}
+
+// Answers the command of this line.
+fn answer_command<R: Threads + Sync, W: Outside>(
+    rt: &R,
+    alloc: Global,
+    store: &mut Store,
+    world: &mut W,
+    line: &[u8],
+    command: &Command,
+) -> Result<Reply, Fault>
+    requires intact { W.failed world.old ≡ false }
+    requires ready { store.old.spent ≡ false }
+    requires short { length line.now ≤ longest_line }
+    requires opens_none { OpensNone line.now }
+    requires says { Says line.now command.now }
+    requires rest { W.tells world.old → AllRest store.old.kept (W.view world.old) }
+    ensures at_desk { AtDesk ⟦<W as Outside>⟧ world.old world.new store.old store.new line.now result }
+    ensures goes_on { GoesOn ⟦<W as Outside>⟧ world.old world.new }
+{
+    match command {
+        Command::Change(change) => answer_change(rt, alloc, store, world, line, change),
+        Command::Query(query) => told(answer(rt, alloc, store.state(), query)),
+        Command::Batch(_) => told(refuse(alloc, Refusal::Range)),
+        Command::Checkpoint => answer_checkpoint(alloc, store, world),
+        Command::Begin => answer_begin(alloc, store),
+        Command::Commit => answer_commit(alloc, store, world),
+        Command::Abandon => answer_abandon(alloc, store),
+    }
+}
+
+// Makes the change of this line, or joins it to the open group.
+fn answer_change<R: Threads + Sync, W: Outside>(
+    rt: &R,
+    alloc: Global,
+    store: &mut Store,
+    world: &mut W,
+    line: &[u8],
+    change: &Change,
+) -> Result<Reply, Fault>
+    requires intact { W.failed world.old ≡ false }
+    requires ready { store.old.spent ≡ false }
+    requires short { length line.now ≤ longest_line }
+    requires says { Says line.now (commands.Change change.now) }
+    requires rest { W.tells world.old → AllRest store.old.kept (W.view world.old) }
+    ensures at_desk { AtDesk ⟦<W as Outside>⟧ world.old world.new store.old store.new line.now result }
+    ensures goes_on { GoesOn ⟦<W as Outside>⟧ world.old world.new }
+{
+    let done = store.commit_line(rt, world, change, line);
+    told_of_change(alloc, done)
+}
+
+// Makes a checkpoint where no group is open. That one is open comes before every other cause.
+fn answer_checkpoint<W: Outside>(
+    alloc: Global,
+    store: &mut Store,
+    world: &mut W,
+) -> Result<Reply, Fault>
+    requires intact { W.failed world.old ≡ false }
+    requires ready { store.old.spent ≡ false }
+    requires rest { W.tells world.old → AllRest store.old.kept (W.view world.old) }
+    ensures at_desk { (line : List ℕ) → Says line commands.Checkpoint
+        → AtDesk ⟦<W as Outside>⟧ world.old world.new store.old store.new line result }
+    ensures goes_on { GoesOn ⟦<W as Outside>⟧ world.old world.new }
+{
+    if store.in_group() {
+        return told(refuse_in_group(alloc));
+    }
+    let reply = accept_checkpoint(alloc)?;
+    told_of_checkpoint(alloc, reply, store.checkpoint(world))
 }
 
 // The reply, or that there is no memory for it.

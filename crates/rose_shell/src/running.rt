@@ -1,5 +1,5 @@
 //! The calls of the program: the words choose what is done, and the loop answers line by line.
-ghost use Rattle.std.specs.Prelude.{◌≡◌, ◌≢◌, ◌≤◌, ◌^◌, ◌⊎◌, ℕ, true, false, length, map, string_bytes};
+ghost use Rattle.std.specs.Prelude.{◌≡◌, ◌≢◌, ◌≤◌, ◌^◌, ◌⊎◌, ℕ, None, true, false, length, map, string_bytes};
 ghost use Rattle.outside_world.specs.Counts.{Rose};
 ghost use Rattle.outside_world.specs.GoesOn.{GoesOn};
 ghost use Rattle.command_words.specs.Written.{AreWordsOf, IsNoCommand};
@@ -106,7 +106,7 @@ fn run_lines<R: Threads + Sync, W: Outside>(rt: &R, alloc: Global, world: &mut W
 }
 
 /// Reads lines to the end of the input, and answers each from this store on. The run ends at the first fault,
-/// at want of memory, and where a take gives more though `budget` bytes have come.
+/// at want of memory, and where a take gives more though `budget` bytes have come. A group that is open then is given up.
 pub fn serve<R: Threads + Sync, W: Outside>(
     rt: &R,
     alloc: Global,
@@ -116,6 +116,7 @@ pub fn serve<R: Threads + Sync, W: Outside>(
 ) -> Status
     requires intact { W.failed world.old ≡ false }
     requires ready { store.old.spent ≡ false }
+    requires alone { store.old.group ≡ None }
     requires rest { W.tells world.old → AllRest store.old.kept (W.view world.old) }
     ensures { Serves ⟦<W as Outside>⟧ world.old world.new store.old store.new budget result }
 {
@@ -133,6 +134,7 @@ pub fn serve_gated<R: Threads + Sync, W: Outside, G: Gate>(
 ) -> Status
     requires intact { W.failed world.old ≡ false }
     requires ready { store.old.spent ≡ false }
+    requires alone { store.old.group ≡ None }
     requires rest { W.tells world.old → AllRest store.old.kept (W.view world.old) }
     ensures { Serves ⟦<W as Outside>⟧ world.old world.new store.old store.new budget result }
 {
@@ -140,7 +142,11 @@ pub fn serve_gated<R: Threads + Sync, W: Outside, G: Gate>(
     let _state = store.state();
     let mut chunk = [0u8; 65_536];
     let means = Means { rt, alloc, gate };
-    ended(answer_input(&means, store, world, budget, &mut chunk))
+    let status = ended(answer_input(&means, store, world, budget, &mut chunk));
+    if !store.is_spent() {
+        store.abandon();
+    }
+    status
 }
 
 // How a run has ended that came to its end or to a fault.

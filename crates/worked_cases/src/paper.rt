@@ -10,8 +10,6 @@ use grid_base::Segment;
 use segment_lists::segment_with;
 #[cfg(test)]
 use std::process::Abort;
-#[cfg(test)]
-use std::test::Fail;
 
 /// The point with these coordinates; none off the grid.
 pub fn point(x: u64, y: u64) -> Option<Point>
@@ -28,6 +26,6 @@ pub(crate) fn place(rt: &impl Abort, [x, y]: [u64; 2]) -> Point {
 
 // A segment that is known to have two ends on the grid.
 #[cfg(test)]
-pub(crate) fn drawn(ends: [u64; 4]) -> Result<Segment, Fail> {
-    Ok(segment_with(&ends).ok_or("no segment")?)
+pub(crate) fn drawn(rt: &impl Abort, ends: [u64; 4]) -> Segment {
+    segment_with(&ends).expect(rt, "a segment")
 }

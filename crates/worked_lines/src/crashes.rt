@@ -9,20 +9,20 @@ use std::thread::Threads;
 // Four of the files that a crash may leave.
 static LEAVES: [Leave; 4] = [Leave::Old, Leave::New, Leave::Fill(0), Leave::Fill(165)];
 
-// At least so many changes are found in what a crash leaves after these calls, and at most so many.
+// So many changes are found in what a crash leaves after these calls, or so many.
 fn look_at_leave<R: Threads + Sync + Abort>(
     rt: &R,
     alloc: Global,
     world: &MemoryWorld,
     moment: u64,
     leave: Leave,
-    within: (u64, u64),
+    either: (u64, u64),
 ) -> Result<(), NoMemory> {
     let (a, b) = left(world, moment, leave)?;
     let (status, changes) = told(rt, alloc, &a, &b);
     assert_eq!(rt; status, 0, "at {moment} and {leave:?}");
     assert!(rt;
-        within.0 <= changes && changes <= within.1,
+        changes == either.0 || changes == either.1,
         "at {moment} and {leave:?}: {changes}"
     );
     Ok(())
@@ -86,36 +86,62 @@ fn the_first_commit_leaves_before_or_after(rt: HostRuntime) {
     }
 }
 
-// The same where no call fails: how many changes a crash after so many calls leaves. The thirteenth writes the record, and
-// the next syncs it; one opens its gate, one syncs this, and the reply begins.
-static MOMENTS: [(u64, [u64; 4]); 5] = [
-    (13, [0, 0, 0, 0]),
-    (14, [0, 0, 0, 0]),
-    (15, [0, 1, 0, 1]),
-    (16, [1, 1, 1, 1]),
-    (17, [1, 1, 1, 1]),
+// The same where no call fails: the lines, after how many calls the gate of their first record is written, how many calls
+// there are, and how many changes that record has. It is written and synced before; one call opens its gate, one syncs this,
+// and the reply begins. A `begin` and the changes of a group are answered before the first write.
+static MOMENTS: [(&str, u64, u64, u64); 2] = [
+    ("point 3 0\n", 15, 18, 1),
+    (
+        "begin\nsegment 0 0 4 0\nsegment 0 0 0 4\ncommit\n\
+         begin\nsegment 9 9 8 8\nabandon\nrealm\ncommit\n",
+        18,
+        26,
+        2,
+    ),
 ];
 
-// These changes are found after so many calls of a whole run.
-fn look_at_moments<R: Threads + Sync + Abort>(rt: &R, alloc: Global) -> Result<(), NoMemory> {
-    let mut place = place_of(alloc, "point 3 0\n", b"", &[])?;
+// None of the changes is found before the gate is written, all of them from its sync on, and between the two none or all.
+fn look_at_moments<R: Threads + Sync + Abort>(
+    rt: &R,
+    alloc: Global,
+    lines: &str,
+    gate: u64,
+    calls: u64,
+    changes: u64,
+) -> Result<(), NoMemory> {
+    let mut place = place_of(alloc, lines, b"", &[])?;
     let status = run_words(rt, alloc, "run", &mut place.world)?;
     assert_eq!(rt; status.number(), 0);
-    for (moment, changes) in MOMENTS.iter() {
-        look_at_leaves(rt, alloc, &place.world, *moment, changes)?;
+    assert_eq!(rt; place.world.calls(), calls, "for {lines:?}");
+    for moment in 0..gate {
+        look_at_leaves(rt, alloc, &place.world, moment, &[0; 4])?;
+    }
+    look_at_leaves(rt, alloc, &place.world, gate, &[0, changes, 0, changes])?;
+    for moment in gate..calls {
+        look_at_leaves(
+            rt,
+            alloc,
+            &place.world,
+            moment.saturating_add(1),
+            &[changes; 4],
+        )?;
     }
     Ok(())
 }
 
 #[test]
 fn the_first_commit_stands_from_its_gate_on(rt: HostRuntime) {
-    assert!(rt; look_at_moments(&rt, rt.alloc()).is_ok(), "no memory");
+    for (lines, gate, calls, changes) in MOMENTS.iter() {
+        let done = look_at_moments(&rt, rt.alloc(), lines, *gate, *calls, *changes);
+        assert!(rt; done.is_ok(), "no memory");
+    }
 }
 
-// Sessions with a checkpoint between their changes: the lines, the replies, and the status where each call fails in turn, the
-// first one first. Four calls are made at the start, and two take; eleven write the first change, four each other, and seven
-// the checkpoint; and each reply is given by one.
-static SESSIONS: [(&str, &str, &str); 2] = [
+// Sessions: the lines, the replies, and the status where each call fails in turn, the first one first; then a letter that
+// the replies have once for each change that is in the files, and how many changes each commit has. Four calls are made at the
+// start, and two take; eleven write the first commit, four each other, and seven a checkpoint; and each reply is given by
+// one.
+static SESSIONS: [(&str, &str, &str, u8, u64); 4] = [
     (
         "segment 0 0 3 1\ncheckpoint\nsegment 0 1 3 0\nrealm\n",
         "ok 1 steps 0 first 1 new 1\nok checkpoint\nok 2 steps 1 first 2 new 1\nrealm 5 4\n\
@@ -125,6 +151,8 @@ static SESSIONS: [(&str, &str, &str); 2] = [
          44444443\
          44443\
          32",
+        b'f',
+        1,
     ),
     (
         "point 1 0\npoint 2 0\npoint 3 0\npoint 4 0\npoint 5 0\ncheckpoint\n\
@@ -141,6 +169,33 @@ static SESSIONS: [(&str, &str, &str); 2] = [
          44444443\
          4444344443444434444344443\
          2",
+        b'f',
+        1,
+    ),
+    // Two groups with a checkpoint between them, and one that is given up.
+    (
+        "begin\npoint 1 1\npoint 2 2\ncommit\ncheckpoint\n\
+         begin\npoint 3 3\npoint 4 4\ncommit\n",
+        "ok begin\nok 1 steps 0 first 1 new 0\nok 2 steps 0 first 1 new 0\nok commit 2\n\
+         ok checkpoint\n\
+         ok begin\nok 3 steps 0 first 1 new 0\nok 4 steps 0 first 1 new 0\nok commit 2\n",
+        "44442\
+         333444444444443\
+         44444443\
+         33344443\
+         2",
+        b'm',
+        2,
+    ),
+    (
+        "begin\nsegment 0 0 4 0\nsegment 0 0 0 4\ncommit\nbegin\nsegment 9 9 8 8\nabandon\nchain 3\ncommit\n",
+        "ok begin\nok 1 steps 0 first 1 new 1\nok 2 steps 0 first 2 new 1\nok commit 2\n\
+         ok begin\nok 3 steps 0 first 3 new 1\nok abandon\nno no-id\nno no-group\n",
+        "44442\
+         333444444444443\
+         333332",
+        b'm',
+        2,
     ),
 ];
 
@@ -152,14 +207,16 @@ fn status_at(statuses: &str, call: u64) -> u8 {
     }
 }
 
-// The files have as many changes as replies to changes had begun, or one more. Each of these replies has one f.
+// The files have as many changes as this letter was given, or those of one commit more.
 fn find_again<R: Threads + Sync + Abort>(
     rt: &R,
     alloc: Global,
     world: &MemoryWorld,
     moment: u64,
+    letter: u8,
+    more: u64,
 ) -> Result<(), NoMemory> {
-    let begun = world.given().iter().filter(|b| **b == b'f').count() as u64;
+    let begun = world.given().iter().filter(|b| **b == letter).count() as u64;
     for leave in LEAVES.iter() {
         look_at_leave(
             rt,
@@ -167,7 +224,7 @@ fn find_again<R: Threads + Sync + Abort>(
             world,
             moment,
             *leave,
-            (begun, begun.saturating_add(1)),
+            (begun, begun.saturating_add(more)),
         )?;
     }
     Ok(())
@@ -182,6 +239,7 @@ fn fail_after<R: Threads + Sync + Abort>(
     replies: &str,
     call: u64,
     number: u8,
+    commits: (u8, u64),
 ) -> Result<(), NoMemory> {
     let mut place = place_of(alloc, lines, b"", &[call.saturating_add(1)])?;
     let status = run_words(rt, alloc, "run", &mut place.world)?;
@@ -194,17 +252,19 @@ fn fail_after<R: Threads + Sync + Abort>(
         number != 0 || given.len() == replies.len(),
         "at call {call}"
     );
-    find_again(rt, alloc, &place.world, call)?;
-    find_again(rt, alloc, &place.world, calls)
+    let (letter, more) = commits;
+    find_again(rt, alloc, &place.world, call, letter, more)?;
+    find_again(rt, alloc, &place.world, calls, letter, more)
 }
 
 // At each call in turn, and where none fails.
 #[test]
 fn no_crash_and_no_fault_loses_a_change(rt: HostRuntime) {
-    for (lines, replies, statuses) in SESSIONS.iter() {
+    for (lines, replies, statuses, letter, more) in SESSIONS.iter() {
         for call in 0..=statuses.len() as u64 {
             let number = status_at(statuses, call);
-            let done = fail_after(&rt, rt.alloc(), lines, replies, call, number);
+            let commits = (*letter, *more);
+            let done = fail_after(&rt, rt.alloc(), lines, replies, call, number, commits);
             assert!(rt; done.is_ok(), "no memory");
         }
     }
@@ -223,7 +283,7 @@ fn look_byte_by_byte<R: Threads + Sync + Abort>(
 
 #[test]
 fn single_bytes_make_the_same_session(rt: HostRuntime) {
-    for (lines, replies, _) in SESSIONS.iter() {
+    for (lines, replies, _, _, _) in SESSIONS.iter() {
         let done = look_byte_by_byte(&rt, rt.alloc(), lines, replies);
         assert!(rt; done.is_ok(), "no memory");
     }

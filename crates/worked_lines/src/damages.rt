@@ -19,6 +19,8 @@ enum Before {
     Copied,
     // File A has the records of two changes, and file B a checkpoint of them.
     Checkpoint,
+    // File A has the records of two groups of two changes each, and file B is empty.
+    Groups,
 }
 
 // The files, each with what `files_before` says of it.
@@ -33,16 +35,31 @@ fn files_before<R: Threads + Sync + Abort>(
             file_of(alloc, 1, b"\x01", b"\0")?,
             file_of(alloc, 1, b"\x01", b"\0")?,
         )),
-        Before::Checkpoint => {
-            let place = look(rt, alloc, CHANGES, b"", REPLIES, 0)?;
-            left(&place.world, place.world.calls(), Leave::New)
-        }
+        Before::Checkpoint => files_after(rt, alloc, CHANGES, REPLIES),
+        Before::Groups => files_after(rt, alloc, GROUPS, GROUP_REPLIES),
     }
+}
+
+// The files behind these lines, which get these replies.
+fn files_after<R: Threads + Sync + Abort>(
+    rt: &R,
+    alloc: Global,
+    lines: &str,
+    replies: &str,
+) -> Result<(Vec<u8>, Vec<u8>), NoMemory> {
+    let place = look(rt, alloc, lines, b"", replies, 0)?;
+    left(&place.world, place.world.calls(), Leave::New)
 }
 
 const CHANGES: &str = "segment 0 0 3 1\nsegment 0 1 3 0\ncheckpoint\n";
 
 const REPLIES: &str = "ok 1 steps 0 first 1 new 1\nok 2 steps 1 first 2 new 1\nok checkpoint\n";
+
+const GROUPS: &str = "begin\npoint 1 1\npoint 2 2\ncommit\nbegin\npoint 3 3\npoint 4 4\ncommit\n";
+
+const GROUP_REPLIES: &str =
+    "ok begin\nok 1 steps 0 first 1 new 0\nok 2 steps 0 first 1 new 0\nok commit 2\n\
+     ok begin\nok 3 steps 0 first 1 new 0\nok 4 steps 0 first 1 new 0\nok commit 2\n";
 
 // Digests of the page of that checkpoint, and of the same with ff as the first byte of its payload.
 const OF_PAGE: [u8; 32] = [
@@ -84,6 +101,10 @@ const ONE_CHANGE: &str = "changes 1\noriginals 0\nvalues 0\npoints 1\npieces 0\n
 const ONE_VALUE: &str = "changes 1\noriginals 0\nvalues 1\npoints 2\npieces 0\n";
 
 const TWO_CHANGES: &str = "changes 2\noriginals 2\nvalues 0\npoints 5\npieces 4\n";
+
+const TWO_POINTS: &str = "changes 2\noriginals 0\nvalues 0\npoints 2\npieces 0\n";
+
+const FOUR_POINTS: &str = "changes 4\noriginals 0\nvalues 0\npoints 4\npieces 0\n";
 
 const HEAD_OF_A: Damage = Damage::BadPage {
     file: FileName::A,
@@ -275,6 +296,39 @@ static DAMAGES: [(
     ),
 ];
 
+// The same of file A with the records of two groups, beside an empty file B.
+static IN_GROUPS: [(usize, &[(usize, &[u8])], Result<&str, Damage>); 13] = [
+    (END, &[], Ok(FOUR_POINTS)),
+    // The first group has one change by its count, or three, or begins with change 0, or with 2.
+    (END, &[(4_128, b"\x01")], Err(FIRST_RECORD)),
+    (END, &[(4_128, b"\x03")], Err(FIRST_RECORD)),
+    (END, &[(4_120, b"\0")], Err(FIRST_RECORD)),
+    (END, &[(4_120, b"\x02")], Err(FIRST_RECORD)),
+    // Its first line or its second is refused, or the second is a query, or `begin`.
+    (END, &[(4_133, b"delete 99")], Err(FIRST_RECORD)),
+    (END, &[(4_154, b"delete 99")], Err(FIRST_RECORD)),
+    (
+        END,
+        &[(4_104, b"\x3e"), (4_150, OF_QUERY)],
+        Err(FIRST_RECORD),
+    ),
+    (
+        END,
+        &[(4_104, b"\x3e"), (4_150, OF_BEGIN)],
+        Err(FIRST_RECORD),
+    ),
+    // The second group begins with change 4, or is cut off, or both behind a closed gate.
+    (END, &[(4_195, b"\x04")], Err(SECOND_RECORD)),
+    (4_245, &[], Err(SECOND_RECORD)),
+    (END, &[(4_171, b"\0"), (4_195, b"\x04")], Ok(TWO_POINTS)),
+    (4_200, &[(4_171, b"\0")], Ok(TWO_POINTS)),
+];
+
+// The line `realm`, and the line `begin`, each with no step and a closed gate behind it.
+const OF_QUERY: &[u8] = b"\0\0\0\x05realm\0\0\0\0\0\0\0\0\0";
+
+const OF_BEGIN: &[u8] = b"\0\0\0\x05begin\0\0\0\0\0\0\0\0\0";
+
 // One of two files is changed.
 fn change_one(
     a: &mut Vec<u8>,
@@ -327,6 +381,11 @@ fn look_at_damage<R: Threads + Sync + Abort>(
 fn damage_is_told_to_the_place(rt: HostRuntime) {
     for (before, file, cut, puts, wanted) in DAMAGES.iter() {
         let done = look_at_damage(&rt, rt.alloc(), *before, *file, *cut, puts, *wanted);
+        assert!(rt; done.is_ok(), "no memory");
+    }
+    for (cut, puts, wanted) in IN_GROUPS.iter() {
+        let (before, file) = (Before::Groups, FileName::A);
+        let done = look_at_damage(&rt, rt.alloc(), before, file, *cut, puts, *wanted);
         assert!(rt; done.is_ok(), "no memory");
     }
 }

@@ -1,7 +1,7 @@
 //! What words do, and how runs end: behind long lines, at faults and at budgets; what is said then, and with which exit.
-use crate::running::{look_at_run, place_of, run_words, serve_within};
+use crate::running::{left, look_at_run, place_of, run_words, serve_within, told};
 use grid_base::NoMemory;
-use outside_world::FileName;
+use outside_world::{FileName, Leave};
 use process_run::{exit_of, say, status_without_words};
 use process_world::WordsError;
 use realm_store::Damage;
@@ -90,7 +90,7 @@ fn no_change_of_a_map_is_refused(rt: HostRuntime) {
 }
 
 // Of sessions with one line of so many bytes: what stands before it and behind it, the budget and the replies.
-static LONG_LINES: [(&str, usize, &str, u64, &str); 6] = [
+static LONG_LINES: [(&str, usize, &str, u64, &str); 7] = [
     (
         "",
         1_048_576,
@@ -123,6 +123,14 @@ static LONG_LINES: [(&str, usize, &str, u64, &str); 6] = [
         2_000_000,
         "realm 0 0\nno too-long\n",
     ),
+    // In a group.
+    (
+        "begin\n",
+        1_048_577,
+        "\npoint 1 1\ncommit\n",
+        2_000_000,
+        "ok begin\nno too-long\nok 1 steps 0 first 1 new 0\nok commit 1\n",
+    ),
 ];
 
 // This session gets its replies.
@@ -152,40 +160,67 @@ fn a_line_has_a_mebibyte_at_most(rt: HostRuntime) {
     }
 }
 
-// Of a session with the one line `realm`: the call that fails, the budget, the status and the replies. The start makes four
-// calls, a sync and a read of each file; a take is the fifth, and the give of the reply the sixth.
-static FAULTS: [(u64, u64, u8, &str); 10] = [
-    (1, 1_000, 4, ""),
-    (2, 1_000, 4, ""),
-    (4, 1_000, 4, ""),
-    (5, 1_000, 2, ""),
-    (6, 1_000, 3, ""),
-    (7, 1_000, 2, "realm 0 0\n"),
-    (9, 0, 7, ""),
-    (9, 3, 7, ""),
-    (9, 5, 7, ""),
-    (9, 6, 0, "realm 0 0\n"),
+// Of sessions: the lines, the call that fails, the budget and the replies; then the status, how many changes the store has,
+// where it can still be used and no group is open, and how many the files have. The start makes four calls, a sync and a read
+// of each file; a take is the fifth, and each reply is given by one more. One call comes before the first write.
+static FAULTS: [(&str, u64, u64, &str, (u8, Option<u64>, u64)); 13] = [
+    ("realm\n", 1, 1_000, "", (4, None, 0)),
+    ("realm\n", 2, 1_000, "", (4, None, 0)),
+    ("realm\n", 4, 1_000, "", (4, None, 0)),
+    ("realm\n", 5, 1_000, "", (2, Some(0), 0)),
+    ("realm\n", 6, 1_000, "", (3, Some(0), 0)),
+    ("realm\n", 7, 1_000, "realm 0 0\n", (2, Some(0), 0)),
+    ("realm\n", 9, 0, "", (7, Some(0), 0)),
+    ("realm\n", 9, 3, "", (7, Some(0), 0)),
+    ("realm\n", 9, 5, "", (7, Some(0), 0)),
+    ("realm\n", 9, 6, "realm 0 0\n", (0, Some(0), 0)),
+    // The budget ends within a group; the first write of a group fails, and then the last reply.
+    (
+        "begin\npoint 1 1\ncommit\n",
+        99,
+        16,
+        "ok begin\nok 1 steps 0 first 1 new 0\n",
+        (7, Some(0), 0),
+    ),
+    (
+        "begin\npoint 1 1\npoint 2 2\ncommit\n",
+        10,
+        1_000,
+        "ok begin\nok 1 steps 0 first 1 new 0\nok 2 steps 0 first 1 new 0\n",
+        (4, None, 0),
+    ),
+    (
+        "begin\npoint 1 1\npoint 2 2\ncommit\n",
+        20,
+        1_000,
+        "ok begin\nok 1 steps 0 first 1 new 0\nok 2 steps 0 first 1 new 0\n",
+        (3, Some(2), 2),
+    ),
 ];
 
 // This session ends so.
 fn look_at_fault<R: Threads + Sync + Abort>(
     rt: &R,
     alloc: Global,
+    lines: &str,
     call: u64,
     budget: u64,
-    number: u8,
     replies: &str,
+    wanted: (u8, Option<u64>, u64),
 ) -> Result<(), NoMemory> {
-    let mut place = place_of(alloc, "realm\n", b"", &[call])?;
-    let status = serve_within(rt, alloc, &mut place.world, budget);
+    let mut place = place_of(alloc, lines, b"", &[call])?;
+    let (status, kept) = serve_within(rt, alloc, &mut place.world, budget);
+    let given = place.world.given();
     assert_eq!(rt;
-        status.number(),
-        number,
+        given,
+        replies.as_bytes(),
         "at call {call} and budget {budget}"
     );
+    let (a, b) = left(&place.world, place.world.calls(), Leave::New)?;
+    let (_, found) = told(rt, alloc, &a, &b);
     assert_eq!(rt;
-        place.world.given(),
-        replies.as_bytes(),
+        (status.number(), kept, found),
+        wanted,
         "at call {call} and budget {budget}"
     );
     Ok(())
@@ -193,24 +228,44 @@ fn look_at_fault<R: Threads + Sync + Abort>(
 
 #[test]
 fn a_fault_or_the_budget_ends_the_session(rt: HostRuntime) {
-    for (call, budget, number, replies) in FAULTS.iter() {
-        let done = look_at_fault(&rt, rt.alloc(), *call, *budget, *number, replies);
+    for (lines, call, budget, replies, wanted) in FAULTS.iter() {
+        let done = look_at_fault(&rt, rt.alloc(), lines, *call, *budget, replies, *wanted);
         assert!(rt; done.is_ok(), "no memory");
     }
 }
 
-// Whether three lines get their replies in a world on which no call fails, and fit into it.
-fn are_answered_steadily<R: Threads + Sync>(rt: &R, alloc: Global) -> Result<bool, NoMemory> {
-    let lines = b"segment 0 0 3 1\nsegment 0 1 3 0\nchain 1\n";
-    let replies = b"ok 1 steps 0 first 1 new 1\nok 2 steps 1 first 2 new 1\n\
-                    chain 3\n0 0\n2 1\n3 1\n";
-    let (status, world) = run_steadily(rt, alloc, Vec::from_slice(alloc, lines)?)?;
-    Ok(status == Status::Done && world.fits() && world.given() == replies.as_slice())
+// Lines on which no call fails, and their replies.
+static STEADY: [(&str, &str); 2] = [
+    (
+        "segment 0 0 3 1\nsegment 0 1 3 0\nchain 1\n",
+        "ok 1 steps 0 first 1 new 1\nok 2 steps 1 first 2 new 1\nchain 3\n0 0\n2 1\n3 1\n",
+    ),
+    (
+        "begin\nsegment 0 0 3 1\ncommit\nbegin\nsegment 0 1 3 0\nabandon\nchain 1\ncommit\nbegin\npoint 1 1\n",
+        "ok begin\nok 1 steps 0 first 1 new 1\nok commit 1\nok begin\n\
+         ok 2 steps 1 first 2 new 1\nok abandon\nchain 2\n0 0\n3 1\nno no-group\nok begin\n\
+         ok 2 steps 0 first 2 new 0\n",
+    ),
+];
+
+// Whether they get these replies, and fit into the world.
+fn are_answered_steadily<R: Threads + Sync>(
+    rt: &R,
+    alloc: Global,
+    lines: &str,
+    replies: &str,
+) -> Result<bool, NoMemory> {
+    let input = Vec::from_slice(alloc, lines.as_bytes())?;
+    let (status, world) = run_steadily(rt, alloc, input)?;
+    Ok(status == Status::Done && world.fits() && world.given() == replies.as_bytes())
 }
 
 #[test]
 fn a_steady_run_answers_each_line(rt: HostRuntime) {
-    assert!(rt; are_answered_steadily(&rt, rt.alloc()).unwrap_or(false));
+    for (lines, replies) in STEADY.iter() {
+        let answered = are_answered_steadily(&rt, rt.alloc(), lines, replies);
+        assert!(rt; answered.unwrap_or(false), "at {lines:?}");
+    }
 }
 
 // A standard error whose text is kept.

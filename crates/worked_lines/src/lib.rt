@@ -15,6 +15,8 @@ mod files;
 #[cfg(test)]
 mod gates;
 #[cfg(test)]
+mod groups;
+#[cfg(test)]
 mod running;
 #[cfg(test)]
 mod sessions;

@@ -78,19 +78,31 @@ pub(crate) fn run_words<R: Threads + Sync>(
     Ok(run(rt, alloc, words.as_slice(), world))
 }
 
-/// Serves the lines of the input, with this budget.
+/// Serves the lines of the input, with this budget. Tells as well how many changes the store has then, but where it is spent
+/// or has a group open.
 pub(crate) fn serve_within<R: Threads + Sync>(
     rt: &R,
     alloc: Global,
     world: &mut MemoryWorld,
     budget: u64,
-) -> Status
+) -> (Status, Option<u64>)
     requires intact { has_failed world.old ≡ false }
 {
     match Store::start(rt, alloc, world) {
-        Ok(mut store) => serve(rt, alloc, &mut store, world, budget),
-        Err(_) => Status::DiskFault,
+        Ok(mut store) => {
+            let status = serve(rt, alloc, &mut store, world, budget);
+            (status, changes_of(&store))
+        }
+        Err(_) => (Status::DiskFault, None),
     }
+}
+
+// How many changes the store has, but where it is spent or has a group open.
+fn changes_of(store: &Store) -> Option<u64> {
+    if store.is_spent() || store.in_group() {
+        return None;
+    }
+    Some(store.state().changes())
 }
 
 /// A run with these words there gives this and ends with this number.

@@ -1,38 +1,41 @@
 //! Segments by the coordinates of their ends, as tables write them, and the values that they make.
-ghost use Rattle.std.specs.Prelude.{IfOk};
 ghost use Rattle.grid_base.specs.Border.{AreNoded};
 ghost use Rattle.rose_values.specs.Border.{AreSegmentsAscending};
 
 use grid_base::Segment;
 use rose_values::RegionsValue;
-use segment_lists::{are_noded, ascending_segments, segments_with};
+use segment_lists::{are_noded, ascending_segments, segment_with};
 use std::alloc::Global;
-use std::test::Fail;
+use std::process::Abort;
 
-// The segments with these ends, in order.
-pub(crate) fn segments(alloc: Global, table: &[[u64; 4]]) -> Result<Vec<Segment>, Fail>
-    ensures ascending { IfOk result (λ v. AreSegmentsAscending v.items) }
+// The segments with these ends, in the order of the table.
+pub(crate) fn listed(rt: &impl Abort, alloc: Global, table: &[[u64; 4]]) -> Vec<Segment> {
+    let mut list = Vec::new(alloc);
+    for ends in table {
+        let s = segment_with(ends).expect(rt, "a segment");
+        list.push(s).expect(rt, "memory");
+    }
+    list
+}
+
+// The same, in order.
+pub(crate) fn segments(rt: &impl Abort, alloc: Global, table: &[[u64; 4]]) -> Vec<Segment>
+    ensures ascending { AreSegmentsAscending result.items }
 {
-    let list = segments_with(alloc, table)?.ok_or("no segment")?;
-    Ok(ascending_segments(list))
+    ascending_segments(listed(rt, alloc, table))
 }
 
 // The same, which are those of a realm.
-pub(crate) fn realm(alloc: Global, table: &[[u64; 4]]) -> Result<Vec<Segment>, Fail>
-    ensures ascending { IfOk result (λ v. AreSegmentsAscending v.items) }
-    ensures noded { IfOk result (λ v. AreNoded v.items) }
+pub(crate) fn realm(rt: &impl Abort, alloc: Global, table: &[[u64; 4]]) -> Vec<Segment>
+    ensures ascending { AreSegmentsAscending result.items }
+    ensures noded { AreNoded result.items }
 {
-    let list = segments(alloc, table)?;
-    if !are_noded(&list) {
-        return Err(Fail::new("no realm"));
-    }
-    Ok(list)
+    let list = segments(rt, alloc, table);
+    assert!(rt; are_noded(&list), "no realm");
+    list
 }
 
 // The region with this border.
-pub(crate) fn region(alloc: Global, table: &[[u64; 4]]) -> Result<RegionsValue, Fail> {
-    match RegionsValue::from_segments(realm(alloc, table)?) {
-        Ok(region) => Ok(region),
-        Err(_) => Err(Fail::new("an odd point")),
-    }
+pub(crate) fn region(rt: &impl Abort, alloc: Global, table: &[[u64; 4]]) -> RegionsValue {
+    RegionsValue::from_segments(realm(rt, alloc, table)).expect(rt, "an even border")
 }

@@ -7,17 +7,17 @@ use line_grammar::{
 };
 use rose_values::{Num, Op};
 use std::alloc::Global;
-use std::test::Fail;
+use std::process::Abort;
 
 // The first word, and what may not follow it.
-const WORDS: [(&str, usize); 26] = [
+static WORDS: [(&str, usize); 26] = [
     ("", 0),
     (" ", 0),
     ("x", 0),
     ("Point 1 1", 0),
     (" point 1 1", 0),
     ("p", 1),
-    ("begin", 1),
+    ("beg", 3),
     ("dp", 1),
     ("point", 5),
     ("pointx", 5),
@@ -40,7 +40,7 @@ const WORDS: [(&str, usize); 26] = [
 ];
 
 // Numbers and places.
-const NUMBERS: [(&str, usize); 35] = [
+static NUMBERS: [(&str, usize); 35] = [
     ("point ", 6),
     ("point 1", 7),
     ("point 1 ", 8),
@@ -79,7 +79,7 @@ const NUMBERS: [(&str, usize); 35] = [
 ];
 
 // Places and lists of places behind a name.
-const LISTS: [(&str, usize); 25] = [
+static LISTS: [(&str, usize); 25] = [
     ("points ", 7),
     ("points P", 7),
     ("points _a", 7),
@@ -108,7 +108,7 @@ const LISTS: [(&str, usize); 25] = [
 ];
 
 // Names, operators, predicates and numbers of values.
-const NAMES: [(&str, usize); 39] = [
+static NAMES: [(&str, usize); 39] = [
     ("let p", 5),
     ("let p=plus q r", 5),
     ("let p =", 7),
@@ -151,7 +151,7 @@ const NAMES: [(&str, usize); 39] = [
 ];
 
 // Every form, operator, predicate and number, with the longest name and the longest number.
-const GOOD: [&str; 46] = [
+static GOOD: [&str; 46] = [
     "point 0 9999999999999999999",
     "unpoint 7 0",
     "segment 4 5 6 7",
@@ -201,7 +201,7 @@ const GOOD: [&str; 46] = [
 ];
 
 // Names, and whether a line can have them.
-const TEXTS: [(&str, bool); 9] = [
+static TEXTS: [(&str, bool); 9] = [
     ("p", true),
     ("z_9", true),
     ("abcdefghijklmnopqrstuvwxyz_01234", true),
@@ -260,66 +260,78 @@ fn every_form_is_read_and_written(rt: HostRuntime) {
 }
 
 #[test]
-fn the_parts_of_a_line_are_its_command(rt: HostRuntime) -> Result<(), Fail> {
-    let Ok(Command::Change(Change::Regions(name, paths))) = read_line(
-        rt.alloc(),
-        b"regions r2 1 2 3 4 ; 5 6",
-    ) else {
-        return Err(Fail::new("another command"));
+fn the_parts_of_a_line_are_its_command(rt: HostRuntime) {
+    let found = read_line(rt.alloc(), b"regions r2 1 2 3 4 ; 5 6");
+    let Ok(Command::Change(Change::Regions(name, paths))) = found else {
+        panic!(rt; "another command");
     };
     assert!(rt; name.into_text().as_str() == "r2");
     let mut paths = paths.into_paths();
-    let last = paths.pop().ok_or("no list")?;
-    let first = paths.pop().ok_or("one list")?;
+    let last = paths.pop().expect(&rt, "a list");
+    let first = paths.pop().expect(&rt, "two lists");
     assert!(rt; paths.is_empty());
-    assert!(rt; last.places() == [At { x: 5, y: 6 }].as_slice());
-    let places = first.into_places();
-    assert!(rt; places.as_slice() == [At { x: 1, y: 2 }, At { x: 3, y: 4 }].as_slice());
-    Ok(())
+    assert!(rt; last.places() == PLACES.split_at(2).1);
+    assert!(rt; first.into_places().as_slice() == PLACES.split_at(2).0);
 }
 
-fn name(alloc: Global, text: &str) -> Result<Name, Fail> {
-    Ok(Name::new(String::from_str(alloc, text)?))
+static PLACES: [At; 3] = [At { x: 1, y: 2 }, At { x: 3, y: 4 }, At { x: 5, y: 6 }];
+
+fn name(rt: &impl Abort, alloc: Global, text: &str) -> Name {
+    Name::new(String::from_str(alloc, text).expect(rt, "memory"))
 }
 
 // The first name of the table for which that isn't so.
-fn other_name<'a>(alloc: Global, table: &[(&'a str, bool)]) -> Result<Option<&'a str>, Fail> {
+fn other_name<'a>(rt: &impl Abort, alloc: Global, table: &[(&'a str, bool)]) -> Option<&'a str> {
     for (text, expected) in table {
-        if spellable_change(&Change::Drop(name(alloc, text)?)) != *expected {
-            return Ok(Some(*text));
+        if spellable_change(&Change::Drop(name(rt, alloc, text))) != *expected {
+            return Some(*text);
         }
     }
-    Ok(None)
+    None
 }
 
 #[test]
-fn some_commands_have_no_line(rt: HostRuntime) -> Result<(), Fail> {
-    let alloc = rt.alloc();
-    assert!(rt; other_name(alloc, &TEXTS)?.is_none());
+fn some_names_have_no_line(rt: HostRuntime) {
+    assert!(rt; other_name(&rt, rt.alloc(), &TEXTS).is_none());
+}
+
+#[test]
+fn some_numbers_have_no_line(rt: HostRuntime) {
     assert!(rt; spellable(&Command::Batch(9_999_999_999_999_999_999)));
     assert!(rt; !spellable(&Command::Batch(10_000_000_000_000_000_000)));
-    let two = Query::Eval(Op::Contour, name(alloc, "p")?, Some(name(alloc, "q")?));
+}
+
+#[test]
+fn some_commands_have_no_line(rt: HostRuntime) {
+    let alloc = rt.alloc();
+    let (p, q) = (name(&rt, alloc, "p"), name(&rt, alloc, "q"));
+    let two = Query::Eval(Op::Contour, p, Some(q));
     assert!(rt; !spellable(&Command::Query(two)));
-    let one = Query::Num(Num::Dist2, name(alloc, "p")?, None);
+    let one = Query::Num(Num::Dist2, name(&rt, alloc, "p"), None);
     assert!(rt; !spellable(&Command::Query(one)));
-    let none = Change::Lines(name(alloc, "l")?, Paths::new(Vec::new(alloc)));
+}
+
+// The lines of no path have a line, and those of an empty one don't.
+#[test]
+fn some_lists_have_no_line(rt: HostRuntime) {
+    let alloc = rt.alloc();
+    let mut paths = Vec::new(alloc);
+    let none = Change::Lines(name(&rt, alloc, "l"), Paths::new(Vec::new(alloc)));
     assert!(rt; spellable_change(&none));
-    let paths = vec![in alloc; Path::new(Vec::new(alloc))]?;
-    let empty = Change::Lines(name(alloc, "l")?, Paths::new(paths));
+    paths.push(Path::new(Vec::new(alloc))).expect(&rt, "memory");
+    let empty = Change::Lines(name(&rt, alloc, "l"), Paths::new(paths));
     assert!(rt; !spellable_change(&empty));
-    Ok(())
 }
 
 // A line of a million bytes, with 250,000 places.
 #[test]
-fn a_long_line_is_read(rt: HostRuntime) -> Result<(), Fail> {
-    let mut line = String::from_str(rt.alloc(), "points p")?;
+fn a_long_line_is_read(rt: HostRuntime) {
+    let mut line = String::from_str(rt.alloc(), "points p").expect(&rt, "memory");
     for _ in 0..250_000 {
-        line.push_str(" 1 1")?;
+        line.push_str(" 1 1").expect(&rt, "memory");
     }
     let Ok(Command::Change(Change::Points(_, path))) = read_line(rt.alloc(), line.as_bytes()) else {
-        return Err(Fail::new("refused"));
+        panic!(rt; "refused");
     };
     assert!(rt; path.places().len() == 250_000);
-    Ok(())
 }

@@ -1,9 +1,12 @@
 //! Records, heads and payloads whose bytes were made by an independent model of the formats.
+ghost use Rattle.std.specs.Prelude.{◌≡◌, length, IfOk};
+
 use crate::paper::{POINT, TWO_ORIGINALS};
-use grid_base::{Point, Segment, Step};
+use grid_base::{Point, Reply, Segment, Step};
 use record_codec::{
-    Header, KeptParts, LINE_LIMIT, ListOf, Trace, decode, decode_header, decode_snapshot, encode,
-    encode_header, encode_snapshot, no_record_begins_another, no_two_states_have_one_payload,
+    Entries, Entry, Header, KeptParts, LINE_LIMIT, ListOf, Trace, decode, decode_header,
+    decode_snapshot, encode, encode_header, encode_snapshot, no_record_begins_another,
+    no_two_states_have_one_payload,
 };
 use std::alloc::Global;
 use std::test::Fail;
@@ -33,6 +36,16 @@ const SPLIT: [u8; 62] = [
     0x00, 0x00, 0x00, 0x09, 0x70, 0x6f, 0x69, 0x6e, 0x74, 0x20, 0x35, 0x20, 0x30, 0x00, 0x00, 0x00,
     0x00, 0x00, 0x00, 0x00, 0x01, 0x01, 0x00, 0x00, 0x00, 0x05, 0x00, 0x00, 0x00, 0x00, 0x00, 0x00,
     0x00, 0x00, 0x00, 0x00, 0x00, 0x00, 0x00, 0x00, 0x00, 0x06, 0x00, 0x00, 0x00, 0x00,
+];
+
+// Changes 1 and 2, `segment 0 0 4 0` and `segment 0 0 0 4`, with no step: a group.
+const GROUP: [u8; 86] = [
+    0x00, 0x00, 0x00, 0x00, 0x00, 0x00, 0x00, 0x4e, 0x00, 0x00, 0x00, 0x00, 0x00, 0x00, 0x00, 0x00,
+    0x00, 0x00, 0x00, 0x00, 0x00, 0x00, 0x00, 0x01, 0x00, 0x00, 0x00, 0x00, 0x00, 0x00, 0x00, 0x02,
+    0x00, 0x00, 0x00, 0x0f, 0x73, 0x65, 0x67, 0x6d, 0x65, 0x6e, 0x74, 0x20, 0x30, 0x20, 0x30, 0x20,
+    0x34, 0x20, 0x30, 0x00, 0x00, 0x00, 0x00, 0x00, 0x00, 0x00, 0x00, 0x00, 0x00, 0x00, 0x0f, 0x73,
+    0x65, 0x67, 0x6d, 0x65, 0x6e, 0x74, 0x20, 0x30, 0x20, 0x30, 0x20, 0x30, 0x20, 0x34, 0x00, 0x00,
+    0x00, 0x00, 0x00, 0x00, 0x00, 0x00,
 ];
 
 // A state with one change, one point and its empty trace.
@@ -75,50 +88,61 @@ fn segment(ax: u64, ay: u64, bx: u64, by: u64) -> Result<Segment, Fail> {
     Ok(Segment::new(point(ax, ay)?, point(bx, by)?).ok_or("one point")?)
 }
 
+// Whether these are the lines and the steps of the entries.
+fn are(entries: &[Entry], expected: &[(&str, &[Step])]) -> bool {
+    for (entry, (line, steps)) in entries.iter().zip(expected) {
+        let same_line = entry.line.bytes() == line.as_bytes();
+        if !same_line || entry.trace.steps() != *steps {
+            return false;
+        }
+    }
+    entries.len() == expected.len()
+}
+
 // Whether the bytes are read as this record, and the record is written as these bytes.
 fn stands_for(
     alloc: Global,
     bytes: &[u8],
     number: u64,
-    line: &str,
-    steps: &[Step],
+    entries: &[(&str, &[Step])],
 ) -> Result<bool, Fail> {
     let Some((record, taken)) = decode(alloc, bytes)? else {
         return Ok(false);
     };
     let again = encode(alloc, &record)?;
     let same_number = taken == bytes.len() && record.number == number;
-    let same_line = record.line.bytes() == line.as_bytes();
-    let same_steps = record.trace.steps() == steps;
-    Ok(same_number && same_line && same_steps && again.as_slice() == bytes)
+    let same_entries = are(record.entries.entries(), entries);
+    Ok(same_number && same_entries && again.as_slice() == bytes)
 }
 
 #[test]
 fn records_are_read_and_written(rt: HostRuntime) -> Result<(), Fail> {
     no_record_begins_another();
     let alloc = rt.alloc();
-    assert!(rt; stands_for(alloc, &POINT, 1, "point 3 0", &[])?);
+    assert!(rt; stands_for(alloc, &POINT, 1, &[("point 3 0", &[])])?);
     let meet = Step::Meet {
         t: segment(0, 0, 10, 4)?,
         u: segment(6, 0, 6, 9)?,
         x: point(6, 2)?,
     };
-    assert!(rt; stands_for(alloc, &MEET, 2, "segment 6 0 6 9", &[meet])?);
+    assert!(rt; stands_for(alloc, &MEET, 2, &[("segment 6 0 6 9", &[meet])])?);
     let corner = Step::Corner {
         t: segment(0, 0, 1, 1)?,
         u: segment(0, 1, 1, 0)?,
     };
-    assert!(rt; stands_for(alloc, &CORNER, 2, "segment 0 1 1 0", &[corner])?);
+    assert!(rt; stands_for(alloc, &CORNER, 2, &[("segment 0 1 1 0", &[corner])])?);
     let split = Step::Split {
         p: point(5, 0)?,
         t: segment(0, 0, 6, 0)?,
     };
-    assert!(rt; stands_for(alloc, &SPLIT, 3, "point 5 0", &[split])?);
+    assert!(rt; stands_for(alloc, &SPLIT, 3, &[("point 5 0", &[split])])?);
+    let lines: [(&str, &[Step]); 2] = [("segment 0 0 4 0", &[]), ("segment 0 0 0 4", &[])];
+    assert!(rt; stands_for(alloc, &GROUP, 1, &lines)?);
     Ok(())
 }
 
 // One byte of a record, and what another byte there makes of it.
-const CHANGED: [(&[u8], usize, u8, bool); 16] = [
+const CHANGED: [(&[u8], usize, u8, bool); 21] = [
     // the length is one more, one less, and near 2^64
     (&POINT, 7, 0x1e, false),
     (&POINT, 7, 0x1c, false),
@@ -142,6 +166,13 @@ const CHANGED: [(&[u8], usize, u8, bool); 16] = [
     // the first piece begins at (0, 1), and at (7, 0), behind the second
     (&MEET, 51, 0x01, true),
     (&MEET, 47, 0x07, false),
+    // the 0 before a group is a 1, and the group begins with change 2
+    (&GROUP, 15, 0x01, false),
+    (&GROUP, 23, 0x02, true),
+    // one entry, three entries, and the second is `segment 0 0 0 9`
+    (&GROUP, 31, 0x01, false),
+    (&GROUP, 31, 0x03, false),
+    (&GROUP, 77, 0x39, true),
 ];
 
 // The bytes with another one at this place.
@@ -204,6 +235,84 @@ fn the_line_of_a_record_has_a_limit(rt: HostRuntime) -> Result<(), Fail> {
         let found = decode(rt.alloc(), &bytes)?;
         assert_eq!(rt; found.is_some(), is_record, "{points}");
     }
+    Ok(())
+}
+
+// The text of a group with this number, this count and these lines, each with no step.
+fn group(alloc: Global, number: u64, count: u64, lines: &[&str]) -> Result<Vec<u8>, Fail> {
+    let mut body = Vec::new(alloc);
+    body.extend_from_slice(&0u64.to_be_bytes())?;
+    body.extend_from_slice(&number.to_be_bytes())?;
+    body.extend_from_slice(&count.to_be_bytes())?;
+    for line in lines {
+        let length = u32::try_from(line.len()).ok().ok_or("a long line")?;
+        body.extend_from_slice(&length.to_be_bytes())?;
+        body.extend_from_slice(line.as_bytes())?;
+        body.extend_from_slice(&0u64.to_be_bytes())?;
+    }
+    let mut bytes = Vec::new(alloc);
+    bytes.extend_from_slice(&(body.len() as u64).to_be_bytes())?;
+    bytes.extend_from_slice(&body)?;
+    Ok(bytes)
+}
+
+// Groups: the number, the count, the lines, and whether they are a record.
+const GROUPS: [(u64, u64, &[&str], bool); 9] = [
+    (1, 2, &["point 1 1", "point 2 2"], true),
+    (u64::MAX, 3, &["point 1 1", "unpoint 1 1", "delete 7"], true),
+    // one change and none, which have no such text
+    (1, 1, &["point 1 1"], false),
+    (1, 0, &[], false),
+    // no number
+    (0, 2, &["point 1 1", "point 2 2"], false),
+    // a count that the lines don't have
+    (1, 1, &["point 1 1", "point 2 2"], false),
+    (1, 3, &["point 1 1", "point 2 2"], false),
+    // the first line, and the last, is no change
+    (1, 2, &["realm", "point 2 2"], false),
+    (1, 3, &["point 1 1", "point 2 2", "realm"], false),
+];
+
+#[test]
+fn a_group_has_two_changes_or_more(rt: HostRuntime) -> Result<(), Fail> {
+    for (place, (number, count, lines, is_record)) in GROUPS.iter().enumerate() {
+        let bytes = group(rt.alloc(), *number, *count, lines)?;
+        let found = decode(rt.alloc(), &bytes)?;
+        assert_eq!(rt; found.is_some(), *is_record, "{place}");
+    }
+    Ok(())
+}
+
+#[test]
+fn a_group_may_have_a_thousand_changes(rt: HostRuntime) -> Result<(), Fail> {
+    let lines = ["point 1 1"; 1_000];
+    let bytes = group(rt.alloc(), 7, 1_000, &lines)?;
+    let (record, taken) = decode(rt.alloc(), &bytes)?.ok_or("no record")?;
+    assert_eq!(rt; (record.number, taken), (7, bytes.len()));
+    assert_eq!(rt; record.entries.entries().len(), 1_000);
+    let again = encode(rt.alloc(), &record)?;
+    assert!(rt; again.as_slice() == bytes.as_slice());
+    Ok(())
+}
+
+// A change with no step, whose line is one of a few bytes.
+fn entry(alloc: Global, line: [u8; 9]) -> Result<Entry, Fail>
+    ensures { IfOk result (λ entry. length entry.line ≡ 9) }
+{
+    Ok(Entry {
+        line: Reply::new(Vec::from_slice(alloc, &line)?),
+        trace: Trace::new(alloc),
+    })
+}
+
+#[test]
+fn changes_are_put_one_behind_another(rt: HostRuntime) -> Result<(), Fail> {
+    let alloc = rt.alloc();
+    assert!(rt; Entries::new(alloc).entries().is_empty());
+    let mut entries = Entries::one(alloc, entry(alloc, *b"point 1 1")?)?;
+    entries.push(entry(alloc, *b"point 2 2")?)?;
+    let expected: [(&str, &[Step]); 2] = [("point 1 1", &[]), ("point 2 2", &[])];
+    assert!(rt; are(entries.entries(), &expected));
     Ok(())
 }
 

@@ -1,37 +1,26 @@
 //! What the operators make of two values. The tables of triangles say which triangle of the paper is in a region,
 //! so what an operator makes is known without it.
-ghost use Rattle.std.specs.Prelude.{◌≢◌};
-ghost use Rattle.rose_values.specs.declared.operators.Op.TheVariants.{Interior};
-
-use crate::paper::{joined, lines, points, region, region_of, segment, segments, segments_in};
+use crate::paper::{Row, is_same, joined, region, segment, segments_in, value};
 use grid_base::{Point, Segment, Sides, above_at};
-use rose_overlay::{EvalError, evaluate, evaluate_alone};
+use rose_overlay::{EvalError, EvalResult, evaluate, evaluate_alone};
 use rose_values::{Geometry, Op, RegionsValue};
 use segment_lists::are_noded;
 use side_parity::sides;
 use std::alloc::Global;
-use std::test::Fail;
+use std::process::Abort;
 use std::thread::Threads;
 
 // What the operator makes of two values.
-fn of_two(
-    alloc: Global,
-    op: Op,
-    a: &Geometry,
-    b: &Geometry,
-) -> Result<Result<Geometry, EvalError>, Fail>
-    requires { op ≢ Interior }
-{
-    let all = joined(alloc, &segments_in(alloc, a)?, &segments_in(alloc, b)?)?;
-    if !are_noded(&all) {
-        return Err(Fail::new("no realm"));
-    }
-    Ok(evaluate_alone(alloc, op, a, Some(b)))
+fn of_two(rt: &impl Abort, alloc: Global, op: Op, a: &Geometry, b: &Geometry) -> EvalResult {
+    let all = joined(rt, alloc, segments_in(a), segments_in(b));
+    assert!(rt; are_noded(&all), "no realm");
+    assert!(rt; op != Op::Interior, "not of two");
+    evaluate_alone(alloc, op, a, Some(b))
 }
 
 // The edges of four cells, each cut from its lower left to its upper right corner, and the triangles on the left
 // and on the right of each as bits. What lies outside of the cells is 0.
-const EDGES: [([u64; 4], u32, u32); 16] = [
+static EDGES: [([u64; 4], u32, u32); 16] = [
     ([0, 0, 0, 4], 0, 1),
     ([0, 0, 4, 0], 2, 0),
     ([0, 0, 4, 4], 1, 2),
@@ -51,7 +40,7 @@ const EDGES: [([u64; 4], u32, u32); 16] = [
 ];
 
 // A point inside each triangle.
-const INSIDE: [([u64; 2], u32); 8] = [
+static INSIDE: [([u64; 2], u32); 8] = [
     ([1, 3], 1),
     ([3, 1], 2),
     ([5, 3], 4),
@@ -63,22 +52,22 @@ const INSIDE: [([u64; 2], u32); 8] = [
 ];
 
 // Regions of triangles: none, one, two that meet in a corner, a cell, a ring, all.
-const DRAWN: [u32; 8] = [0, 4, 33, 48, 150, 189, 219, 255];
+static DRAWN: [u32; 8] = [0, 4, 33, 48, 150, 189, 219, 255];
 
 // The edges that have a triangle of the region on one side alone.
-fn border(alloc: Global, triangles: u32) -> Result<Vec<Segment>, Fail> {
+fn border(rt: &impl Abort, alloc: Global, triangles: u32) -> Vec<Segment> {
     let mut list = Vec::new(alloc);
-    for (ends, left, right) in &EDGES {
+    for (ends, left, right) in EDGES.iter() {
         if (triangles & left == 0) != (triangles & right == 0) {
-            list.push(segment(ends)?)?;
+            list.push(segment(rt, ends)).expect(rt, "memory");
         }
     }
-    Ok(list)
+    list
 }
 
 // The region of the triangles.
-fn drawn(alloc: Global, triangles: u32) -> Result<RegionsValue, Fail> {
-    region_of(border(alloc, triangles)?)
+fn drawn(rt: &impl Abort, alloc: Global, triangles: u32) -> RegionsValue {
+    region(rt, border(rt, alloc, triangles))
 }
 
 // Whether an odd number of the segments is strictly above the point.
@@ -90,281 +79,250 @@ fn is_odd(border: &[Segment], p: &Point) -> bool {
     odd
 }
 
-// The points inside the triangles, for each region: one is odd where its triangle is in the region.
-#[test]
-fn points_of_a_region_are_odd(rt: HostRuntime) -> Result<(), Fail> {
-    let alloc = rt.alloc();
-    for triangles in DRAWN {
-        let found = border(alloc, triangles)?;
-        for ([x, y], triangle) in &INSIDE {
-            let odd = is_odd(&found, &Point::new(*x, *y)?);
-            assert_eq!(rt; odd, triangles & triangle != 0, "{triangles} {x} {y}");
-        }
-    }
-    Ok(())
-}
-
-// Each edge has the sides that the table of edges says.
-#[test]
-fn sides_are_those_of_the_triangles(rt: HostRuntime) -> Result<(), Fail> {
-    let alloc = rt.alloc();
-    for triangles in DRAWN {
-        let found = drawn(alloc, triangles)?;
-        for (ends, left, right) in &EDGES {
-            let want = Sides {
-                left: triangles & left != 0,
-                right: triangles & right != 0,
-            };
-            assert_eq!(rt;
-                told(alloc, &found, &segment(ends)?)?,
-                want,
-                "{triangles} {ends:?}"
-            );
-        }
-    }
-    Ok(())
-}
-
-// The segments of what the operator makes of two regions of triangles.
-fn combined(alloc: Global, op: Op, first: u32, second: u32) -> Result<Vec<Segment>, Fail>
-    requires { op ≢ Interior }
-{
-    let a = Geometry::R(drawn(alloc, first)?);
-    let b = Geometry::R(drawn(alloc, second)?);
-    let found = of_two(alloc, op, &a, &b)??;
-    segments_in(alloc, &found)
-}
-
-// What the operators make of two regions of triangles is the region of the triangles that they keep.
-#[test]
-fn regions_of_triangles_are_combined(rt: HostRuntime) -> Result<(), Fail> {
-    let alloc = rt.alloc();
-    for first in DRAWN {
-        for second in DRAWN {
-            for (op, want) in [
-                (Op::Intersection, first & second),
-                (Op::Plus, first | second),
-                (Op::Minus, first & !second),
-            ] {
-                assert_eq!(rt;
-                    combined(alloc, op, first, second)?,
-                    border(alloc, want)?,
-                    "{op:?} {first} {second}"
-                );
-            }
-        }
-    }
-    Ok(())
-}
-
-#[test]
-fn regions_are_combined(rt: HostRuntime) -> Result<(), Fail> {
-    let alloc = rt.alloc();
-    let first = [
-        [0, 0, 0, 4],
-        [0, 0, 4, 0],
-        [0, 4, 2, 4],
-        [2, 4, 4, 4],
-        [4, 0, 4, 2],
-        [4, 2, 4, 4],
-    ];
-    let second = [
-        [2, 2, 2, 4],
-        [2, 2, 4, 2],
-        [2, 4, 2, 6],
-        [2, 6, 6, 6],
-        [4, 2, 6, 2],
-        [6, 2, 6, 6],
-    ];
-    let both = [[2, 2, 2, 4], [2, 2, 4, 2], [2, 4, 4, 4], [4, 2, 4, 4]];
-    let either = [
-        [0, 0, 0, 4],
-        [0, 0, 4, 0],
-        [0, 4, 2, 4],
-        [2, 4, 2, 6],
-        [2, 6, 6, 6],
-        [4, 0, 4, 2],
-        [4, 2, 6, 2],
-        [6, 2, 6, 6],
-    ];
-    let first_alone = [
-        [0, 0, 0, 4],
-        [0, 0, 4, 0],
-        [0, 4, 2, 4],
-        [2, 2, 2, 4],
-        [2, 2, 4, 2],
-        [4, 0, 4, 2],
-    ];
-    let a = Geometry::R(region(alloc, &first)?);
-    let b = Geometry::R(region(alloc, &second)?);
-    for (op, want) in [
-        (Op::Intersection, &both[..]),
-        (Op::Plus, &either[..]),
-        (Op::Minus, &first_alone[..]),
-        (Op::CommonBorder, &[][..]),
-    ] {
-        let found = of_two(alloc, op, &a, &b)??;
-        assert_eq!(rt;
-            segments_in(alloc, &found)?,
-            segments(alloc, want)?,
-            "{op:?}"
+// The points inside the triangles: one is odd where its triangle is in the region.
+fn compare_points(rt: &impl Abort, alloc: Global, triangles: u32) {
+    let found = border(rt, alloc, triangles);
+    for ([x, y], triangle) in INSIDE.iter() {
+        let p = Point::new(*x, *y).expect(rt, "a point");
+        assert!(rt;
+            is_odd(&found, &p) == (triangles & triangle != 0),
+            "{triangles} {x} {y}"
         );
     }
-    Ok(())
-}
-
-#[test]
-fn two_parcels_and_a_road(rt: HostRuntime) -> Result<(), Fail> {
-    let alloc = rt.alloc();
-    let shared = [[100, 0, 100, 30], [100, 30, 100, 60]];
-    let first = [
-        [0, 0, 0, 30],
-        [0, 0, 100, 0],
-        [0, 30, 0, 60],
-        [0, 60, 100, 60],
-        [100, 0, 100, 30],
-        [100, 30, 100, 60],
-    ];
-    let second = [
-        [100, 0, 100, 30],
-        [100, 0, 180, 0],
-        [100, 30, 100, 60],
-        [100, 60, 180, 60],
-        [180, 0, 180, 30],
-        [180, 30, 180, 60],
-    ];
-    let p = Geometry::R(region(alloc, &first)?);
-    let q = Geometry::R(region(alloc, &second)?);
-    let road = Geometry::L(lines(alloc, &[[0, 30, 100, 30], [100, 30, 180, 30]])?);
-    for (op, a, b, want) in [
-        (Op::CommonBorder, &p, &q, &shared[..]),
-        (Op::Intersection, &p, &road, &[[0, 30, 100, 30]][..]),
-        (Op::Intersection, &q, &road, &[[100, 30, 180, 30]][..]),
-        (Op::Intersection, &p, &q, &[][..]),
-        (Op::Minus, &p, &q, &first[..]),
-    ] {
-        let found = of_two(alloc, op, a, b)??;
-        assert_eq!(rt;
-            segments_in(alloc, &found)?,
-            segments(alloc, want)?,
-            "{op:?}"
-        );
-    }
-    Ok(())
-}
-
-// The points of a value, which is one of points.
-fn points_in(value: &Geometry) -> Result<&[Point], Fail> {
-    match value {
-        Geometry::P(points) => Ok(points.points()),
-        _ => Err(Fail::new("no points")),
-    }
-}
-
-// Two lists of lines, an operator, and the points that it makes of them.
-#[test]
-fn lines_meet_where_they_share_no_segment(rt: HostRuntime) -> Result<(), Fail> {
-    let alloc = rt.alloc();
-    let rising = [[0, 0, 2, 2], [2, 2, 4, 4]];
-    let falling = [[0, 4, 2, 2], [2, 2, 4, 0]];
-    let cases = [
-        (&rising, &falling, &[[2, 2]][..]),
-        (&rising, &rising, &[][..]),
-        (
-            &[[0, 0, 2, 0], [2, 0, 4, 0]],
-            &[[2, 0, 4, 0], [4, 0, 4, 9]],
-            &[][..],
-        ),
-    ];
-    for (first, second, want) in cases {
-        let a = Geometry::L(lines(alloc, first)?);
-        let b = Geometry::L(lines(alloc, second)?);
-        let found = of_two(alloc, Op::Intersection, &a, &b)??;
-        assert_eq!(rt;
-            points_in(&found)?,
-            points(alloc, want)?.points(),
-            "{first:?} {second:?}"
-        );
-    }
-    Ok(())
-}
-
-#[test]
-fn lists_of_points_and_of_lines(rt: HostRuntime) -> Result<(), Fail> {
-    let alloc = rt.alloc();
-    let a = Geometry::P(points(alloc, &[[0, 0], [3, 4], [5, 5]])?);
-    let b = Geometry::P(points(alloc, &[[3, 4], [4, 3]])?);
-    for (op, want) in [
-        (Op::Intersection, &[[3, 4]][..]),
-        (Op::Plus, &[[0, 0], [3, 4], [4, 3], [5, 5]][..]),
-        (Op::Minus, &[[0, 0], [5, 5]][..]),
-    ] {
-        let found = of_two(alloc, op, &a, &b)??;
-        assert_eq!(rt; points_in(&found)?, points(alloc, want)?.points(), "{op:?}");
-    }
-    let a = Geometry::L(lines(alloc, &[[0, 0, 2, 0], [2, 0, 4, 0]])?);
-    let b = Geometry::L(lines(alloc, &[[2, 0, 4, 0], [4, 0, 4, 9]])?);
-    for (op, want) in [
-        (Op::Plus, &[[0, 0, 2, 0], [2, 0, 4, 0], [4, 0, 4, 9]][..]),
-        (Op::Minus, &[[0, 0, 2, 0]][..]),
-    ] {
-        let found = of_two(alloc, op, &a, &b)??;
-        assert_eq!(rt;
-            segments_in(alloc, &found)?,
-            segments(alloc, want)?,
-            "{op:?}"
-        );
-    }
-    Ok(())
-}
-
-#[test]
-fn vertices_and_contours(rt: HostRuntime) -> Result<(), Fail> {
-    let alloc = rt.alloc();
-    let square = [[0, 0, 0, 4], [0, 0, 4, 0], [0, 4, 4, 4], [4, 0, 4, 4]];
-    let a = Geometry::R(region(alloc, &square)?);
-    if !are_noded(&joined(alloc, &segments_in(alloc, &a)?, &[])?) {
-        return Err(Fail::new("no realm"));
-    }
-    let found = evaluate(&rt, alloc, Op::Vertices, &a, None)?;
-    let corners = [[0, 0], [0, 4], [4, 0], [4, 4]];
-    assert_eq!(rt; points_in(&found)?, points(alloc, &corners)?.points());
-    let found = evaluate_alone(alloc, Op::Contour, &a, None)?;
-    assert_eq!(rt; segments_in(alloc, &found)?, segments(alloc, &square)?);
-    Ok(())
-}
-
-#[test]
-fn other_kinds_are_refused(rt: HostRuntime) -> Result<(), Fail> {
-    let alloc = rt.alloc();
-    let p = Geometry::P(points(alloc, &[[0, 0]])?);
-    let l = Geometry::L(lines(alloc, &[[0, 0, 2, 0]])?);
-    let r = Geometry::R(region(alloc, &[])?);
-    for (op, a, b) in [
-        (Op::Intersection, &l, &r),
-        (Op::Intersection, &p, &l),
-        (Op::Plus, &r, &l),
-        (Op::CommonBorder, &l, &l),
-        (Op::Contour, &r, &r),
-    ] {
-        assert_eq!(rt;
-            of_two(alloc, op, a, b)?.err(),
-            Some(EvalError::WrongTypes),
-            "{op:?}"
-        );
-    }
-    Ok(())
 }
 
 // The sides of a segment, by the border of a region.
-fn told(alloc: Global, region: &RegionsValue, s: &Segment) -> Result<Sides, Fail> {
+fn told(rt: &impl Abort, alloc: Global, region: &RegionsValue, s: &Segment) -> Sides {
     let mut all = Vec::new(alloc);
-    all.push(*s)?;
-    all.extend_from_slice(region.segments())?;
-    if !are_noded(&all) {
-        return Err(Fail::new("no realm"));
+    all.push(*s).expect(rt, "memory");
+    all.extend_from_slice(region.segments())
+        .expect(rt, "memory");
+    assert!(rt; are_noded(&all), "no realm");
+    sides(region.segments(), s)
+}
+
+// Each edge has the sides that the table of edges says.
+fn compare_sides(rt: &impl Abort, alloc: Global, triangles: u32) {
+    let found = drawn(rt, alloc, triangles);
+    for (ends, left, right) in EDGES.iter() {
+        let want = Sides {
+            left: triangles & left != 0,
+            right: triangles & right != 0,
+        };
+        assert!(rt;
+            told(rt, alloc, &found, &segment(rt, ends)) == want,
+            "{triangles} {ends:?}"
+        );
     }
-    Ok(sides(region.segments(), s))
+}
+
+#[test]
+fn triangles_are_in_their_regions(rt: HostRuntime) {
+    for triangles in DRAWN.iter() {
+        compare_points(&rt, rt.alloc(), *triangles);
+        compare_sides(&rt, rt.alloc(), *triangles);
+    }
+}
+
+// What the operator makes of two regions of triangles is the region of the triangles that it keeps.
+fn compare(rt: &impl Abort, alloc: Global, op: Op, first: u32, second: u32, want: u32) {
+    let a = Geometry::R(drawn(rt, alloc, first));
+    let b = Geometry::R(drawn(rt, alloc, second));
+    let found = of_two(rt, alloc, op, &a, &b).expect(rt, "two regions");
+    assert!(rt;
+        segments_in(&found) == border(rt, alloc, want).as_slice(),
+        "{op:?} {first} {second}"
+    );
+}
+
+#[test]
+fn regions_of_triangles_are_combined(rt: HostRuntime) {
+    let alloc = rt.alloc();
+    for first in DRAWN.iter() {
+        for second in DRAWN.iter() {
+            compare(
+                &rt,
+                alloc,
+                Op::Intersection,
+                *first,
+                *second,
+                *first & *second,
+            );
+            compare(&rt, alloc, Op::Plus, *first, *second, *first | *second);
+            compare(&rt, alloc, Op::Minus, *first, *second, *first & !*second);
+        }
+    }
+}
+
+// Two squares that overlap, two parcels with a common border and a road through both, lines that cross, and lists that have an
+// entry in common.
+const FIRST: Row = Row::R(&[
+    [0, 0, 0, 4],
+    [0, 0, 4, 0],
+    [0, 4, 2, 4],
+    [2, 4, 4, 4],
+    [4, 0, 4, 2],
+    [4, 2, 4, 4],
+]);
+
+const SECOND: Row = Row::R(&[
+    [2, 2, 2, 4],
+    [2, 2, 4, 2],
+    [2, 4, 2, 6],
+    [2, 6, 6, 6],
+    [4, 2, 6, 2],
+    [6, 2, 6, 6],
+]);
+
+const PARCEL: Row = Row::R(&[
+    [0, 0, 0, 30],
+    [0, 0, 100, 0],
+    [0, 30, 0, 60],
+    [0, 60, 100, 60],
+    [100, 0, 100, 30],
+    [100, 30, 100, 60],
+]);
+
+const NEXT: Row = Row::R(&[
+    [100, 0, 100, 30],
+    [100, 0, 180, 0],
+    [100, 30, 100, 60],
+    [100, 60, 180, 60],
+    [180, 0, 180, 30],
+    [180, 30, 180, 60],
+]);
+
+const ROAD: Row = Row::L(&[[0, 30, 100, 30], [100, 30, 180, 30]]);
+
+const RISING: Row = Row::L(&[[0, 0, 2, 2], [2, 2, 4, 4]]);
+
+const FALLING: Row = Row::L(&[[0, 4, 2, 2], [2, 2, 4, 0]]);
+
+const LEVEL: Row = Row::L(&[[0, 0, 2, 0], [2, 0, 4, 0]]);
+
+const BENT: Row = Row::L(&[[2, 0, 4, 0], [4, 0, 4, 9]]);
+
+const THREE: Row = Row::P(&[[0, 0], [3, 4], [5, 5]]);
+
+const TWO: Row = Row::P(&[[3, 4], [4, 3]]);
+
+const ONE_POINT: Row = Row::P(&[[0, 0]]);
+
+const ONE_LINE: Row = Row::L(&[[0, 0, 2, 0]]);
+
+const EMPTY: Row = Row::R(&[]);
+
+/// An operator, its values, and what it makes of them; none where it doesn't take their kinds.
+type Case = (Op, Row, Row, Option<Row>);
+
+static CASES: [Case; 22] = [
+    (
+        Op::Intersection,
+        FIRST,
+        SECOND,
+        Some(Row::R(&[[2, 2, 2, 4], [2, 2, 4, 2], [2, 4, 4, 4], [4, 2, 4, 4]])),
+    ),
+    (
+        Op::Plus,
+        FIRST,
+        SECOND,
+        Some(Row::R(&[
+            [0, 0, 0, 4],
+            [0, 0, 4, 0],
+            [0, 4, 2, 4],
+            [2, 4, 2, 6],
+            [2, 6, 6, 6],
+            [4, 0, 4, 2],
+            [4, 2, 6, 2],
+            [6, 2, 6, 6],
+        ])),
+    ),
+    (
+        Op::Minus,
+        FIRST,
+        SECOND,
+        Some(Row::R(&[
+            [0, 0, 0, 4],
+            [0, 0, 4, 0],
+            [0, 4, 2, 4],
+            [2, 2, 2, 4],
+            [2, 2, 4, 2],
+            [4, 0, 4, 2],
+        ])),
+    ),
+    (Op::CommonBorder, FIRST, SECOND, Some(Row::L(&[]))),
+    (
+        Op::CommonBorder,
+        PARCEL,
+        NEXT,
+        Some(Row::L(&[[100, 0, 100, 30], [100, 30, 100, 60]])),
+    ),
+    (
+        Op::Intersection,
+        PARCEL,
+        ROAD,
+        Some(Row::L(&[[0, 30, 100, 30]])),
+    ),
+    (
+        Op::Intersection,
+        NEXT,
+        ROAD,
+        Some(Row::L(&[[100, 30, 180, 30]])),
+    ),
+    (Op::Intersection, PARCEL, NEXT, Some(EMPTY)),
+    (Op::Minus, PARCEL, NEXT, Some(PARCEL)),
+    (Op::Intersection, RISING, FALLING, Some(Row::P(&[[2, 2]]))),
+    (Op::Intersection, RISING, RISING, Some(Row::P(&[]))),
+    (Op::Intersection, LEVEL, BENT, Some(Row::P(&[]))),
+    (Op::Intersection, THREE, TWO, Some(Row::P(&[[3, 4]]))),
+    (
+        Op::Plus,
+        THREE,
+        TWO,
+        Some(Row::P(&[[0, 0], [3, 4], [4, 3], [5, 5]])),
+    ),
+    (Op::Minus, THREE, TWO, Some(Row::P(&[[0, 0], [5, 5]]))),
+    (
+        Op::Plus,
+        LEVEL,
+        BENT,
+        Some(Row::L(&[[0, 0, 2, 0], [2, 0, 4, 0], [4, 0, 4, 9]])),
+    ),
+    (Op::Minus, LEVEL, BENT, Some(ONE_LINE)),
+    (Op::Intersection, ONE_LINE, EMPTY, None),
+    (Op::Intersection, ONE_POINT, ONE_LINE, None),
+    (Op::Plus, EMPTY, ONE_LINE, None),
+    (Op::CommonBorder, ONE_LINE, ONE_LINE, None),
+    (Op::Contour, EMPTY, EMPTY, None),
+];
+
+// Whether this was made; where none is wanted, whether the operator doesn't take the kinds.
+pub(crate) fn is_made(
+    rt: &impl Abort,
+    alloc: Global,
+    found: &EvalResult,
+    wanted: &Option<Row>,
+) -> bool {
+    match (found, wanted) {
+        (Ok(found), Some(row)) => is_same(found, &value(rt, alloc, row)),
+        (Err(error), None) => *error == EvalError::WrongTypes,
+        _ => false,
+    }
+}
+
+#[test]
+fn values_are_combined(rt: HostRuntime) {
+    let alloc = rt.alloc();
+    for (op, a, b, wanted) in CASES.iter() {
+        let found = of_two(
+            &rt,
+            alloc,
+            *op,
+            &value(&rt, alloc, a),
+            &value(&rt, alloc, b),
+        );
+        assert!(rt; is_made(&rt, alloc, &found, wanted), "{op:?} {a:?} {b:?}");
+    }
 }
 
 // Which cells of a sheet are meant: those of the first region, those of the second, or those of what is made of both.
@@ -393,64 +351,56 @@ fn is_meant(cells: Cells, column: u64, row: u64) -> bool {
     }
 }
 
-// The region of the cells that are meant of a sheet with so many columns and rows, from 1 on.
-fn sheet(alloc: Global, cells: Cells, columns: u16, rows: u16) -> Result<RegionsValue, Fail> {
+// The same, for a sheet with so many columns and rows, from 1 on.
+fn is_drawn(cells: Cells, columns: u64, rows: u64, x: u64, y: u64) -> bool {
+    1 <= x && x <= columns && 1 <= y && y <= rows && is_meant(cells, x, y)
+}
+
+// The region of the cells that are meant.
+fn sheet(rt: &impl Abort, alloc: Global, cells: Cells, columns: u16, rows: u16) -> RegionsValue {
     let (columns, rows) = (u64::from(columns), u64::from(rows));
-    let has = |x: u64, y: u64| -> bool {
-        1 <= x && x <= columns && 1 <= y && y <= rows && is_meant(cells, x, y)
-    };
     let mut list = Vec::new(alloc);
     for x in 0..=columns {
         for y in 0..=rows {
             let (left, low) = (4 * x, 4 * y);
-            if has(x, y) != has(x + 1, y) {
-                list.push(segment(&[left + 4, low, left + 4, low + 4])?)?;
+            let is_in = is_drawn(cells, columns, rows, x, y);
+            if is_in != is_drawn(cells, columns, rows, x + 1, y) {
+                list.push(segment(rt, &[left + 4, low, left + 4, low + 4]))
+                    .expect(rt, "memory");
             }
-            if has(x, y) != has(x, y + 1) {
-                list.push(segment(&[left, low + 4, left + 4, low + 4])?)?;
+            if is_in != is_drawn(cells, columns, rows, x, y + 1) {
+                list.push(segment(rt, &[left, low + 4, left + 4, low + 4]))
+                    .expect(rt, "memory");
             }
         }
     }
-    region_of(list)
+    region(rt, list)
 }
 
-// What the operators make of two regions, by threads where they are large.
-fn all_made<R: Threads + Sync>(
-    rt: &R,
-    alloc: Global,
-    a: &Geometry,
-    b: &Geometry,
-) -> Result<Vec<Geometry>, Fail> {
-    let all = joined(alloc, &segments_in(alloc, a)?, &segments_in(alloc, b)?)?;
-    if !are_noded(&all) {
-        return Err(Fail::new("no realm"));
+// What the operators make of two regions, by threads where they are large, is drawn.
+fn compare_sheets<R: Threads + Sync + Abort>(rt: &R, alloc: Global, columns: u16, rows: u16) {
+    let a = Geometry::R(sheet(rt, alloc, Cells::First, columns, rows));
+    let b = Geometry::R(sheet(rt, alloc, Cells::Second, columns, rows));
+    let all = joined(rt, alloc, segments_in(&a), segments_in(&b));
+    assert!(rt; are_noded(&all), "no realm");
+    for op in OPS.iter() {
+        assert!(rt; *op != Op::Interior);
+        let found = evaluate(rt, alloc, *op, &a, Some(&b)).expect(rt, "two regions");
+        let wanted = sheet(rt, alloc, Cells::Made(*op), columns, rows);
+        assert!(rt;
+            segments_in(&found) == wanted.segments(),
+            "{op:?} on {columns} by {rows}"
+        );
     }
-    let mut made = Vec::new(alloc);
-    for op in [Op::Intersection, Op::Plus, Op::Minus] {
-        made.push(evaluate(rt, alloc, op, a, Some(b))?)?;
-    }
-    Ok(made)
 }
+
+static OPS: [Op; 3] = [Op::Intersection, Op::Plus, Op::Minus];
 
 // One thread is enough for the first sheet. The others are cut into strips, on whose edges upright segments stand and
 // others have ends; the last has all in one column.
 #[test]
-fn strips_make_what_is_drawn(rt: HostRuntime) -> Result<(), Fail> {
-    let alloc = rt.alloc();
-    for (columns, rows) in [(4, 5), (40, 60), (1, 1_400)] {
-        let a = Geometry::R(sheet(alloc, Cells::First, columns, rows)?);
-        let b = Geometry::R(sheet(alloc, Cells::Second, columns, rows)?);
-        let made = all_made(&rt, alloc, &a, &b)?;
-        let ops = [Op::Intersection, Op::Plus, Op::Minus];
-        for (op, found) in ops.iter().zip(&made) {
-            let wanted = sheet(alloc, Cells::Made(*op), columns, rows)?;
-            assert_eq!(rt;
-                segments_in(alloc, found)?.as_slice(),
-                wanted.segments(),
-                "{op:?} on {columns} by {rows}"
-            );
-        }
-        assert_eq!(rt; made.len(), ops.len());
-    }
-    Ok(())
+fn strips_make_what_is_drawn(rt: HostRuntime) {
+    compare_sheets(&rt, rt.alloc(), 4, 5);
+    compare_sheets(&rt, rt.alloc(), 40, 60);
+    compare_sheets(&rt, rt.alloc(), 1, 1_400);
 }

@@ -1,74 +1,48 @@
-//! What lines shut in: a square with a dead end.
-ghost use Rattle.std.specs.Prelude.{◌++◌, [], IfOk};
-ghost use Rattle.grid_base.specs.Border.{AreNoded};
-ghost use Rattle.rose_values.specs.Operators.{segments_of};
-
-use crate::paper::segments;
+//! What is made of one value: its vertices, its contour, and what its lines shut in, as a square with a dead end does.
+use crate::cases::combining::is_made;
+use crate::paper::{Row, joined, segments_in, value};
 use rose_operators::{operate, operate_alone};
-use rose_overlay::{EvalError, ascending_segments};
-use rose_values::{Geometry, LinesValue, Op};
+use rose_values::Op;
 use segment_lists::are_noded;
-use std::alloc::Global;
-use std::test::Fail;
 
-// The value of these lines, which are of a realm.
-fn line_value(alloc: Global, table: &[[u64; 4]]) -> Result<Geometry, Fail>
-    ensures { IfOk result (λ g. AreNoded (segments_of g ++ [])) }
-{
-    let list = ascending_segments(segments(alloc, table)?);
-    if !are_noded(&list) {
-        return Err(Fail::new("no realm"));
-    }
-    Ok(Geometry::L(LinesValue::new(list)))
-}
+const LINES: Row = Row::L(&[[0, 0, 0, 4], [0, 0, 4, 0], [0, 4, 4, 4], [4, 0, 4, 4]]);
 
-const SQUARE: [[u64; 4]; 4] = [[0, 0, 0, 4], [0, 0, 4, 0], [0, 4, 4, 4], [4, 0, 4, 4]];
+const SQUARE: Row = Row::R(&[[0, 0, 0, 4], [0, 0, 4, 0], [0, 4, 4, 4], [4, 0, 4, 4]]);
 
-const WITH_A_DEAD_END: [[u64; 4]; 5] = [
+const WITH_A_DEAD_END: Row = Row::L(&[
     [0, 0, 0, 4],
     [0, 0, 4, 0],
     [0, 4, 4, 4],
     [4, 0, 4, 4],
     [4, 4, 6, 6],
+]);
+
+// An operator, its value, and what it makes of it; none where it doesn't take the kind.
+static CASES: [(Op, Row, Option<Row>); 5] = [
+    (
+        Op::Vertices,
+        SQUARE,
+        Some(Row::P(&[[0, 0], [0, 4], [4, 0], [4, 4]])),
+    ),
+    (Op::Contour, SQUARE, Some(LINES)),
+    (Op::Contour, LINES, None),
+    (Op::Interior, WITH_A_DEAD_END, Some(SQUARE)),
+    (
+        Op::Vertices,
+        WITH_A_DEAD_END,
+        Some(Row::P(&[[0, 0], [0, 4], [4, 0], [4, 4], [6, 6]])),
+    ),
 ];
 
 #[test]
-fn a_square_is_shut_in(rt: HostRuntime) -> Result<(), Fail> {
+fn one_value_is_enough(rt: HostRuntime) {
     let alloc = rt.alloc();
-    let found = operate(
-        &rt,
-        alloc,
-        Op::Interior,
-        &line_value(alloc, &WITH_A_DEAD_END)?,
-        None,
-    )?;
-    let Geometry::R(region) = found else {
-        return Err(Fail::new("another kind"));
-    };
-    assert_eq!(rt; region.segments(), segments(alloc, &SQUARE)?.as_slice());
-    Ok(())
-}
-
-#[test]
-fn its_ends_are_five(rt: HostRuntime) -> Result<(), Fail> {
-    let alloc = rt.alloc();
-    let found = operate_alone(
-        alloc,
-        Op::Vertices,
-        &line_value(alloc, &WITH_A_DEAD_END)?,
-        None,
-    )?;
-    let Geometry::P(points) = found else {
-        return Err(Fail::new("another kind"));
-    };
-    assert_eq!(rt; points.points().len(), 5);
-    Ok(())
-}
-
-#[test]
-fn lines_have_no_contour(rt: HostRuntime) -> Result<(), Fail> {
-    let alloc = rt.alloc();
-    let found = operate_alone(alloc, Op::Contour, &line_value(alloc, &SQUARE)?, None);
-    assert_eq!(rt; found.err(), Some(EvalError::WrongTypes));
-    Ok(())
+    for (op, row, wanted) in CASES.iter() {
+        let of = value(&rt, alloc, row);
+        assert!(rt; are_noded(&joined(&rt, alloc, segments_in(&of), &[])));
+        let together = operate(&rt, alloc, *op, &of, None);
+        assert!(rt; is_made(&rt, alloc, &together, wanted), "{op:?} {row:?}");
+        let alone = operate_alone(alloc, *op, &of, None);
+        assert!(rt; is_made(&rt, alloc, &alone, wanted), "{op:?} {row:?} alone");
+    }
 }

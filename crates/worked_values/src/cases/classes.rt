@@ -3,198 +3,197 @@
 ghost use Rattle.std.specs.Prelude.{AllPairs};
 ghost use Rattle.grid_base.specs.Segment.{IsSegmentBefore};
 
-use crate::paper::{realm, segments};
+use crate::paper::{listed, realm, segments};
 use grid_base::Segment;
 use plane_cells::{interior, outer_sides, side_classes};
 use rose_values::LinesValue;
-use segment_lists::{are_noded, segments_with};
+use segment_lists::are_noded;
 use std::alloc::Global;
-use std::test::Fail;
+use std::process::Abort;
 
-// Whether the sides of the border, in order, have one number exactly where they are expected to, and 0 too.
-fn numbered_as(alloc: Global, border: &[Segment], expected: &[[u64; 2]]) -> Result<bool, Fail> {
-    if !are_noded(border) || border.len() != expected.len() {
-        return Ok(false);
-    }
-    let found = side_classes(alloc, border)?;
+/// A border, and the numbers of the classes on the left and on the right of each of its segments.
+type Numbered = (&'static [[u64; 4]], &'static [[u64; 2]]);
+
+// Whether the sides of the border have one number exactly where they are expected to, and 0 too.
+fn numbered_as(rt: &impl Abort, alloc: Global, border: &[Segment], expected: &[[u64; 2]]) -> bool {
+    assert!(rt; are_noded(border), "no realm");
+    let found = side_classes(alloc, border).expect(rt, "memory");
     let mut sides = Vec::new(alloc);
-    sides.push((0, 0))?;
+    sides.push((0, 0)).expect(rt, "memory");
     for (numbers, seen) in found.iter().zip(expected) {
-        sides.push((numbers.left, seen[0]))?;
-        sides.push((numbers.right, seen[1]))?;
+        sides.push((numbers.left, seen[0])).expect(rt, "memory");
+        sides.push((numbers.right, seen[1])).expect(rt, "memory");
     }
-    Ok(
-        sides
-            .iter()
-            .all(|a| sides.iter().all(|b| (a.0 == b.0) == (a.1 == b.1))),
-    )
+    border.len() == expected.len() && are_numbered(&sides)
 }
 
-fn is_numbered(alloc: Global, table: &[[u64; 4]], expected: &[[u64; 2]]) -> Result<bool, Fail> {
-    let border = segments(alloc, table)?;
-    numbered_as(alloc, &border, expected)
+// Whether the first numbers of two pairs are equal exactly where the second are.
+fn are_numbered(sides: &[(u64, u64)]) -> bool {
+    for a in sides {
+        for b in sides {
+            if (a.0 == b.0) != (a.1 == b.1) {
+                return false;
+            }
+        }
+    }
+    true
 }
+
+// An island and its ring are two classes, and so are squares that touch in a vertex; open lines leave one class.
+static NUMBERED: [Numbered; 4] = [
+    (
+        &[
+            [0, 0, 0, 9],
+            [0, 0, 9, 0],
+            [0, 9, 9, 9],
+            [3, 3, 3, 6],
+            [3, 3, 6, 3],
+            [3, 6, 6, 6],
+            [6, 3, 6, 6],
+            [9, 0, 9, 9],
+        ],
+        &[
+            [0, 1],
+            [1, 0],
+            [0, 1],
+            [1, 2],
+            [2, 1],
+            [1, 2],
+            [2, 1],
+            [1, 0],
+        ],
+    ),
+    (
+        &[
+            [0, 0, 0, 2],
+            [0, 0, 2, 0],
+            [0, 2, 2, 2],
+            [2, 0, 2, 2],
+            [2, 2, 2, 4],
+            [2, 2, 4, 2],
+            [2, 4, 4, 4],
+            [4, 2, 4, 4],
+        ],
+        &[
+            [0, 1],
+            [1, 0],
+            [0, 1],
+            [1, 0],
+            [0, 2],
+            [2, 0],
+            [0, 2],
+            [2, 0],
+        ],
+    ),
+    (
+        &[[0, 0, 3, 5], [3, 5, 8, 1], [3, 5, 3, 9]],
+        &[[0, 0], [0, 0], [0, 0]],
+    ),
+    (&[], &[]),
+];
 
 #[test]
-fn an_island_and_its_ring_are_two_classes(rt: HostRuntime) -> Result<(), Fail> {
-    let table = [
-        [0, 0, 0, 9],
-        [0, 0, 9, 0],
-        [0, 9, 9, 9],
-        [3, 3, 3, 6],
-        [3, 3, 6, 3],
-        [3, 6, 6, 6],
-        [6, 3, 6, 6],
-        [9, 0, 9, 9],
-    ];
-    let expected = [
-        [0, 1],
-        [1, 0],
-        [0, 1],
-        [1, 2],
-        [2, 1],
-        [1, 2],
-        [2, 1],
-        [1, 0],
-    ];
-    assert!(rt; is_numbered(rt.alloc(), &table, &expected)?);
-    Ok(())
+fn sides_have_their_classes(rt: HostRuntime) {
+    let alloc = rt.alloc();
+    for (table, expected) in NUMBERED.iter() {
+        let border = segments(&rt, alloc, table);
+        assert!(rt; numbered_as(&rt, alloc, &border, expected), "{table:?}");
+    }
 }
 
-#[test]
-fn squares_that_touch_in_a_vertex_are_two_classes(rt: HostRuntime) -> Result<(), Fail> {
-    let table = [
-        [0, 0, 0, 2],
-        [0, 0, 2, 0],
-        [0, 2, 2, 2],
-        [2, 0, 2, 2],
-        [2, 2, 2, 4],
-        [2, 2, 4, 2],
-        [2, 4, 4, 4],
-        [4, 2, 4, 4],
-    ];
-    let expected = [
-        [0, 1],
-        [1, 0],
-        [0, 1],
-        [1, 0],
-        [0, 2],
-        [2, 0],
-        [0, 2],
-        [2, 0],
-    ];
-    assert!(rt; is_numbered(rt.alloc(), &table, &expected)?);
-    Ok(())
-}
-
-#[test]
-fn open_lines_leave_one_class(rt: HostRuntime) -> Result<(), Fail> {
-    let table = [[0, 0, 3, 5], [3, 5, 8, 1], [3, 5, 3, 9]];
-    let expected = [[0, 0], [0, 0], [0, 0]];
-    assert!(rt; is_numbered(rt.alloc(), &table, &expected)?);
-    assert!(rt; is_numbered(rt.alloc(), &[], &[])?);
-    Ok(())
-}
-
-// Whether the sides of the segments of the list, in order, are outer as expected.
+// Whether the sides of the segments of the list are outer as expected.
 fn outer_as(
+    rt: &impl Abort,
     alloc: Global,
     border: &[Segment],
     list: &[Segment],
     expected: &[[bool; 2]],
-) -> Result<bool, Fail> {
+) -> bool {
     let mut together = Vec::new(alloc);
-    together.extend_from_slice(border)?;
-    together.extend_from_slice(list)?;
-    if !are_noded(&together) {
-        return Ok(false);
+    together.extend_from_slice(border).expect(rt, "memory");
+    together.extend_from_slice(list).expect(rt, "memory");
+    assert!(rt; are_noded(&together), "no realm");
+    let found = outer_sides(alloc, border, list).expect(rt, "memory");
+    for (sides, outer) in found.iter().zip(expected) {
+        if [sides.left, sides.right] != *outer {
+            return false;
+        }
     }
-    let found = outer_sides(alloc, border, list)?;
-    Ok(
-        found
-            .iter()
-            .zip(expected)
-            .all(|(s, e)| s.left == e[0] && s.right == e[1]),
-    )
+    list.len() == expected.len()
 }
 
-fn are_outer(
-    alloc: Global,
-    border: &[[u64; 4]],
-    list: &[[u64; 4]],
-    expected: &[[bool; 2]],
-) -> Result<bool, Fail> {
-    let border = segments(alloc, border)?;
-    let list = segments(alloc, list)?;
-    if list.len() != expected.len() {
-        return Ok(false);
-    }
-    outer_as(alloc, &border, &list, expected)
-}
+static SQUARE: [[u64; 4]; 4] = [[0, 0, 0, 9], [0, 0, 9, 0], [0, 9, 9, 9], [9, 0, 9, 9]];
+
+// Segments within, on and outside a square, in order.
+static LIST: [[u64; 4]; 5] = [
+    [0, 0, 0, 9],
+    [0, 0, 3, 4],
+    [2, 5, 2, 7],
+    [9, 0, 9, 9],
+    [9, 9, 12, 4],
+];
+
+static OUTER: [[bool; 2]; 5] = [
+    [true, false],
+    [false, false],
+    [false, false],
+    [false, true],
+    [true, true],
+];
 
 #[test]
-fn segments_within_on_and_outside_a_square(rt: HostRuntime) -> Result<(), Fail> {
-    let square = [[0, 0, 0, 9], [0, 0, 9, 0], [0, 9, 9, 9], [9, 0, 9, 9]];
-    let list = [
-        [0, 0, 0, 9],
-        [0, 0, 3, 4],
-        [2, 5, 2, 7],
-        [9, 0, 9, 9],
-        [9, 9, 12, 4],
-    ];
-    let expected = [
-        [true, false],
-        [false, false],
-        [false, false],
-        [false, true],
-        [true, true],
-    ];
-    assert!(rt; are_outer(rt.alloc(), &square, &list, &expected)?);
-    Ok(())
+fn segments_within_on_and_outside_a_square(rt: HostRuntime) {
+    let border = segments(&rt, rt.alloc(), &SQUARE);
+    let list = segments(&rt, rt.alloc(), &LIST);
+    assert!(rt; outer_as(&rt, rt.alloc(), &border, &list, &OUTER));
 }
 
-#[test]
-fn lists_in_any_order_are_answered_in_theirs(rt: HostRuntime) -> Result<(), Fail> {
-    let alloc = rt.alloc();
-    let table = [
+// The same square in another order, with a side twice, and its numbers.
+static UNSORTED: Numbered = (
+    &[
         [9, 0, 9, 9],
         [0, 0, 0, 9],
         [0, 9, 9, 9],
         [9, 0, 9, 9],
         [0, 0, 9, 0],
-    ];
-    let expected = [[1, 0], [0, 1], [0, 1], [1, 0], [1, 0]];
-    let border = segments_with(alloc, &table)?.ok_or("no segment")?;
-    assert!(rt; numbered_as(alloc, &border, &expected)?);
-    let asked = [[9, 9, 12, 4], [2, 5, 2, 7], [9, 9, 12, 4], [0, 0, 0, 9]];
-    let outer = [[true, true], [false, false], [true, true], [true, false]];
-    let list = segments_with(alloc, &asked)?.ok_or("no segment")?;
-    assert!(rt; outer_as(alloc, &border, &list, &outer)?);
-    Ok(())
+    ],
+    &[[1, 0], [0, 1], [0, 1], [1, 0], [1, 0]],
+);
+
+static ASKED: [[u64; 4]; 4] = [[9, 9, 12, 4], [2, 5, 2, 7], [9, 9, 12, 4], [0, 0, 0, 9]];
+
+static ANSWERS: [[bool; 2]; 4] = [[true, true], [false, false], [true, true], [true, false]];
+
+#[test]
+fn lists_in_any_order_are_answered_in_theirs(rt: HostRuntime) {
+    let alloc = rt.alloc();
+    let border = listed(&rt, alloc, UNSORTED.0);
+    assert!(rt; numbered_as(&rt, alloc, &border, UNSORTED.1));
+    let list = listed(&rt, alloc, &ASKED);
+    assert!(rt; outer_as(&rt, alloc, &border, &list, &ANSWERS));
 }
 
 // Whether the interior of the lines has just this border.
-fn shuts_in(alloc: Global, lines: &[[u64; 4]], border: &[[u64; 4]]) -> Result<bool, Fail> {
-    let expected = segments(alloc, border)?;
-    let found = interior(alloc, &LinesValue::new(realm(alloc, lines)?))?;
-    Ok(found.segments() == expected.as_slice())
+fn shuts_in(rt: &impl Abort, alloc: Global, lines: &[[u64; 4]], border: &[[u64; 4]]) -> bool {
+    let lines = LinesValue::new(realm(rt, alloc, lines));
+    let found = interior(alloc, &lines).expect(rt, "memory");
+    found.segments() == segments(rt, alloc, border).as_slice()
 }
 
+static LINES: [[u64; 4]; 9] = [
+    [0, 0, 0, 9],
+    [0, 0, 9, 0],
+    [0, 9, 9, 9],
+    [9, 0, 9, 9],
+    [9, 9, 12, 4],
+    [3, 3, 3, 6],
+    [3, 3, 6, 3],
+    [3, 6, 6, 3],
+    [0, 9, 3, 6],
+];
+
 #[test]
-fn the_interior_of_a_ring_has_what_it_shuts_in(rt: HostRuntime) -> Result<(), Fail> {
-    let lines = [
-        [0, 0, 0, 9],
-        [0, 0, 9, 0],
-        [0, 9, 9, 9],
-        [9, 0, 9, 9],
-        [9, 9, 12, 4],
-        [3, 3, 3, 6],
-        [3, 3, 6, 3],
-        [3, 6, 6, 3],
-        [0, 9, 3, 6],
-    ];
-    let border = [[0, 0, 0, 9], [0, 0, 9, 0], [0, 9, 9, 9], [9, 0, 9, 9]];
-    assert!(rt; shuts_in(rt.alloc(), &lines, &border)?);
-    assert!(rt; shuts_in(rt.alloc(), &[[0, 0, 5, 5]], &[])?);
-    Ok(())
+fn the_interior_of_a_ring_has_what_it_shuts_in(rt: HostRuntime) {
+    assert!(rt; shuts_in(&rt, rt.alloc(), &LINES, &SQUARE));
+    assert!(rt; shuts_in(&rt, rt.alloc(), &[[0, 0, 5, 5]], &[]));
 }

@@ -3,7 +3,6 @@ ghost use Rattle.std.specs.Prelude.{◌≡◌, false};
 ghost use Rattle.outside_world.specs.Memory.{has_failed};
 
 use outside_world::{Failed, FileName, Leave, MemoryWorld, Outside, SteadyWorld};
-use std::test::Fail;
 
 /// A call, and what it must answer: the bytes that it took, or how many it gave. None stands for a
 /// fault, which ends the session.
@@ -48,20 +47,25 @@ static SESSIONS: [Session; 3] = [
 ];
 
 #[test]
-fn calls_move_bytes_and_fail_by_their_numbers(rt: HostRuntime) -> Result<(), Fail> {
+fn calls_move_bytes_and_fail_by_their_numbers(rt: HostRuntime) {
     let alloc = rt.alloc();
     for (failing, steps, given) in SESSIONS.iter() {
-        let input = b"abcdef".to_vec(alloc)?;
-        let failing = failing.to_vec(alloc)?;
-        let mut world = MemoryWorld::new(alloc, input, Vec::new(alloc), Vec::new(alloc), failing)?;
+        let input = b"abcdef".to_vec(alloc).expect(&rt, "memory");
+        let numbers = failing.to_vec(alloc).expect(&rt, "memory");
+        let mut world = MemoryWorld::new(
+            alloc,
+            input,
+            Vec::new(alloc),
+            Vec::new(alloc),
+            numbers,
+        ).expect(&rt, "no fault");
         for (place, step) in steps.iter().enumerate() {
             assert!(rt; !world.has_failed(), "before place {place}");
             assert!(rt; answers(&mut world, step), "at place {place}");
         }
-        assert_eq!(rt; world.given(), *given);
-        assert_eq!(rt; world.calls(), steps.len() as u64);
+        assert!(rt; world.given() == *given, "{failing:?}");
+        assert!(rt; world.calls() == steps.len() as u64, "{failing:?}");
     }
-    Ok(())
 }
 
 // Whether the call answers what it must.
@@ -82,9 +86,9 @@ fn answers(world: &mut MemoryWorld, step: &Step) -> bool
 }
 
 #[test]
-fn a_take_and_a_give_move_a_piece(rt: HostRuntime) -> Result<(), Fail> {
+fn a_take_and_a_give_move_a_piece(rt: HostRuntime) {
     let alloc = rt.alloc();
-    let input = b"abc".to_vec(alloc)?;
+    let input = b"abc".to_vec(alloc).expect(&rt, "memory");
     let failing = Vec::new(alloc);
     let mut world = MemoryWorld::in_pieces(
         alloc,
@@ -93,19 +97,18 @@ fn a_take_and_a_give_move_a_piece(rt: HostRuntime) -> Result<(), Fail> {
         Vec::new(alloc),
         failing,
         2,
-    )?;
+    ).expect(&rt, "no fault");
     let mut buf = [0; 4];
-    assert_eq!(rt; world.take(&mut buf)?, 2);
-    assert_eq!(rt; &buf[..2], b"ab".as_slice());
-    assert_eq!(rt; world.take(&mut buf)?, 1);
-    assert_eq!(rt; world.take(&mut buf)?, 0);
-    assert_eq!(rt; world.give(b"xyz")?, 2);
-    assert_eq!(rt; world.given(), b"xy".as_slice());
-    Ok(())
+    assert!(rt; world.take(&mut buf).expect(&rt, "no fault") == 2);
+    assert!(rt; &buf[..2] == b"ab".as_slice());
+    assert!(rt; world.take(&mut buf).expect(&rt, "no fault") == 1);
+    assert!(rt; world.take(&mut buf).expect(&rt, "no fault") == 0);
+    assert!(rt; world.give(b"xyz").expect(&rt, "no fault") == 2);
+    assert!(rt; world.given() == b"xy".as_slice());
 }
 
 #[test]
-fn a_file_reads_as_it_was_written(rt: HostRuntime) -> Result<(), Fail> {
+fn a_file_reads_as_it_was_written(rt: HostRuntime) {
     let alloc = rt.alloc();
     let failing = Vec::new(alloc);
     let mut world = MemoryWorld::new(
@@ -114,15 +117,21 @@ fn a_file_reads_as_it_was_written(rt: HostRuntime) -> Result<(), Fail> {
         Vec::new(alloc),
         Vec::new(alloc),
         failing,
-    )?;
-    world.write_at(FileName::A, 0, b"abcd")?;
-    world.write_at(FileName::A, 0, b"xy")?;
-    assert_eq!(rt; world.size(FileName::B)?, 0);
-    assert_eq!(rt; world.size(FileName::A)?, 4);
+    )
+    .expect(&rt, "no fault");
+    world
+        .write_at(FileName::A, 0, b"abcd")
+        .expect(&rt, "no fault");
+    world
+        .write_at(FileName::A, 0, b"xy")
+        .expect(&rt, "no fault");
+    assert!(rt; world.size(FileName::B).expect(&rt, "no fault") == 0);
+    assert!(rt; world.size(FileName::A).expect(&rt, "no fault") == 4);
     let mut buf = [0; 8];
-    let size = world.read_at(FileName::A, 1, &mut buf)?;
-    assert_eq!(rt; &buf[..size], b"ycd".as_slice());
-    Ok(())
+    let size = world
+        .read_at(FileName::A, 1, &mut buf)
+        .expect(&rt, "no fault");
+    assert!(rt; &buf[..size] == b"ycd".as_slice());
 }
 
 /// A call on file A: a write over its front, or a sync.
@@ -190,14 +199,18 @@ static CRASHES: [Crashes; 3] = [
 ];
 
 #[test]
-fn a_crash_leaves_what_was_synced_and_any_bytes_of_what_was_written(
-    rt: HostRuntime,
-) -> Result<(), Fail> {
+fn a_crash_leaves_what_was_synced_and_any_bytes_of_what_was_written(rt: HostRuntime) {
     let alloc = rt.alloc();
     for (changes, failing, left) in CRASHES.iter() {
-        let failing = failing.to_vec(alloc)?;
-        let b = b"other".to_vec(alloc)?;
-        let mut world = MemoryWorld::new(alloc, Vec::new(alloc), Vec::new(alloc), b, failing)?;
+        let failing = failing.to_vec(alloc).expect(&rt, "memory");
+        let b = b"other".to_vec(alloc).expect(&rt, "memory");
+        let mut world = MemoryWorld::new(
+            alloc,
+            Vec::new(alloc),
+            Vec::new(alloc),
+            b,
+            failing,
+        ).expect(&rt, "no fault");
         for change in changes.iter() {
             assert!(rt; !world.has_failed());
             let _ = match *change {
@@ -207,38 +220,37 @@ fn a_crash_leaves_what_was_synced_and_any_bytes_of_what_was_written(
         }
         for (moment, leave, wanted) in left.iter() {
             assert!(rt; *moment <= world.calls());
-            let (a, b) = world.images(*moment, *leave)?;
-            assert_eq!(rt; a.as_slice(), *wanted, "at moment {moment}, {leave:?}");
-            assert_eq!(rt;
-                b.as_slice(),
-                b"other".as_slice(),
+            let (a, b) = world.images(*moment, *leave).expect(&rt, "no fault");
+            assert!(rt; a.as_slice() == *wanted, "at moment {moment}, {leave:?}");
+            assert!(rt;
+                b.as_slice() == b"other".as_slice(),
                 "at moment {moment}, {leave:?}"
             );
         }
     }
-    Ok(())
 }
 
 #[test]
-fn a_steady_world_tells_as_long_as_all_fits(rt: HostRuntime) -> Result<(), Fail> {
+fn a_steady_world_tells_as_long_as_all_fits(rt: HostRuntime) {
     let alloc = rt.alloc();
-    let input = b"ab".to_vec(alloc)?;
-    let mut world = SteadyWorld::new(alloc, input, Vec::new(alloc), Vec::new(alloc))?;
+    let input = b"ab".to_vec(alloc).expect(&rt, "memory");
+    let mut world = SteadyWorld::new(alloc, input, Vec::new(alloc), Vec::new(alloc)).expect(
+        &rt, "no fault",
+    );
     let mut buf = [0; 8];
-    assert_eq!(rt; world.take(&mut buf), Ok(2));
-    assert_eq!(rt; world.give(b"xyz"), Ok(3));
-    assert_eq!(rt; world.write_at(FileName::B, 0, b"file"), Ok(()));
-    assert_eq!(rt; world.sync(FileName::B), Ok(()));
-    assert_eq!(rt; world.size(FileName::B), Ok(4));
-    assert_eq!(rt; world.read_at(FileName::B, 2, &mut buf), Ok(2));
-    assert_eq!(rt; &buf[..2], b"le".as_slice());
-    assert_eq!(rt; world.given(), b"xyz".as_slice());
+    assert!(rt; world.take(&mut buf) == Ok(2));
+    assert!(rt; world.give(b"xyz") == Ok(3));
+    assert!(rt; world.write_at(FileName::B, 0, b"file") == Ok(()));
+    assert!(rt; world.sync(FileName::B) == Ok(()));
+    assert!(rt; world.size(FileName::B) == Ok(4));
+    assert!(rt; world.read_at(FileName::B, 2, &mut buf) == Ok(2));
+    assert!(rt; &buf[..2] == b"le".as_slice());
+    assert!(rt; world.given() == b"xyz".as_slice());
     assert!(rt; world.fits());
     let mib = [0u8; 65_536];
     for _ in 0..17 {
-        assert_eq!(rt; world.give(&mib), Ok(65_536));
+        assert!(rt; world.give(&mib) == Ok(65_536));
     }
     assert!(rt; !world.fits());
-    assert_eq!(rt; world.take(&mut buf), Ok(0));
-    Ok(())
+    assert!(rt; world.take(&mut buf) == Ok(0));
 }

@@ -11,7 +11,7 @@ returns g c =
     let steps = c.steps.result.now in
     let told = c.replay.ensures in
     elim c.match-replay.branch [
-      | in-Ok w ↦ rw w.result-is (remade_by c.requires.of_line engine steps c.requires.number c.steps.ensures.steps
+      | in-Ok w ↦ rw w.result-is (remade_by c.requires.of_line engine steps c.steps.ensures.steps
           (λ spent. ⊎_elim (λ no. cc) (λ no. let e = no.1 in cc) (told.spent.0 spent)) w.in-Ok.ensures.next.0)
       | in-Err-Refused w ↦ rw w.result-is (remade_refused c.requires.of_line engine _
           (told.refused _ (w.in-Err-Refused.is ∙ ap (λ (e : ReplayError). Err e) w.in-Err-Refused.field-0-is)).0)

@@ -18,7 +18,7 @@ returns-in-Ok-clause-told g c = λ tells.
     let started = c.in-Ok.ensures.told then in
     let outside = g.met.W.Outside in
     inr (begun_by (λ t m early may. outside.counts_now _ t m first early may) (λ m left. outside.only_now _ m first left)
-    (λ a asked. outside.none_asked _ a first asked) started.asks c.in-Ok.ensures.ready
+    (λ a asked. outside.none_asked _ a first asked) started.asks c.in-Ok.ensures.ready c.in-Ok.ensures.no_group
     (started.opened (λ is. cc)) started.stands.0 started.stands.1 (c.serve_gated.ensures.told tells))
 
 -- where no count rises from the call on, none rises from the start on

@@ -1,9 +1,10 @@
-use Rattle.std.proofs.Common.{inl, inr, subst, ap, Err}
+use Rattle.std.proofs.Common.{inl, inr, subst, ap, ◌∙◌, Err}
 use Rattle.realm_insert.specs.State.{State}
 use Rattle.state_counts.specs.Counts.{TellsCounts}
 use Rattle.realm_store.proofs.OneReading.{one_reading}
 use Rattle.rose_shell.proofs.Rises.{rose_behind, unstarted}
 use Rattle.realm_files.proofs.Rests.{stable_then}
+use Rattle.rose_shell.proofs.Stores.{present_alone}
 use Rattle.rose_shell.proofs.Syncs.{stable_by}
 use Rattle.rose_shell.proofs.Tellings.{lines_behind}
 use Rattle.rose_shell.proofs.Unstarted.{damaged_at_start, not_begun}
@@ -21,7 +22,8 @@ returns-in-Ok-count_state-clause-told g c = λ tells.
       kept.state,
       c.in-Ok-count_state.lines,
       (kept.place, started.stands.0.stands),
-      subst (λ (s : State). TellsCounts s c.in-Ok-count_state.lines) c.state.ensures.state c.in-Ok-count_state.ensures,
+      subst (λ (s : State). TellsCounts s c.in-Ok-count_state.lines)
+          (c.state.ensures.state ∙ present_alone c.in-Ok.store c.in-Ok.ensures.no_group) c.in-Ok-count_state.ensures,
       lines_behind started.asks gave,
       stable_then gave.some.files (stable_by (λ t m early may. outside.counts_now _ t m then early may)
           (λ f. outside.reads_an_image _ f then) started.asks.files (started.opened (λ is. cc))),

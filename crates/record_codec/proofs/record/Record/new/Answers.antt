@@ -1,16 +1,15 @@
 use Rattle.std.proofs.Common.{arith}
-use Rattle.record_codec.proofs.TraceLemmas.{body_fits}
+use Rattle.record_codec.specs.Spelling.{body}
+use Rattle.record_codec.proofs.EntryLemmas.{are_entries, text_fits}
 use Rattle.record_codec.proofs.record.Record.new.Goals as goal
 
--- each trace has a text, and fits
+-- each entry has a text, and all of them fit
 pub returns-clause-is_record : goal.returns-clause-is_record
-returns-clause-is_record c =
-    let fits = c.steps.ensures.fits in
-    record {
-      from_one = c.requires.from_one;
-      number = omega arith;
-      change = c.requires.change;
-      line = c.requires.short;
-      steps = (omega (arith, fits.few), fits.each);
-      length_fits = body_fits _ c.requires.short fits.few;
-    }
+unfolding body
+returns-clause-is_record c = record {
+  from_one = c.requires.from_one;
+  number = omega arith;
+  some = c.requires.some;
+  entries = are_entries _ c.entries.ensures.fits c.requires.changes;
+  length_fits = text_fits _ _ c.entries.ensures.fits;
+}

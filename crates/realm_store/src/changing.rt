@@ -1,0 +1,158 @@
+//! What the calls of a store are made of: a change outside a group and in one, and the writing of a record.
+ghost use Rattle.std.specs.Prelude.{◌≡◌, ◌↔◌, ◌≤◌, ◌<◌, ◌^◌, None, true, false, length, Err, IfOk, OnOk, OnErr, IsErr, IsErrOf};
+ghost use Rattle.outside_world.specs.Counts.{Rose};
+ghost use Rattle.outside_world.specs.GoesOn.{GoesOn};
+ghost use Rattle.line_grammar.specs.Spelling.{change_text};
+ghost use Rattle.line_grammar.specs.Spellable.{IsSpellableChange};
+ghost use Rattle.record_codec.specs.Fitting.{IsRecord};
+ghost use Rattle.realm_insert.specs.Refusals.{IsRefusedBy};
+ghost use Rattle.realm_insert.specs.declared.refusal.Refusal.{Refusal as Word};
+ghost use Rattle.realm_insert.specs.State.{State};
+ghost use Rattle.realm_store.specs.Leading.{Leads};
+ghost use Rattle.realm_store.specs.Keeping.{AllRest, with_state, present, HasGroup, without_group};
+ghost use Rattle.realm_store.specs.Making.{next_gate, kept_behind, IsFull, IsRefusedFor, Commits};
+ghost use Rattle.realm_store.specs.NextGates.{IsGateFor};
+ghost use Rattle.realm_store.specs.ReadyChanges.{IsReady};
+ghost use Rattle.realm_store.specs.Committing.{Keeps};
+
+use crate::committing::{NextGate, Ready, make_change, make_ready, place_or_first};
+use crate::error::CommitError;
+use crate::grouping::join_group;
+use crate::store::Store;
+use crate::writing::ready_gate;
+use grid_base::{NoMemory, Reply};
+use line_grammar::Change;
+use outside_world::Outside;
+use realm_files::Place;
+use realm_insert::{ChangeError, Refusal};
+use realm_journal::{JournalError, Prepared, append};
+use std::thread::Threads;
+
+impl Store {
+    /// Why a change isn't made, where its record would stand too far.
+    pub(crate) fn refuse_full<R: Threads + Sync>(&mut self, rt: &R, c: &Change) -> CommitError
+        requires ready { self.old.spent ≡ false }
+        requires spellable { IsSpellableChange c.now }
+        requires full { IsFull self.old.kept }
+        ensures refused { (word : Word) → result ≡ CommitError.Refused word
+            → IsRefusedFor c.now (present self.old) self.old.kept word × (self.new ≡ self.old) }
+        ensures not_disk { result ≡ CommitError.Disk → ⊥ }
+        ensures spent { (self.new.spent ≡ true) ↔ (result ≡ CommitError.NoMemory) }
+    {
+        match self.engine.refusal(rt, c) {
+            Ok(Some(word)) => CommitError::Refused(word),
+            Ok(None) => CommitError::Refused(Refusal::Full),
+            Err(NoMemory) => {
+                self.spent = true;
+                CommitError::NoMemory
+            }
+        }
+    }
+
+    /// Makes a change that joins the open group. Nothing is written.
+    pub(crate) fn join<R: Threads + Sync>(
+        &mut self,
+        rt: &R,
+        c: &Change,
+        line: &[u8],
+    ) -> Result<Reply, CommitError>
+        requires ready { self.old.spent ≡ false }
+        requires spellable { IsSpellableChange c.now }
+        requires short { length (change_text c.now) ≤ 2 ^ 20 }
+        requires says { line.now ≡ change_text c.now }
+        requires in_group { HasGroup self.old }
+        requires room { next_gate self.old.kept < 2 ^ 61 }
+        ensures made { IfOk result (λ reply. Commits c.now self.old reply self.new) }
+        ensures kept { OnOk result (self.new.kept ≡ self.old.kept) }
+        ensures refused { (word : Word) → result ≡ Err (CommitError.Refused word)
+            → IsRefusedBy c.now (present self.old) word × (self.new ≡ self.old) }
+        ensures not_disk { IsErrOf result CommitError.Disk → ⊥ }
+        ensures spent { (self.new.spent ≡ true) ↔ (result ≡ Err CommitError.NoMemory) }
+    {
+        self.spent = true;
+        match make_change(rt, self.alloc, &mut self.engine, c, line) {
+            Ok(made) => {
+                join_group(&mut self.group, made.entry)?;
+                self.spent = false;
+                Ok(made.reply)
+            }
+            Err(ChangeError::Refused(word)) => {
+                self.spent = false;
+                Err(CommitError::Refused(word))
+            }
+            Err(ChangeError::NoMemory) => Err(CommitError::NoMemory),
+        }
+    }
+
+    /// Makes a change outside a group, and takes all the memory that its writing needs. Nothing is written.
+    pub(crate) fn make<R: Threads + Sync>(
+        &mut self,
+        rt: &R,
+        c: &Change,
+        line: &[u8],
+    ) -> Result<Ready, CommitError>
+        requires ready { self.old.spent ≡ false }
+        requires spellable { IsSpellableChange c.now }
+        requires short { length (change_text c.now) ≤ 2 ^ 20 }
+        requires says { line.now ≡ change_text c.now }
+        requires alone { self.old.group ≡ None }
+        ensures made { IfOk result (λ ready. IsReady c.now self.old.kept self.new.kept ready) }
+        ensures alone { OnOk result (self.new.group ≡ None) }
+        ensures refused { (word : Word) → result ≡ Err (CommitError.Refused word)
+            → IsRefusedBy c.now self.old.kept.state word × (self.new ≡ self.old) }
+        ensures not_disk { IsErrOf result CommitError.Disk → ⊥ }
+        ensures spent { (self.new.spent ≡ true) ↔ (result ≡ Err CommitError.NoMemory) }
+    {
+        self.spent = true;
+        match make_change(rt, self.alloc, &mut self.engine, c, line) {
+            Ok(made) => {
+                let number = self.engine.changes();
+                let ready = make_ready(self.alloc, self.place, self.has_gate, number, made)?;
+                self.spent = false;
+                Ok(ready)
+            }
+            Err(ChangeError::Refused(word)) => {
+                self.spent = false;
+                Err(CommitError::Refused(word))
+            }
+            Err(ChangeError::NoMemory) => Err(CommitError::NoMemory),
+        }
+    }
+
+    /// Writes a record of what the engine has made, behind its gate. No memory is taken.
+    pub(crate) fn write_ready<W: Outside>(
+        &mut self,
+        world: &mut W,
+        gate: &NextGate,
+        record: &Prepared,
+    ) -> Result<(), JournalError>
+        requires intact { W.failed world.old ≡ false }
+        requires ready { self.old.spent ≡ false }
+        requires alone { self.old.group ≡ None }
+        requires gate { IsGateFor gate.now self.old.kept.place self.old.kept.has_gate }
+        requires is_record { IsRecord «record».now }
+        requires room { next_gate self.old.kept < 2 ^ 61 }
+        requires rest { (before : State)
+            × (W.tells world.old → AllRest (with_state before self.old.kept) (W.view world.old)) }
+        ensures kept { OnOk result (self.new
+            ≡ without_group (kept_behind self.old.kept «record».now self.old.kept.state)) }
+        ensures spent { (self.new.spent ≡ true) ↔ IsErr result }
+        ensures told { W.tells world.new → (before : State)
+            → AllRest (with_state before self.old.kept) (W.view world.old)
+            → Leads before «record».now self.old.kept.state
+            → Keeps (W.view world.old) (W.view world.new) (with_state before self.old.kept)
+            (kept_behind self.old.kept «record».now self.old.kept.state) result }
+        ensures intact { OnOk result (W.failed world.new ≡ false) }
+        ensures disk_fault { OnErr result (Rose (W.disk_faults world.old) (W.disk_faults world.new)) }
+        ensures goes_on { GoesOn ⟦<W as Outside>⟧ world.old world.new }
+    {
+        self.spent = true;
+        ready_gate(world, gate)?;
+        let place = place_or_first(self.place);
+        let next = append(world, place.file, place.next, record)?;
+        self.place = Some(Place { next, ..place });
+        self.has_gate = true;
+        self.spent = false;
+        Ok(())
+    }
+}
