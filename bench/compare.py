@@ -184,16 +184,22 @@ def says(predicate, a, b):
 
 
 def parts(items, joined):
-    """How many connected parts the items have."""
-    left, number = set(items), 0
+    """The connected parts of the items, each sorted, by their least items."""
+    left, all_parts = set(items), []
     while left:
-        number, reached = number + 1, [left.pop()]
+        reached, part = [left.pop()], []
         while reached:
             one = reached.pop()
+            part.append(one)
             found = {other for other in left if joined(one, other)}
             left -= found
             reached += found
-    return number
+        all_parts.append(sorted(part))
+    return sorted(all_parts)
+
+
+def meet(s, t):
+    return bool(set(s) & set(t))
 
 
 def counted(number, a):
@@ -205,7 +211,7 @@ def counted(number, a):
     if a.kind == "P":
         return len(a.content)
     if a.kind == "L":
-        return parts(a.content, lambda s, t: set(s) & set(t))
+        return len(parts(a.content, meet))
     return len({a.root(a.cell[i]) for i in range(len(a.on)) if a.interior(i)})
 
 
@@ -265,7 +271,7 @@ def cycle(plane, segments, has):
 
 
 def faces(plane, a):
-    """Each face of the region: its outer cycle, its holes, and how many other faces lie within these."""
+    """Each face of the region: its outer cycle, its holes, how many other faces lie within these, and the segments at it."""
     interior = {i: a.root(a.cell[i]) for i in range(len(a.on)) if a.interior(i)}
     found = []
     for face in set(interior.values()):
@@ -278,22 +284,22 @@ def faces(plane, a):
         borders = {c: cycle(plane, [s for s, (i,) in rim.items() if classes[i] == c], own.__contains__) for c in set(classes.values())}
         outer = borders.pop(without.outer)
         shut = {root for i, root in interior.items() if i not in own and classes[i] != without.outer}
-        found.append((outer, sorted(borders.values()), len(shut)))
+        found.append((outer, sorted(borders.values()), len(shut), sorted(rim)))
     return sorted(found)
 
 
 def lines_of(found):
     """The reply to `faces`."""
     rows = [f"faces {len(found)}"]
-    for outer, holes, _ in found:
+    for outer, holes, *_ in found:
         rows += [f"{word} {text([it])}" for word, it in [("outer", outer)] + [("hole", hole) for hole in holes]]
     return rows
 
 
 def shapes(found):
     """What the faces of one region show, to be counted."""
-    cycles = [it for outer, holes, _ in found for it in [outer] + holes]
-    several = [holes for _, holes, _ in found if len(holes) > 1]
+    cycles = [it for outer, holes, *_ in found for it in [outer] + holes]
+    several = [holes for _, holes, *_ in found if len(holes) > 1]
     corners = [(p, q, r) for it in cycles for p, q, r in zip(it, it[1:] + it[:1], it[2:] + it[:2])]
     straight = [(q[0] - p[0]) * (r[1] - q[1]) == (q[1] - p[1]) * (r[0] - q[0]) for p, q, r in corners]
     cycles_at = collections.Counter(q for _, q, _ in corners)
@@ -410,6 +416,62 @@ def definition(name, kind, content):
     return f"{WORDS[kind]} {name} {text(listed)}".rstrip()
 
 
+# ---- many values at once
+def summed(plane, some):
+    """The kind and the content of the sum, or None where the values are of more than one kind."""
+    if len({a.kind for a in some}) > 1:
+        return None
+    if some[0].kind != "R":
+        return some[0].kind, set().union(*(a.content for a in some))
+    return "R", border_of(plane, lambda i: any(a.odd[i] for a in some))
+
+
+def decomposed(plane, a):
+    """The contents of the parts of the value."""
+    if a.kind == "R":
+        return [rim for *_, rim in faces(plane, a)]
+    return [[p] for p in sorted(a.content)] if a.kind == "P" else parts(a.content, meet)
+
+
+def overlaid(plane, some, others):
+    """The pairs with a border, by their positions from 1, or None where a value is no region."""
+    if {a.kind for a in some + others} != {"R"}:
+        return None
+    made_of = {(i, j): made(plane, "intersection", a, b)[1] for i, a in enumerate(some, 1) for j, b in enumerate(others, 1)}
+    return [(f"pair {i} {j}", ("R", sorted(content))) for (i, j), content in sorted(made_of.items()) if content]
+
+
+def fused(plane, some, keys):
+    """The groups by their keys, or None where the values are of more than one kind."""
+    if summed(plane, some) is None:
+        return None
+    groups = {key: summed(plane, [a for a, own in zip(some, keys) if own == key]) for key in keys}
+    return [(f"key {key}", (kind, sorted(content))) for key, (kind, content) in sorted(groups.items())]
+
+
+def set_questions(names, values, plane):
+    """Questions about lists of values: most of one kind, and some of several."""
+    draw = random.Random(len(values) + sum(len(a.content) for a in values))
+    at = dict(zip(names, values))
+
+    def some_names():
+        like = draw.choice(names)
+        fit = [name for name in names if at[name].kind == at[like].kind or draw.random() < 0.03]
+        return [draw.choice(fit) for _ in range(draw.randint(1, 4))]
+
+    for name, a in at.items():
+        yield f"decompose {name}", [(None, (a.kind, part)) for part in decomposed(plane, a)]
+    for _ in names:
+        one, other = some_names(), some_names()
+        keys = [draw.randint(1, 3) for _ in one]
+        yield f"sum {' '.join(one)}", summed(plane, [at[name] for name in one])
+        yield (f"fusion {' '.join(f'{name} {key}' for name, key in zip(one, keys))}",
+               fused(plane, [at[name] for name in one], keys))
+        regions = [name for name in names if at[name].kind == "R"] or names
+        one, other = ([draw.choice(regions + names[:1]) for _ in it] for it in (one, other))
+        yield f"overlay {' '.join(one)} ; {' '.join(other)}", overlaid(plane, *([at[name] for name in it] for it in (one, other)))
+
+
 # ---- the program
 class Asked:
     """The lines of one run and the replies to them."""
@@ -435,6 +497,9 @@ class Asked:
             while rest and rest[0].split(" ")[0] in ("outer", "hole"):
                 rows.append(rest.popleft())
             return rows
+        if head[0] == "set":
+            return [(rest.popleft() if rest[0].split(" ")[0] in ("pair", "key") else None, Asked.reply(rest))
+                    for _ in range(int(head[1]))]
         if head[0] not in KINDS:
             return " ".join(head)
         rows = [tuple(map(int, rest.popleft().split(" "))) for _ in range(int(head[1]))]
@@ -468,6 +533,8 @@ def wanted(line, answer):
         return "no types"
     if word == "faces":
         return lines_of(answer)
+    if word in ("decompose", "overlay", "fusion"):
+        return answer
     if word == "num":
         return "num none" if answer is None else f"num {answer}"
     return str(answer).lower() if word == "ask" else (answer[0], sorted(answer[1]))
@@ -478,6 +545,10 @@ def heading(line, values, reply):
     words = line.split(" ")
     if reply == "no types":
         return "refused for their kinds", "all"
+    if words[0] in ("sum", "decompose", "overlay", "fusion"):
+        entries = reply[1] if words[0] == "sum" else reply
+        kind = WORDS[values[int(words[1][1:])].kind]
+        return f"{words[0]} {kind}", ["empty", "one", "several"][min(2, len(entries))]
     first = 1 if words[0] == "faces" else 2
     key = " ".join(words[:first] + [WORDS[values[int(name[1:])].kind] for name in words[first:]])
     if words[0] == "faces":
@@ -503,7 +574,7 @@ def compare(program, draw, drawing):
                 raise SystemExit(f"{told.lines}: shows {rows}, and {expect} was drawn")
     plane = Plane([p for kind, rows in shown if kind == "P" for p in rows], {s for kind, rows in shown if kind != "P" for s in rows})
     values = [Value(kind, plane, rows) for kind, rows in shown]
-    asked = list(questions(names, values, plane))
+    asked = list(questions(names, values, plane)) + list(set_questions(names, values, plane))
     again = Asked()
     for line in told.lines[:len(names)] + [line for line, _ in asked]:
         again.ask(line)

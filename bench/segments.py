@@ -150,4 +150,5 @@ def main():
                     before = measure(name, file, before, chosen)
 
 
-main()
+if __name__ == "__main__":
+    main()

@@ -133,7 +133,7 @@ page TUTORIAL 1
 page REFERENCE 0
 grep -E '^(regions|lines|points) ' "$here/values.txt" > "$work/lines"
 grep '^ok ' "$here/values.out" > "$work/reply"
-rows VALUES '^(eval|ask|num|faces) '
+rows VALUES '^(eval|ask|num|faces|sum|decompose|overlay|fusion) '
 asked VALUES
 : > "$work/lines" > "$work/reply"
 rows formats/LINES .

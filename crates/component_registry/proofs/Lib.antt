@@ -14,3 +14,5 @@ pub mod Changes
 pub mod OwnerLists
 -- one change of the counts
 pub mod EndCounts
+-- clones of what is kept
+pub mod Copies

@@ -7,7 +7,7 @@ ghost use Rattle.component_registry.specs.Registry.{holding_of};
 
 use grid_base::NoMemory;
 use smallvec::SmallVec;
-use std::alloc::Global;
+use std::alloc::{AllocError, Global};
 use std::marker::Model;
 
 // The key of a piece, and its owners, ascending. A few of them take no memory of their own.
@@ -28,6 +28,20 @@ impl Model for Holding {
     ghost view = { λ h. record { key = h.key; owners = h.owners.items } };
 
     ghost invariant = { λ h. IsStrictlyIncreasing h.owners.items };
+}
+
+// A clone is the same key with the same owners.
+impl Clone for Holding {
+    ghost use Rattle.std.specs.Prelude.{◌≡◌};
+
+    ghost is_clone = { λ held copy. copy ≡ held };
+
+    fn clone(&self) -> Result<Holding, AllocError> {
+        Ok(Holding {
+            key: self.key,
+            owners: self.owners.clone()?,
+        })
+    }
 }
 
 impl Holding {

@@ -49,6 +49,17 @@ impl Holdings {
         }
     }
 
+    // The same pieces with the same keys and owners. The slab gives out the same keys next.
+    pub(crate) fn copied(&self) -> Result<Holdings, NoMemory>
+        ensures same { IfOk result (λ copy. copy ≡ self.now) }
+    {
+        Ok(Holdings {
+            pieces: self.pieces.clone()?,
+            keys: self.keys.clone()?,
+            alloc: self.alloc,
+        })
+    }
+
     // The key of `piece`.
     pub(crate) fn key(&self, piece: &Segment) -> Option<usize>
         ensures key { result ≡ key_of self.now piece.now }

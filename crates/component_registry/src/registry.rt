@@ -55,6 +55,19 @@ impl Registry {
         }
     }
 
+    /// The same registry once more: the same pieces, under the same keys and with the same owners. Takes as
+    /// much memory as this one, and time linear in it. Fails only for want of memory.
+    pub fn copied(&self) -> Result<Registry, NoMemory>
+        ensures same { IfOk result (λ copy. copy ≡ self.now) }
+    {
+        Ok(Registry {
+            holdings: self.holdings.copied()?,
+            ends: self.ends.clone()?,
+            added: self.added,
+            alloc: self.alloc,
+        })
+    }
+
     /// Makes `id` an owner of `piece`, and answers the key of the piece. A piece keeps its key as long
     /// as it has an owner.
     pub fn add(&mut self, piece: Segment, id: u32) -> Result<usize, NoMemory>

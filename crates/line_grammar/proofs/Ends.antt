@@ -16,7 +16,7 @@ use Rattle.line_grammar.specs.Forms as forms
 use Rattle.line_grammar.proofs.Exact.{Tail, Tail-same, Spells}
 use Rattle.line_grammar.proofs.Literals.{Ended, finish, Made, made, led}
 use Rattle.line_grammar.proofs.Runs.{Parted}
-use Rattle.line_grammar.proofs.Names.{name}
+use Rattle.line_grammar.proofs.NameTokens.{name}
 use Rattle.line_grammar.proofs.Numbers.{number}
 use Rattle.line_grammar.proofs.Choices.{Any, Each}
 use Rattle.line_grammar.proofs.WordLemmas.{operator_token, predicate_token, measure_token}

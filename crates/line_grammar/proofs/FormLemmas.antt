@@ -2,13 +2,15 @@
 use Rattle.std.proofs.Common.{List, ℕ, refl}
 use Rattle.line_grammar.specs.declared.command.Command.{Command}
 use Rattle.line_grammar.specs.Slots.{Slots, Fits, spelled, Nothing, OneNumber, OnePlace, TwoPlaces, OneName, NameAndPlaces, NameAndLists}
-use Rattle.line_grammar.specs.Slots.{Operation, Question, Measure, Definition}
+use Rattle.line_grammar.specs.Slots.{Operation, Question, Measure, Definition, SomeNames, TwoLists, KeyedNames}
 use Rattle.line_grammar.specs.Rows.{Row, Line, row}
 use Rattle.line_grammar.specs.Forms.{slots_at, filled, command_at, operation_at, question_at, measuring_at, definition_at}
 use Rattle.line_grammar.proofs.Exact.{Tail, Tail-same, Then, then, Spells}
 use Rattle.line_grammar.proofs.Literals.{Ended, finish, Made, made}
 use Rattle.line_grammar.proofs.Choices.{Any}
 use Rattle.line_grammar.proofs.WordLemmas.{keyword_token}
+use Rattle.line_grammar.proofs.NameRows.{some_names, some_keyed}
+use Rattle.line_grammar.proofs.TwoLists.{two_lists}
 use Rattle.line_grammar.proofs.Ends as ends
 use Rattle.line_grammar.proofs.Ends.{OperationFits, operation_text, QuestionFits, question_text, MeasuringFits, measuring_text}
 use Rattle.line_grammar.proofs.Ends.{DefinitionFits, definition_text}
@@ -37,6 +39,9 @@ slots_exact Measure =
 slots_exact Definition =
     Tail-same Any (Spells DefinitionFits definition_text) (Spells (Fits Definition) (spelled Definition)) definition_at
     (λ c s h. ((h.0.0, h.0.1.1.0, h.0.1.1.1), h.1)) (λ c s h. ((h.0.0, (tt, (h.0.1, h.0.2))), h.1)) ends.definition
+slots_exact SomeNames = some_names
+slots_exact TwoLists = two_lists
+slots_exact KeyedNames = some_keyed
 
 -- what a row says
 abbrev pub Filled : Row → Command → List ℕ → Type 0

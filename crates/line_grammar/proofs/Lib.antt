@@ -10,10 +10,12 @@ pub mod Literals
 pub mod Pairs
 -- rows of tokens to the end of the line
 pub mod Rows
+-- one or more tokens to the end of the line
+pub mod SomeRows
 -- runs of bytes that pass a test
 pub mod Runs
 -- names
-pub mod Names
+pub mod NameTokens
 -- numbers
 pub mod Numbers
 -- one of several words
@@ -30,6 +32,10 @@ pub mod Semicolons
 pub mod ListTexts
 -- lists of places with semicolons between them
 pub mod ListRows
+-- names, and names with keys
+pub mod NameRows
+-- two lists of names
+pub mod TwoLists
 -- the texts of a token and a rest, and of a word and a rest
 pub mod Compounds
 -- what ends a line

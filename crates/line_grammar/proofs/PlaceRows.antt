@@ -1,18 +1,17 @@
 -- This file shows that places, and rows of them, are read exactly.
-use Rattle.std.proofs.Common.{◌≡◌, ℕ, ◌<◌, List, [], ◌∷◌, ◌++◌, length, Result, Ok, Err, refl, sym, ap, subst, ◌∙◌, arith, inl, inr}
-use Rattle.std.proofs.Common.{append_assoc}
+use Rattle.std.proofs.Common.{◌≡◌, ℕ, ◌<◌, List, [], length, Result, Ok, Err, refl, sym, ap, subst, ◌∙◌, arith, inl, inr}
 use Rattle.std.specs.List.{AllByRecursion}
-use Rattle.std.proofs.lemmas.List.{append-nil, nil_from_length}
+use Rattle.std.proofs.lemmas.List.{nil_from_length}
 use Rattle.line_grammar.specs.declared.command.At.{At}
 use Rattle.line_grammar.specs.declared.fault.ReadError.{ReadError}
-use Rattle.line_grammar.specs.declared.fault.ReadError.TheVariants as errors
 use Rattle.line_grammar.specs.Pieces.{space, point, points}
 use Rattle.line_grammar.specs.Fitting.{IsPoint}
 use Rattle.line_grammar.specs.Reading.{◌>>=◌, Fails, literal_at, number_at, point_at, led_point_at, points_at, push}
 use Rattle.line_grammar.proofs.Exact.{Kind, Reads, Token, Tail, Tail-same, Spells}
 use Rattle.line_grammar.proofs.Literals.{led}
 use Rattle.line_grammar.proofs.Pairs.{pair}
-use Rattle.line_grammar.proofs.Rows.{Row, added, IsRowToken, rows, Shrinks, shrinks, rows_more, rows_ended}
+use Rattle.line_grammar.proofs.Rows.{Row, IsRowToken, rows, Shrinks, shrinks, rows_ended}
+use Rattle.line_grammar.proofs.SomeRows.{added-push, row_goes, row_fails}
 use Rattle.line_grammar.proofs.Runs.{Parted}
 use Rattle.line_grammar.proofs.Numbers.{number}
 
@@ -112,11 +111,6 @@ place_row = record {
   ends = tt;
 }
 
--- pushing each of the items appends them
-pub added-push : {A : Type 0} (s items : List A) → added push s items ≡ s ++ items
-added-push s [] = sym (append-nil s)
-added-push s (a ∷ items) = added-push (s ++ a ∷ []) items ∙ append_assoc s (a ∷ []) items
-
 row_spells : (ps : List At) (s : List ℕ) → Row led_place.kind push [] ps s → Spells (AllByRecursion IsPoint) points ps s
 row_spells ps s h =
     let items : ps ≡ h.items = h.value ∙ added-push [] h.items in
@@ -139,11 +133,6 @@ places = Tail-same Parted (Row led_place.kind push []) (Spells (AllByRecursion I
 led_point_shrinks : Shrinks led_point_at
 led_point_shrinks = shrinks led_place place_row
 
-points_more : (ps : List At) (line : List ℕ) → 0 < length line
-    → points_at ps line ≡ (led_point_at line >>= λ x. points_at (push ps x.0) x.1)
-unfolding points_at
-points_more ps line some = rows_more led_point_at push led_point_shrinks ps line some
-
 pub points_ended : (ps : List At) (line : List ℕ) → length line ≡ 0 → points_at ps line ≡ Ok ps
 unfolding points_at
 points_ended ps line none = rw (nil_from_length line none) (rows_ended led_point_at push ps)
@@ -153,13 +142,12 @@ points_shorter line x e = led_point_shrinks line x e
 
 pub points_goes : (ps : List At) (rest : List ℕ) (p : At) (after : List ℕ) (total : Result (List At) ℕ) → 0 < length rest
     → led_point_at rest ≡ Ok (p, after) → points_at ps rest ≡ total → points_at (push ps p) after ≡ total
+unfolding points_at
 points_goes ps rest p after total some found so_far =
-    let step : points_at ps rest ≡ points_at (push ps p) after = rw (points_more ps rest some, found) refl in
-    sym step ∙ so_far
+    row_goes led_point_at push led_point_shrinks ps rest p after total some found so_far
 
 pub points_fail : (e : ReadError) (ps : List At) (rest : List ℕ) (total : Result (List At) ℕ) → 0 < length rest
     → Fails e (led_point_at rest) → points_at ps rest ≡ total → Fails e total
-points_fail errors.NoMemory ps rest total some stopped so_far = tt
-points_fail (errors.Stopped left) ps rest total some stopped so_far =
-    let step : points_at ps rest ≡ Err left = rw (points_more ps rest some, stopped) refl in
-    sym so_far ∙ step
+unfolding points_at
+points_fail e ps rest total some stopped so_far =
+    row_fails e led_point_at push led_point_shrinks ps rest total some stopped so_far

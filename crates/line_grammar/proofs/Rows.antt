@@ -138,7 +138,7 @@ rows tok add s is_row = record {
 
 -- ---- the loop over a row
 
-bind_fuel : {A S : Type 0} (r : Result (A × List ℕ) ℕ) (f g : A × List ℕ → Result S ℕ)
+pub bind_fuel : {A S : Type 0} (r : Result (A × List ℕ) ℕ) (f g : A × List ℕ → Result S ℕ)
     → ((x : A × List ℕ) → r ≡ Ok x → f x ≡ g x) → (r >>= f) ≡ (r >>= g)
 bind_fuel (Ok x) f g same = same x refl
 bind_fuel (Err left) f g same = refl

@@ -1,5 +1,5 @@
 -- Which parts of a command have a text: numbers of at most 19 digits, names as a line may have them, no empty
--- list among lists, and as many names as the operator takes.
+-- list among lists, as many names as the operator takes, and one name at least where any number may stand.
 use Rattle.std.specs.Prelude.{◌≡◌, ℕ, ◌<◌, ◌^◌, List, [], ◌∷◌, length, Option, Some, None, Bool, true}
 use Rattle.std.specs.Prelude.{false, ◌&&◌, ◌||◌, nat_le, ◌==◌}
 use Rattle.std.specs.List.{AllByRecursion}
@@ -39,6 +39,18 @@ IsNonempty (x ∷ xs) = Unit {0}
 -- one or more points
 abbrev pub ArePoints : List At → Type 0
 ArePoints ps = IsNonempty ps × AllByRecursion IsPoint ps
+
+-- one or more names
+abbrev pub AreNames : List (List ℕ) → Type 0
+AreNames ns = IsNonempty ns × AllByRecursion IsName ns
+
+-- a name and a number
+abbrev pub IsKeyed : List ℕ × ℕ → Type 0
+IsKeyed k = IsName k.0 × IsNumber k.1
+
+-- one or more names, each with a number
+abbrev pub AreKeyed : List (List ℕ × ℕ) → Type 0
+AreKeyed ks = IsNonempty ks × AllByRecursion IsKeyed ks
 
 -- a second name exactly where two are taken
 abbrev pub IsSecond : Bool → Option (List ℕ) → Type 0

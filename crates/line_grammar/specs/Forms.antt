@@ -10,9 +10,10 @@ use Rattle.line_grammar.specs.Reading.{◌>>=◌, literal_at, end_at, number_at,
 use Rattle.line_grammar.specs.Reading.{led_point_at, led_name_at, points_at}
 use Rattle.line_grammar.specs.Choosing.{operator_at, predicate_at, measure_at, keyword_at}
 use Rattle.line_grammar.specs.Slots.{Slots, Values, Nothing, OneNumber, OnePlace, TwoPlaces, OneName, NameAndPlaces}
-use Rattle.line_grammar.specs.Slots.{NameAndLists, Operation, Question, Measure, Definition}
+use Rattle.line_grammar.specs.Slots.{NameAndLists, Operation, Question, Measure, Definition, SomeNames, TwoLists, KeyedNames}
 use Rattle.line_grammar.specs.Rows.{Row, Line, row}
 use Rattle.line_grammar.specs.Listing.{lists_at}
+use Rattle.line_grammar.specs.NameLists.{some_names_at, two_lists_at, some_keyed_at}
 
 -- ---- what ends a line
 
@@ -107,6 +108,13 @@ slots_at Operation line = operation_at line
 slots_at Question line = question_at line
 slots_at Measure line = measuring_at line
 slots_at Definition line = definition_at line
+slots_at SomeNames line = some_names_at line
+slots_at TwoLists line = two_lists_at line
+slots_at KeyedNames line = some_keyed_at line
+
+-- nothing more, and a command that is said by its first word alone
+abbrev pub alone_at : Command → List ℕ → Result Command ℕ
+alone_at c line = end_at line >>= λ none. Ok c
 
 -- what the line says behind the first word of the row
 unfoldable pub filled : Row → List ℕ → Result Command ℕ

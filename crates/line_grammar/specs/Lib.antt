@@ -22,5 +22,7 @@ pub mod Reading
 pub mod Choosing
 -- reading lists with semicolons between them
 pub mod Listing
+-- reading lists of names
+pub mod NameLists
 -- reading what stands behind a keyword, and whole lines
 pub mod Forms

@@ -2,7 +2,8 @@
 use Rattle.line_grammar.specs.declared.parts.Parts.{Parts}
 use Rattle.line_grammar.specs.declared.parts.Parts.TheVariants as part
 use Rattle.line_grammar.specs.Slots.{Filling, Put, Nothing, OneNumber, OnePlace, TwoPlaces, OneName}
-use Rattle.line_grammar.specs.Slots.{NameAndPlaces, NameAndLists, Operation, Question, Measure, Definition}
+use Rattle.line_grammar.specs.Slots.{NameAndPlaces, NameAndLists, Operation, Question, Measure, Definition, SomeNames}
+use Rattle.line_grammar.specs.Slots.{TwoLists, KeyedNames}
 
 -- the values that they are
 abbrev pub seen : Parts → Filling
@@ -17,3 +18,6 @@ seen (part.Operation op a b) = Put Operation (op, (a.now, b.now))
 seen (part.Question p a b) = Put Question (p, (a.now, b.now))
 seen (part.Measure m a b) = Put Measure (m, (a.now, b.now))
 seen (part.Definition n op a b) = Put Definition (n.now, (op, (a.now, b.now)))
+seen (part.SomeNames ns) = Put SomeNames ns.now
+seen (part.TwoLists a b) = Put TwoLists (a.now, b.now)
+seen (part.KeyedNames ks) = Put KeyedNames ks.now

@@ -34,6 +34,22 @@ next_list ps = codes " ;" ++ points ps
 abbrev pub led_name : List ℕ → List ℕ
 led_name n = space ++ n
 
+-- each name behind a space
+abbrev pub names : List (List ℕ) → List ℕ
+names ns = flat_map led_name ns
+
+-- a number behind a space
+abbrev pub led_number : ℕ → List ℕ
+led_number n = space ++ decimal n
+
+-- a name and its key, each behind a space
+abbrev pub led_keyed : List ℕ × ℕ → List ℕ
+led_keyed k = led_name k.0 ++ led_number k.1
+
+-- each name with its key
+abbrev pub keyed_names : List (List ℕ × ℕ) → List ℕ
+keyed_names ks = flat_map led_keyed ks
+
 -- nothing, or a second name
 abbrev pub second : Option (List ℕ) → List ℕ
 second None = []

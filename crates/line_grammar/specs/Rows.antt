@@ -1,5 +1,6 @@
 -- The commands: for each its first word, what stands behind it, and what they say together. A word has the
--- space behind it, but for the five with nothing behind them.
+-- space behind it, but for the five with nothing behind them and the three with lists of names, each of which
+-- has a space before it.
 use Rattle.std.specs.Prelude.{ℕ, List, [], ◌∷◌, codes}
 use Rattle.line_grammar.specs.declared.command.Change.TheVariants as change
 use Rattle.line_grammar.specs.declared.command.Query.TheVariants as query
@@ -8,7 +9,8 @@ use Rattle.line_grammar.specs.declared.command.Command.TheVariants as commands
 use Rattle.line_grammar.specs.declared.command.Keyword.{Keyword}
 use Rattle.line_grammar.specs.declared.command.Keyword.TheVariants as k
 use Rattle.line_grammar.specs.Slots.{Slots, Values, Filling, Put, Nothing, OneNumber, OnePlace, TwoPlaces, OneName}
-use Rattle.line_grammar.specs.Slots.{NameAndPlaces, NameAndLists, Operation, Question, Measure, Definition}
+use Rattle.line_grammar.specs.Slots.{NameAndPlaces, NameAndLists, Operation, Question, Measure, Definition, SomeNames}
+use Rattle.line_grammar.specs.Slots.{TwoLists, KeyedNames}
 
 -- a word, what stands behind it, and the command that they say
 pub data Row : Type 0 where
@@ -33,6 +35,10 @@ row k.Ask = Line (codes "ask ") Question (λ q. commands.Query (query.Ask q.0 q.
 row k.Num = Line (codes "num ") Measure (λ m. commands.Query (query.Num m.0 m.1.0 m.1.1))
 row k.Faces = Line (codes "faces ") OneName (λ n. commands.Query (query.Faces n))
 row k.Trace = Line (codes "trace ") OneNumber (λ n. commands.Query (query.Trace n))
+row k.Sum = Line (codes "sum") SomeNames (λ ns. commands.Query (query.Sum ns))
+row k.Decompose = Line (codes "decompose ") OneName (λ n. commands.Query (query.Decompose n))
+row k.Overlay = Line (codes "overlay") TwoLists (λ l. commands.Query (query.Overlay l.0 l.1))
+row k.Fusion = Line (codes "fusion") KeyedNames (λ ks. commands.Query (query.Fusion ks))
 row k.Batch = Line (codes "batch ") OneNumber (λ n. commands.Batch n)
 row k.Checkpoint = Line (codes "checkpoint") Nothing (λ v. commands.Checkpoint)
 row k.Begin = Line (codes "begin") Nothing (λ v. commands.Begin)
@@ -60,8 +66,8 @@ abbrev pub all_keywords : List Keyword
 all_keywords =
     k.Point ∷ k.Unpoint ∷ k.Segment ∷ k.Points ∷ k.Lines ∷ k.Regions ∷ k.Let
     ∷ k.Drop ∷ k.Delete ∷ k.Realm ∷ k.Show ∷ k.Chain ∷ k.Eval
-    ∷ k.Ask ∷ k.Num ∷ k.Faces ∷ k.Trace ∷ k.Batch ∷ k.Checkpoint
-    ∷ k.Begin ∷ k.Commit ∷ k.Abandon ∷ []
+    ∷ k.Ask ∷ k.Num ∷ k.Faces ∷ k.Trace ∷ k.Sum ∷ k.Decompose ∷ k.Overlay ∷ k.Fusion
+    ∷ k.Batch ∷ k.Checkpoint ∷ k.Begin ∷ k.Commit ∷ k.Abandon ∷ []
 
 -- these values behind this first word
 abbrev pub puts : (first : Keyword) → Values (slots_of (row first)) → Keyword × Filling
@@ -86,6 +92,10 @@ parts (commands.Query (query.Ask p a b)) = puts k.Ask (p, (a, b))
 parts (commands.Query (query.Num m a b)) = puts k.Num (m, (a, b))
 parts (commands.Query (query.Faces n)) = puts k.Faces n
 parts (commands.Query (query.Trace n)) = puts k.Trace n
+parts (commands.Query (query.Sum ns)) = puts k.Sum ns
+parts (commands.Query (query.Decompose n)) = puts k.Decompose n
+parts (commands.Query (query.Overlay a b)) = puts k.Overlay (a, b)
+parts (commands.Query (query.Fusion ks)) = puts k.Fusion ks
 parts (commands.Batch n) = puts k.Batch n
 parts commands.Checkpoint = puts k.Checkpoint tt
 parts commands.Begin = puts k.Begin tt

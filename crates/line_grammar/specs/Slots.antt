@@ -7,10 +7,11 @@ use Rattle.rose_values.specs.declared.operators.Pred.{Pred}
 use Rattle.rose_values.specs.declared.operators.Num.{Num}
 use Rattle.line_grammar.specs.declared.command.At.{At}
 use Rattle.line_grammar.specs.Words.{operator, predicate, measure, takes_two, measures_two}
-use Rattle.line_grammar.specs.Pieces.{point, led_point, points, lists, led_name, second}
-use Rattle.line_grammar.specs.Fitting.{IsNumber, IsName, IsPoint, ArePoints, IsSecond}
+use Rattle.line_grammar.specs.Pieces.{point, led_point, points, lists, led_name, names, keyed_names, second}
+use Rattle.line_grammar.specs.Fitting.{IsNumber, IsName, IsPoint, ArePoints, AreNames, AreKeyed, IsSecond}
 
--- what may stand there; a definition is a name, an operator and what it takes
+-- What may stand there. A definition is a name, an operator and what it takes. Each of some names stands behind a
+-- space, and two lists of names have a semicolon between them.
 pub data Slots : Type 0 where
   Nothing : Slots
   OneNumber : Slots
@@ -23,6 +24,9 @@ pub data Slots : Type 0 where
   Question : Slots
   Measure : Slots
   Definition : Slots
+  SomeNames : Slots
+  TwoLists : Slots
+  KeyedNames : Slots
 
 -- one name or two
 abbrev pub Operands : Type 0
@@ -41,6 +45,9 @@ Values Operation = Op × Operands
 Values Question = Pred × (List ℕ × List ℕ)
 Values Measure = Num × Operands
 Values Definition = List ℕ × (Op × Operands)
+Values SomeNames = List (List ℕ)
+Values TwoLists = List (List ℕ) × List (List ℕ)
+Values KeyedNames = List (List ℕ × ℕ)
 
 -- those that have a text
 abbrev pub Fits : (s : Slots) → Values s → Type 0
@@ -55,6 +62,9 @@ Fits Operation o = IsName o.1.0 × IsSecond (takes_two o.0) o.1.1
 Fits Question q = IsName q.1.0 × IsName q.1.1
 Fits Measure m = IsName m.1.0 × IsSecond (measures_two m.0) m.1.1
 Fits Definition d = IsName d.0 × IsName d.1.1.0 × IsSecond (takes_two d.1.0) d.1.1.1
+Fits SomeNames ns = AreNames ns
+Fits TwoLists l = AreNames l.0 × AreNames l.1
+Fits KeyedNames ks = AreKeyed ks
 
 -- their text
 abbrev pub spelled : (s : Slots) → Values s → List ℕ
@@ -69,6 +79,9 @@ spelled Operation o = operator o.0 ++ (o.1.0 ++ second o.1.1)
 spelled Question q = predicate q.0 ++ (q.1.0 ++ led_name q.1.1)
 spelled Measure m = measure m.0 ++ (m.1.0 ++ second m.1.1)
 spelled Definition d = d.0 ++ (codes " = " ++ (operator d.1.0 ++ (d.1.1.0 ++ second d.1.1.1)))
+spelled SomeNames ns = names ns
+spelled TwoLists l = names l.0 ++ (codes " ;" ++ names l.1)
+spelled KeyedNames ks = keyed_names ks
 
 -- what a command puts behind its first word
 pub data Filling : Type 0 where

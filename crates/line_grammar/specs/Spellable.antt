@@ -5,7 +5,7 @@ use Rattle.line_grammar.specs.declared.command.Command.TheVariants as commands
 use Rattle.line_grammar.specs.Slots.{fits_in}
 use Rattle.line_grammar.specs.Rows.{parts}
 pub use Rattle.line_grammar.specs.Fitting.{IsNumber, is_letter, is_digit, is_name_byte, IsName, IsPoint}
-pub use Rattle.line_grammar.specs.Fitting.{IsNonempty, ArePoints, IsSecond}
+pub use Rattle.line_grammar.specs.Fitting.{IsNonempty, ArePoints, AreNames, IsKeyed, AreKeyed, IsSecond}
 
 -- some line stands for the command
 abbrev pub IsSpellable : Command → Type 0

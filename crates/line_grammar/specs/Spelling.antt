@@ -6,7 +6,8 @@ use Rattle.line_grammar.specs.declared.command.Command.{Command}
 use Rattle.line_grammar.specs.declared.command.Command.TheVariants as commands
 use Rattle.line_grammar.specs.Slots.{text_in}
 use Rattle.line_grammar.specs.Rows.{row, word_of, parts}
-pub use Rattle.line_grammar.specs.Pieces.{space, point, led_point, points, lists, next_list, led_name, second}
+pub use Rattle.line_grammar.specs.Pieces.{space, point, led_point, points, lists, next_list, led_name, names}
+pub use Rattle.line_grammar.specs.Pieces.{led_number, led_keyed, keyed_names, second}
 
 -- the text of a command
 abbrev pub command_text : Command → List ℕ

@@ -1,25 +1,19 @@
 //! What a line can say. Each command has one row: a first word, what stands behind it, and what they say.
-//! A command more is a line in each table here, in `specs/Rows` and in `proofs/CommandRows`.
+//! A command more is a line in each table here, in `behind`, in `specs/Rows` and in `proofs/CommandRows`.
 ghost use Rattle.std.specs.Prelude.{◌≡◌};
 ghost use Rattle.line_grammar.specs.declared.command.Command.TheVariants as commands;
 ghost use Rattle.line_grammar.specs.Reading.{Gives};
 ghost use Rattle.line_grammar.specs.Choosing.{keyword_at};
-ghost use Rattle.line_grammar.specs.Forms.{filled};
-ghost use Rattle.line_grammar.specs.Rows.{row, keyword, parts};
+ghost use Rattle.line_grammar.specs.Rows.{keyword, parts};
 ghost use Rattle.line_grammar.specs.Parts.{seen};
 
 use crate::fault::ReadError;
 use crate::name::Name;
+use crate::names::{KeyedNames, Names};
 use crate::parts::Parts;
 use crate::path::{Path, Paths};
-use crate::rests::{
-    definition, last_name, last_number, last_point, measuring, named_lists, named_points,
-    operation, question, two_points,
-};
-use crate::tokens::end;
 use crate::words::choose;
 use rose_values::{Num, Op, Pred};
-use std::alloc::Global;
 
 /// A place as a line writes it, which may lie outside the grid.
 #[derive(Clone, Copy, Debug, PartialEq, Eq)]
@@ -70,6 +64,14 @@ pub enum Query {
     Faces(Name),
     /// The steps of the change with this number.
     Trace(u64),
+    /// What the values of these names make together, at least one.
+    Sum(Names),
+    /// The parts of the value of this name: its points, its connected parts or its faces.
+    Decompose(Name),
+    /// What each value of the first names and each of the second have in common, at least one of each.
+    Overlay(Names, Names),
+    /// What the values with the same key make together, at least one value.
+    Fusion(KeyedNames),
 }
 
 /// A line.
@@ -109,6 +111,10 @@ pub enum Keyword {
     Num,
     Faces,
     Trace,
+    Sum,
+    Decompose,
+    Overlay,
+    Fusion,
     Batch,
     Checkpoint,
     Begin,
@@ -140,6 +146,10 @@ pub(crate) fn keyword_of(line: &[u8]) -> Result<(Keyword, &[u8]), ReadError>
             ("num ", Keyword::Num),
             ("faces ", Keyword::Faces),
             ("trace ", Keyword::Trace),
+            ("sum", Keyword::Sum),
+            ("decompose ", Keyword::Decompose),
+            ("overlay", Keyword::Overlay),
+            ("fusion", Keyword::Fusion),
             ("batch ", Keyword::Batch),
             ("checkpoint", Keyword::Checkpoint),
             ("begin", Keyword::Begin),
@@ -148,80 +158,6 @@ pub(crate) fn keyword_of(line: &[u8]) -> Result<(Keyword, &[u8]), ReadError>
         ],
         line,
     )
-}
-
-/// The command that a first word says with what stands behind it.
-#[tactic(auto, unfolding(crate::specs::Forms::filled, crate::specs::Forms::slots_at))]
-pub(crate) fn command_behind(
-    alloc: Global,
-    keyword: Keyword,
-    line: &[u8],
-) -> Result<Command, ReadError>
-    ensures { Gives (λ x. x) result (filled (row keyword) line.now) }
-{
-    match keyword {
-        Keyword::Point => Ok(Command::Change(Change::Point(last_point(line)?))),
-        Keyword::Unpoint => Ok(Command::Change(Change::Unpoint(last_point(line)?))),
-        Keyword::Segment => {
-            let (from, to) = two_points(line)?;
-            Ok(Command::Change(Change::Segment(from, to)))
-        }
-        Keyword::Points => {
-            let (name, places) = named_points(alloc, line)?;
-            Ok(Command::Change(Change::Points(name, places)))
-        }
-        Keyword::Lines => {
-            let (name, paths) = named_lists(alloc, line)?;
-            Ok(Command::Change(Change::Lines(name, paths)))
-        }
-        Keyword::Regions => {
-            let (name, paths) = named_lists(alloc, line)?;
-            Ok(Command::Change(Change::Regions(name, paths)))
-        }
-        Keyword::Let => {
-            let (name, (op, (first, second))) = definition(alloc, line)?;
-            Ok(Command::Change(Change::Let(name, op, first, second)))
-        }
-        Keyword::Drop => Ok(Command::Change(Change::Drop(last_name(alloc, line)?))),
-        Keyword::Delete => Ok(Command::Change(Change::Delete(last_number(line)?))),
-        Keyword::Realm => {
-            end(line)?;
-            Ok(Command::Query(Query::Realm))
-        }
-        Keyword::Show => Ok(Command::Query(Query::Show(last_name(alloc, line)?))),
-        Keyword::Chain => Ok(Command::Query(Query::Chain(last_number(line)?))),
-        Keyword::Eval => {
-            let (op, (first, second)) = operation(alloc, line)?;
-            Ok(Command::Query(Query::Eval(op, first, second)))
-        }
-        Keyword::Ask => {
-            let (predicate, (first, second)) = question(alloc, line)?;
-            Ok(Command::Query(Query::Ask(predicate, first, second)))
-        }
-        Keyword::Num => {
-            let (num, (first, second)) = measuring(alloc, line)?;
-            Ok(Command::Query(Query::Num(num, first, second)))
-        }
-        Keyword::Faces => Ok(Command::Query(Query::Faces(last_name(alloc, line)?))),
-        Keyword::Trace => Ok(Command::Query(Query::Trace(last_number(line)?))),
-        Keyword::Batch => Ok(Command::Batch(last_number(line)?)),
-        Keyword::Checkpoint => {
-            end(line)?;
-            Ok(Command::Checkpoint)
-        }
-        Keyword::Begin => {
-            end(line)?;
-            Ok(Command::Begin)
-        }
-        Keyword::Commit => {
-            end(line)?;
-            Ok(Command::Commit)
-        }
-        Keyword::Abandon => {
-            end(line)?;
-            Ok(Command::Abandon)
-        }
-    }
 }
 
 /// The first word of a command, and what it puts behind it.
@@ -274,6 +210,10 @@ fn query_parts(query: &Query) -> (Keyword, Parts<'_>)
         Query::Num(num, first, second) => (Keyword::Num, Parts::Measure(*num, first, second)),
         Query::Faces(name) => (Keyword::Faces, Parts::OneName(name)),
         Query::Trace(number) => (Keyword::Trace, Parts::OneNumber(*number)),
+        Query::Sum(names) => (Keyword::Sum, Parts::SomeNames(names)),
+        Query::Decompose(name) => (Keyword::Decompose, Parts::OneName(name)),
+        Query::Overlay(first, second) => (Keyword::Overlay, Parts::TwoLists(first, second)),
+        Query::Fusion(names) => (Keyword::Fusion, Parts::KeyedNames(names)),
     }
 }
 
@@ -299,6 +239,10 @@ pub(crate) fn first_word(first: Keyword) -> &'static str
         Keyword::Num => "num ",
         Keyword::Faces => "faces ",
         Keyword::Trace => "trace ",
+        Keyword::Sum => "sum",
+        Keyword::Decompose => "decompose ",
+        Keyword::Overlay => "overlay",
+        Keyword::Fusion => "fusion",
         Keyword::Batch => "batch ",
         Keyword::Checkpoint => "checkpoint",
         Keyword::Begin => "begin",

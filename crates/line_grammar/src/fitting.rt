@@ -2,20 +2,22 @@
 ghost use Rattle.std.specs.Prelude.{◌≡◌, ◌↔◌, ◌<◌, IsTrue, length, true};
 ghost use Rattle.std.specs.List.{AllByRecursion};
 ghost use Rattle.line_grammar.specs.Fitting.{IsNumber, is_name_byte, IsName, IsPoint, ArePoints, IsSecond};
+ghost use Rattle.line_grammar.specs.Fitting.{AreNames, IsKeyed, AreKeyed};
 ghost use Rattle.line_grammar.specs.Spellable.{IsSpellableChange, IsSpellable};
 ghost use Rattle.line_grammar.specs.Slots.{fits_in};
 ghost use Rattle.line_grammar.specs.Parts.{seen};
 
 use crate::command::{At, Change, Command, change_parts, parts_of};
 use crate::name::Name;
+use crate::names::{KeyedNames, Names};
 use crate::parts::Parts;
 use crate::path::Path;
 use crate::tokens::{letter, name_bytes};
 use crate::words::{number_of_two, operator_takes_two};
 
 /// Whether some line stands for the command: its numbers have at most 19 digits, its names are a letter
-/// and at most 31 letters, digits and underscores, no list among its lists is empty, and its operator
-/// has as many names as it takes.
+/// and at most 31 letters, digits and underscores, no list among its lists is empty, nor one of its lists
+/// of names, and its operator has as many names as it takes.
 pub fn spellable(c: &Command) -> bool
     ensures { IsTrue result ↔ IsSpellable c.now }
 {
@@ -47,6 +49,9 @@ fn parts_fit(parts: &Parts<'_>) -> bool
         Parts::Definition(name, op, first, second) => {
             name_fits(name) && operands_fit(operator_takes_two(*op), first, second)
         }
+        Parts::SomeNames(names) => names_fit(names),
+        Parts::TwoLists(first, second) => names_fit(first) && names_fit(second),
+        Parts::KeyedNames(names) => keyed_fit(names),
     }
 }
 
@@ -101,6 +106,54 @@ fn name_fits(name: &Name) -> bool
     match name.text().as_bytes() {
         [] => false,
         [first, rest @ ..] => letter(*first) && ending_fits(rest),
+    }
+}
+
+fn all_names_fit(names: &[Name]) -> bool
+    ensures { IsTrue result ↔ AllByRecursion IsName names.now }
+{
+    for name in names {
+        if !name_fits(name) {
+            return false;
+        }
+    }
+    true
+}
+
+// Whether the list has a name at least, and each of them fits.
+fn names_fit(names: &Names) -> bool
+    ensures { IsTrue result ↔ AreNames names.now }
+{
+    match names.names() {
+        [] => false,
+        [first, rest @ ..] => name_fits(first) && all_names_fit(rest),
+    }
+}
+
+fn key_fits(keyed: &(Name, u64)) -> bool
+    ensures { IsTrue result ↔ IsKeyed keyed.now }
+{
+    name_fits(&keyed.0) && number_fits(keyed.1)
+}
+
+fn all_keyed_fit(names: &[(Name, u64)]) -> bool
+    ensures { IsTrue result ↔ AllByRecursion IsKeyed names.now }
+{
+    for keyed in names {
+        if !key_fits(keyed) {
+            return false;
+        }
+    }
+    true
+}
+
+// Whether the list has a name at least, and each of them fits with its key.
+fn keyed_fit(names: &KeyedNames) -> bool
+    ensures { IsTrue result ↔ AreKeyed names.now }
+{
+    match names.names() {
+        [] => false,
+        [first, rest @ ..] => key_fits(first) && all_keyed_fit(rest),
     }
 }
 

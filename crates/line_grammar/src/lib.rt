@@ -4,11 +4,14 @@
 //! grid.
 #![tactic(auto)]
 
+mod behind;
 mod command;
 mod fault;
 mod fitting;
 mod laws;
+mod lists;
 mod name;
+mod names;
 mod parts;
 mod path;
 mod reading;
@@ -22,6 +25,7 @@ pub use fault::LineError;
 pub use fitting::{spellable, spellable_change};
 pub use laws::{a_change_is_a_line, one_command_a_text};
 pub use name::Name;
+pub use names::{KeyedNames, Names};
 pub use path::{Path, Paths};
 pub use reading::read_line;
 pub use writing::{write_change, write_line};

@@ -2,6 +2,7 @@
 
 use crate::command::At;
 use crate::name::Name;
+use crate::names::{KeyedNames, Names};
 use crate::path::{Path, Paths};
 use rose_values::{Num, Op, Pred};
 
@@ -19,4 +20,7 @@ pub(crate) enum Parts<'a> {
     Question(Pred, &'a Name, &'a Name),
     Measure(Num, &'a Name, &'a Option<Name>),
     Definition(&'a Name, Op, &'a Name, &'a Option<Name>),
+    SomeNames(&'a Names),
+    TwoLists(&'a Names, &'a Names),
+    KeyedNames(&'a KeyedNames),
 }

@@ -6,7 +6,8 @@ ghost use Rattle.line_grammar.specs.Lines.{Says, IsRefusal};
 ghost use Rattle.line_grammar.specs.Reading.{Gives};
 ghost use Rattle.line_grammar.specs.Forms.{command_at};
 
-use crate::command::{Command, command_behind, keyword_of};
+use crate::behind::command_behind;
+use crate::command::{Command, keyword_of};
 use crate::fault::{LineError, ReadError};
 use std::alloc::Global;
 

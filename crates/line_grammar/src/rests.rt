@@ -106,9 +106,9 @@ pub(crate) fn named_points(alloc: Global, line: &[u8]) -> Result<(Name, Path), R
     Ok((name, places))
 }
 
-// Whether a semicolon and a space are at the front, and the line behind them.
+/// Whether a semicolon and a space are at the front, and the line behind them.
 #[tactic(auto, unfolding(crate::specs::Listing::semicolon_at))]
-fn semicolon(line: &[u8]) -> Result<(bool, &[u8]), ReadError>
+pub(crate) fn semicolon(line: &[u8]) -> Result<(bool, &[u8]), ReadError>
     ensures { Gives (λ x. (x.0, x.1.now)) result (semicolon_at line.now) }
 {
     match line {

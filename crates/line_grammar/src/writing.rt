@@ -4,6 +4,7 @@ ghost use Rattle.std.specs.Fmt.{decimal};
 ghost use Rattle.std.specs.List.{flat_map};
 ghost use Rattle.line_grammar.specs.Words.{operator, predicate, measure};
 ghost use Rattle.line_grammar.specs.Pieces.{point, led_point, next_list, lists, second};
+ghost use Rattle.line_grammar.specs.Pieces.{names, led_keyed, keyed_names};
 ghost use Rattle.line_grammar.specs.Spelling.{change_text, command_text};
 ghost use Rattle.line_grammar.specs.Spellable.{IsSpellable, IsSpellableChange};
 ghost use Rattle.line_grammar.specs.Slots.{text_in};
@@ -81,6 +82,13 @@ fn push_parts(text: &mut String, parts: &Parts<'_>) -> Result<(), AllocError>
             text.push_str(" = ")?;
             push_operation(text, operator_word(*op), first, second)
         }
+        Parts::SomeNames(names) => push_names(text, names.names()),
+        Parts::TwoLists(first, second) => {
+            push_names(text, first.names())?;
+            text.push_str(" ;")?;
+            push_names(text, second.names())
+        }
+        Parts::KeyedNames(names) => push_keyed_names(text, names.names()),
     }
 }
 
@@ -105,6 +113,32 @@ fn push_name(text: &mut String, word: &str, name: &Name) -> Result<(), AllocErro
 {
     let name = name.text();
     write!(text, "{word}{name}")
+}
+
+fn push_names(text: &mut String, list: &[Name]) -> Result<(), AllocError>
+    ensures { OnOk result (string_bytes text.new ≡ string_bytes text.old ++ names list.now) }
+{
+    for name in list {
+        push_name(text, " ", name)?;
+    }
+    Ok(())
+}
+
+fn push_keyed(text: &mut String, keyed: &(Name, u64)) -> Result<(), AllocError>
+    ensures { OnOk result (string_bytes text.new ≡ string_bytes text.old ++ led_keyed keyed.now) }
+{
+    push_name(text, " ", &keyed.0)?;
+    push_number(text, " ", keyed.1)
+}
+
+fn push_keyed_names(text: &mut String, list: &[(Name, u64)]) -> Result<(), AllocError>
+    ensures { OnOk result (string_bytes text.new
+        ≡ string_bytes text.old ++ keyed_names list.now) }
+{
+    for keyed in list {
+        push_keyed(text, keyed)?;
+    }
+    Ok(())
 }
 
 fn push_points(text: &mut String, places: &[At]) -> Result<(), AllocError>

@@ -8,6 +8,8 @@ mod OneFace
 mod OneNumber
 -- the numbers of the values that a query names
 mod OneMeasure
+-- sums, parts, overlays and fusions
+mod OneSet
 -- the reply to a query
 mod OneQuery
 -- the payload of a state
@@ -17,17 +19,17 @@ mod SomePayload
 -- what a change comes to
 mod OneChange
 -- the reply to a line
-mod OneLine
+pub mod OneLine
 -- what can be decided
-mod Decisions
+pub mod Decisions
 -- what is in a list, in order
-mod Listings
+pub mod Listings
 -- the geometry of each value
 mod SomeGeometry
 -- what operators, predicates and numbers are applied to
-mod SomeOperands
+pub mod SomeOperands
 -- what operators make
-mod SomeMade
+pub mod SomeMade
 -- predicates that hold or don't
 mod SomeTruth
 -- a least and a greatest distance are there
@@ -48,9 +50,15 @@ mod SortedCycles
 mod SomeFaces
 -- states that pages keep are drawn on the grid
 mod KeptOnGrid
--- what is told of the faces of a value
-mod ShownFaces
+-- the sum of values of one kind
+mod SomeSums
+-- the parts of a value
+mod SomeParts
+-- the overlay of two lists of regions
+mod SomeOverlay
+-- replies to queries of lists of values
+mod SomeSets
 -- replies to queries
 mod SomeReply
 -- replies to lines
-mod SomeAnswer
+pub mod SomeAnswer

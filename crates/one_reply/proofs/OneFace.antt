@@ -98,7 +98,7 @@ lists_one_way (p ∷ c) (q ∷ d) (inr (same, rest)) (inr (again, back)) = lists
 
 -- ---- faces
 -- what is on the rim of a face is on each of its rims
-rim_part : (border B C : List GridSegment) (z : Place) → IsRim border z B → IsRim border z C → IsPart B C
+pub rim_part : (border B C : List GridSegment) (z : Place) → IsRim border z B → IsRim border z C → IsPart B C
 rim_part border B C z one other s there =
     let (in_border, side) = one.of_these s there in other.all s side.0 in_border side.1 side.2
 

@@ -1,5 +1,5 @@
 -- This file shows that a query has one reply in a state.
-use Rattle.std.proofs.Common.{◌≡◌, ◌↔◌, ℕ, IsTrue, List, get_or, Contains, Option, Some, sym, ap, ap₂, subst, ◌∙◌, inl, inr, arith}
+use Rattle.std.proofs.Common.{◌≡◌, ◌↔◌, ◌++◌, ℕ, IsTrue, List, get_or, Contains, Option, Some, sym, ap, ap₂, subst, ◌∙◌, inl, inr, arith}
 use Rattle.grid_base.specs.Point.{GridPoint}
 use Rattle.grid_base.specs.Segment.{GridSegment}
 use Rattle.grid_base.specs.Drawing.{Drawing, IsPoint, IsPiece}
@@ -14,8 +14,14 @@ use Rattle.rose_values.specs.declared.operators.Num.{Num}
 use Rattle.rose_predicates.specs.Predicates.{IsTrueOf}
 use Rattle.rose_operators.proofs.AscendingLists.{same_points, same_segments}
 use Rattle.r_faces.specs.FaceCycles.{AreFaces}
+use Rattle.rose_sets.specs.Sums.{IsSum}
+use Rattle.rose_sets.specs.Parts.{AreParts}
+use Rattle.rose_sets.specs.Overlays.{IsOverlay}
+use Rattle.rose_sets.specs.Fusions.{IsFusion}
+use Rattle.rose_sets.proofs.OneSum.{one_sum}
 use Rattle.line_grammar.specs.declared.command.Query.{Query}
 use Rattle.line_grammar.specs.declared.command.Query.TheVariants.{Realm, Show, Chain, Eval, Trace, Ask, Faces}
+use Rattle.line_grammar.specs.declared.command.Query.TheVariants.{Sum, Decompose, Overlay, Fusion}
 use Rattle.line_grammar.specs.declared.command.Query.TheVariants.{Num as Measure}
 use Rattle.realm_drawing.specs.Ids.{LacksId, IsChainOf}
 use Rattle.realm_insert.specs.State.{State, KeptTrace, kept_trace, AreLatest}
@@ -27,22 +33,27 @@ use Rattle.rose_query.specs.Causes.{Answer, Unless}
 use Rattle.rose_query.specs.Asking.{HasUntakenKinds, HasUnmeasuredKinds, TellsTruth, TellsNumber, IsNumberOf}
 use Rattle.rose_query.specs.Outlines.{IsNoRegion, ShowsFaces}
 use Rattle.rose_query.specs.Replies.{realm_reply, chain_reply, value_reply, trace_reply, truth_reply, number_reply, faces_reply}
+use Rattle.rose_query.specs.Replies.{parts_reply, pairs_reply, groups_reply}
+use Rattle.rose_query.specs.Sets.{LacksSome, HasMixedKinds, HasNonRegion, names_of, keys_of}
+use Rattle.rose_query.specs.Sets.{ShowsSum, ShowsParts, ShowsOverlay, ShowsFusion}
+use Rattle.rose_query.proofs.PresentValues.{mixed_kinds, one_key_each}
 use Rattle.rose_query.specs.Answers.{ShowsRealm, ShowsChain, ShowsTrace, LacksTrace, ShowsValue, ShowsMade, AnswersQuery}
 use Rattle.one_reply.proofs.OneNumber.{same_answer}
 use Rattle.one_reply.proofs.OneMeasure.{one_number}
 use Rattle.one_reply.proofs.OneFace.{one_faces}
+use Rattle.one_reply.proofs.OneSet.{one_list_of, present_ordered, one_parts, one_overlay, one_fusion}
 
 -- two replies that the answer allows in the state are one
 abbrev pub IsOne : Answer → State → Type 0
 IsOne answer s = (first second : List ℕ) → answer s first → answer s second → first ≡ second
 
 -- the cause decides which of the two it is
-unless_one : (cause : State → Type 0) (refusal : Refusal) (answer : Answer) (s : State) → IsOne answer s
+unless_one : (cause : State → Type 0) (refusal : Refusal) (answer : Answer) (s : State) → ((cause s → ⊥) → IsOne answer s)
     → IsOne (Unless cause refusal answer) s
 unless_one cause refusal answer s one first second (inl (holds, is)) (inl (also, too)) = is ∙ sym too
 unless_one cause refusal answer s one first second (inl (holds, is)) (inr (none, too)) = absurd (none holds)
 unless_one cause refusal answer s one first second (inr (none, is)) (inl (holds, too)) = absurd (none holds)
-unless_one cause refusal answer s one first second (inr (none, is)) (inr (also, too)) = one first second is too
+unless_one cause refusal answer s one first second (inr (none, is)) (inr (also, too)) = one none first second is too
 
 -- ---- what is drawn
 -- ascending lists of the same points and pieces
@@ -130,19 +141,57 @@ one_outline name s first second one other =
     let also = subst (λ (b : List GridSegment). AreFaces b other.faces) border other.are_faces in
     one.reply_is ∙ ap faces_reply (one_faces one.border one.faces other.faces one.are_faces also) ∙ sym other.reply_is
 
+-- ---- lists of values
+-- values of one kind, of which there are some, have one sum
+one_of_sum : (names : List (List ℕ)) (s : State) → (HasMixedKinds names s.values → ⊥) → IsOne (ShowsSum names) s
+one_of_sum names s one_kind first second one other =
+    let same = one_list_of s names other.values one.values other.are_present one.are_present in
+    let also = subst (λ (l : List Geometry). IsSum l other.made) same other.is_sum in
+    let made = one_sum one.values one.made other.made
+    (λ none. one_kind ((mixed_kinds s names one.values one.are_present).1 (inl none))) one.noded
+    (present_ordered s names one.values one.are_present) one.ascending other.ascending one.is_sum also in
+    one.reply_is ∙ ap value_reply made ∙ sym other.reply_is
+
+-- a value has one list of parts
+one_cut : (name : List ℕ) (s : State) → IsOne (ShowsParts name) s
+one_cut name s first second one other =
+    let same = one_named s name other.value one.value other.is_present.0 one.is_present.0 other.is_present.1 one.is_present.1 in
+    let also = subst (λ (g : Geometry). AreParts g other.parts) same other.are_parts in
+    one.reply_is ∙ ap parts_reply (one_parts one.value one.parts other.parts one.are_parts also one.ascending other.ascending)
+    ∙ sym other.reply_is
+
+-- two lists of regions have one overlay
+one_of_overlay : (a b : List (List ℕ)) (s : State) → IsOne (ShowsOverlay a b) s
+one_of_overlay a b s first second one other =
+    let same_a = one_list_of s a other.a one.a other.are_first one.are_first in
+    let same_b = one_list_of s b other.b one.b other.are_second one.are_second in
+    let also = subst (λ (l : List Geometry). IsOverlay one.a l other.pairs) same_b
+    (subst (λ (l : List Geometry). IsOverlay l other.b other.pairs) same_a other.is_overlay) in
+    one.reply_is ∙ ap pairs_reply (one_overlay one.a one.b one.pairs other.pairs one.is_overlay also) ∙ sym other.reply_is
+
+-- values with keys have one fusion
+one_of_fusion : (entries : List (List ℕ × ℕ)) (s : State) → IsOne (ShowsFusion entries) s
+one_of_fusion entries s first second one other =
+    let names = names_of entries in
+    let same = one_list_of s names other.values one.values other.are_present one.are_present in
+    let also = subst (λ (l : List Geometry). IsFusion l (keys_of entries) other.groups) same other.is_fusion in
+    let groups = one_fusion one.values (keys_of entries) (one_key_each s entries one.values one.are_present) one.noded
+    (present_ordered s names one.values one.are_present) one.groups other.groups one.is_fusion also one.ascending other.ascending in
+    one.reply_is ∙ ap groups_reply groups ∙ sym other.reply_is
+
 -- ---- every query
 -- a name that no value has comes first, and then the kinds
 named_one : (lacks kinds : State → Type 0) (answer : Answer) (s : State) → IsOne answer s
     → IsOne (Unless lacks NoName (Unless kinds Types answer)) s
 named_one lacks kinds answer s one =
-    unless_one lacks NoName (Unless kinds Types answer) s (unless_one kinds Types answer s one)
+    unless_one lacks NoName (Unless kinds Types answer) s (λ none. unless_one kinds Types answer s (λ taken. one))
 
 -- each query by what it lists
 pub one_query : (q : Query) (s : State) → AreLatest s.changes s.traces → IsOne (AnswersQuery q) s
 one_query Realm s latest = one_realm s
-one_query (Show name) s latest = unless_one (λ t. LacksName name t.values) NoName (ShowsValue name) s (one_value name s)
-one_query (Chain id) s latest = unless_one (λ t. LacksId t.drawing.originals id) NoId (ShowsChain id) s (one_chain id s)
-one_query (Trace number) s latest = unless_one (LacksTrace number) NoTrace (ShowsTrace number) s (one_trace number s latest)
+one_query (Show name) s latest = unless_one (λ t. LacksName name t.values) NoName (ShowsValue name) s (λ none. one_value name s)
+one_query (Chain id) s latest = unless_one (λ t. LacksId t.drawing.originals id) NoId (ShowsChain id) s (λ none. one_chain id s)
+one_query (Trace number) s latest = unless_one (LacksTrace number) NoTrace (ShowsTrace number) s (λ none. one_trace number s latest)
 one_query (Eval op first second) s latest =
     named_one (λ t. LacksOperand first second t.values) (λ t. HasWrongKinds op first second t.values) (ShowsMade op first second) s
     (one_made op first second s)
@@ -154,3 +203,14 @@ one_query (Measure num first second) s latest =
     (TellsNumber num first second) s (number_is_one num first second s)
 one_query (Faces name) s latest =
     named_one (λ t. LacksName name t.values) (λ t. IsNoRegion name t.values) (ShowsFaces name) s (one_outline name s)
+one_query (Sum names) s latest =
+    unless_one (λ t. LacksSome names t.values) NoName (Unless (λ t. HasMixedKinds names t.values) Types (ShowsSum names)) s
+    (λ none. unless_one (λ t. HasMixedKinds names t.values) Types (ShowsSum names) s (one_of_sum names s))
+one_query (Decompose name) s latest =
+    unless_one (λ t. LacksName name t.values) NoName (ShowsParts name) s (λ none. one_cut name s)
+one_query (Overlay first second) s latest =
+    named_one (λ t. LacksSome (first ++ second) t.values) (λ t. HasNonRegion (first ++ second) t.values) (ShowsOverlay first second) s
+    (one_of_overlay first second s)
+one_query (Fusion entries) s latest =
+    named_one (λ t. LacksSome (names_of entries) t.values) (λ t. HasMixedKinds (names_of entries) t.values) (ShowsFusion entries) s
+    (one_of_fusion entries s)

@@ -1,6 +1,6 @@
 -- This file shows that lines have connected parts, and a region faces, which can be counted.
 use Rattle.std.proofs.Common.{◌≡◌, ℕ, zero, suc, ◌+◌, ◌<◌, ◌≤◌, List, [], ◌∷◌, ◌++◌, length, get_or, map, flat_map, if◌then◌else◌}
-use Rattle.std.proofs.Common.{All, AllPairs, Contains, refl, sym, subst, inl, inr, arith}
+use Rattle.std.proofs.Common.{All, AllPairs, Contains, refl, sym, subst, ◌∙◌, inl, inr, arith}
 use Rattle.std.proofs.lemmas.Bool.{cases_eq, cases_lt}
 use Rattle.std.proofs.lemmas.List.Elements.{All-contains}
 use Rattle.grid_base.specs.Border.{AreNoded, IsEvenBorder}
@@ -18,11 +18,12 @@ use Rattle.plane_classes.proofs.Outer.{outer_is_even}
 use Rattle.plane_cells.specs.ClassNumbers.{number_at}
 use Rattle.plane_cells.specs.Numbered.{nowhere, numbered}
 use Rattle.plane_cells.proofs.ShearedRealm.{numbered_in}
-use Rattle.r_blocks.specs.Blocks.{ShareAnEnd}
+use Rattle.r_blocks.specs.Blocks.{ShareAnEnd, AreBlocks, AreInOrder}
 use Rattle.r_blocks.specs.Ends.{IsShared}
 use Rattle.r_blocks.specs.Places.{those, AreLeast, ArePlaces}
 use Rattle.r_blocks.proofs.Placed.{placed_new, placed_again}
-use Rattle.r_blocks.proofs.Together.{AreLinksOf, labels_least, blocks_are}
+use Rattle.r_blocks.proofs.AtPlaces.{those_ascend}
+use Rattle.r_blocks.proofs.Together.{AreLinksOf, AreGathered, labels_least, blocks_are, blocks_in_order}
 use Rattle.r_faces.specs.Faces.{IsNumberOfFaces}
 use Rattle.r_faces.specs.Rims.{HasOddNumber, AreOddSides}
 use Rattle.r_faces.proofs.FaceNumbers.{by_sides, faces_by_numbers}
@@ -141,27 +142,38 @@ some_places (suc n) labels least within =
     next : n + 1 ≡ suc n
     next = omega arith
 
-pub some_blocks : (list : List GridSegment) → AllPairs IsSegmentBefore list → (n : ℕ) × IsNumberOfBlocks list n
-some_blocks list up =
+-- the connected parts of lines, in their order, each ascending
+pub record HasBlocks (list : List GridSegment) : Type 0 where
+  pub blocks : List (List GridSegment)
+  pub are : AreBlocks list blocks
+  pub in_order : AreInOrder blocks
+  pub ascending : (block : List GridSegment) → Contains blocks block → AllPairs IsSegmentBefore block
+
+pub blocks_of : (list : List GridSegment) → AllPairs IsSegmentBefore list → HasBlocks list
+blocks_of list up =
     let (links, of) = some_links list in
     let (labels, are) = some_labels (length list) links of.below in
     let least = labels_least (length list) links labels are in
     let (places, count, placed) = some_places (length list) labels least (omega (arith, are.one_each)) in
-    let parts = table (λ p. those p places list) count in (
-      count,
-      (
-        parts,
-        blocks_are list links labels places count parts (record {
-          of = of;
-          labels_are = are;
-          places_are = placed;
-          as_many = table_long (λ p. those p places list) count;
-          those_are = λ p d within. table_at (λ q. those q places list) count p d
-              (subst (λ n. p < n) (table_long (λ q. those q places list) count) within);
-        }) up,
-        table_long (λ p. those p places list) count,
-      ),
-    )
+    let parts = table (λ p. those p places list) count in
+    let those_are = λ (p : ℕ) (d : List GridSegment) (within : p < length parts). table_at (λ q. those q places list) count p d
+    (subst (λ n. p < n) (table_long (λ q. those q places list) count) within) in
+    let gathered : AreGathered list links labels places count parts = record {
+      of = of;
+      labels_are = are;
+      places_are = placed;
+      as_many = table_long (λ p. those p places list) count;
+      those_are = those_are;
+    } in record {
+      blocks = parts;
+      are = blocks_are list links labels places count parts gathered up;
+      in_order = blocks_in_order list links labels places count parts up gathered;
+      ascending = λ block (p, below, is).
+          subst (AllPairs IsSegmentBefore) (sym (those_are p block below) ∙ is) (those_ascend p places list up);
+    }
+
+pub some_blocks : (list : List GridSegment) → AllPairs IsSegmentBefore list → (n : ℕ) × IsNumberOfBlocks list n
+some_blocks list up = let has = blocks_of list up in (length has.blocks, (has.blocks, has.are, refl))
 
 -- ---- the faces
 -- the numbers of the odd sides of a border

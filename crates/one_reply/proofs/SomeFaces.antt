@@ -55,7 +55,7 @@ pairs_map {X} R S f h (x ∷ xs) up =
     subst (S (f x)) is (h x y (subst (R x) at (up 0 (suc j) y (omega arith) (omega (arith, inside))))))
     (pairs_map R S f h xs (λ i j d before within. up (suc i) (suc j) d (omega (arith, before)) (omega (arith, within))))
 
-zipped : {X Y : Type 0} (P : X → Type 0) (R : X → Y → Type 0) → ((x : X) → P x → (y : Y) × R x y) → (xs : List X) → All P xs
+pub zipped : {X Y : Type 0} (P : X → Type 0) (R : X → Y → Type 0) → ((x : X) → P x → (y : Y) × R x y) → (xs : List X) → All P xs
     → (ys : List Y) × AllZip R xs ys
 zipped P R make [] all = ([], tt)
 zipped P R make (x ∷ xs) all =

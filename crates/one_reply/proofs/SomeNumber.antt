@@ -1,5 +1,5 @@
 -- This file shows that values have an area, distances, a width and a number of components, where their kinds have.
-use Rattle.std.proofs.Common.{ℕ, ◌-◌, not, min, max, List, ◌++◌, length, All, AllPairs, Option, Some, None, refl, subst, inl, inr, arith}
+use Rattle.std.proofs.Common.{ℕ, ◌-◌, not, min, max, List, length, All, AllPairs, Option, Some, None, refl, subst, inl, inr, arith}
 use Rattle.std.specs.List.{fold}
 use Rattle.std.proofs.lemmas.List.{append-nil}
 use Rattle.grid_base.specs.Border.{AreNoded, IsEvenBorder}

@@ -1,13 +1,12 @@
 -- This file shows that in a valid state names are those of values that operators, predicates and numbers can take, or lacking.
-use Rattle.std.proofs.Common.{◌⊎◌, List, ℕ, ◌++◌, All, AllPairs, Contains, Option, Some, None, IfSome, inl, inr}
+use Rattle.std.proofs.Common.{◌⊎◌, List, ℕ, ◌++◌, All, Contains, Option, Some, None, IfSome, inl, inr}
 use Rattle.std.proofs.lemmas.List.Elements.{Contains-append_cases, Contains-append_left}
-use Rattle.grid_base.specs.Border.{AreNoded, IsEvenBorder}
+use Rattle.grid_base.specs.Border.{AreNoded}
 use Rattle.grid_base.specs.Drawing.{IsPiece, IsDrawnRealm}
 use Rattle.grid_base.specs.Point.{IsBefore}
 use Rattle.grid_base.specs.Segment.{GridSegment}
 use Rattle.grid_base.proofs.Elements.{Contains-nil}
 use Rattle.rose_values.specs.declared.geometry.Geometry.{Geometry}
-use Rattle.rose_values.specs.declared.geometry.Geometry.TheVariants.{P, L, R}
 use Rattle.rose_values.specs.Operators.{segments_of, segments_of_second}
 use Rattle.rose_operators.specs.Results.{IsAscending}
 use Rattle.rose_predicates.proofs.Truths.{each}
@@ -80,7 +79,7 @@ first_on_grid a b grid =
     each IsOnGrid (segments_of a) (λ s there. grid s (Contains-append_left (segments_of a) (segments_of_second b) s there))
 
 -- the ends of a piece are points that are drawn
-piece_on_grid : (s : State) → IsDrawnRealm s.drawing → IsDrawnOnGrid s → (t : GridSegment) → IsPiece s.drawing t → IsOnGrid t
+pub piece_on_grid : (s : State) → IsDrawnRealm s.drawing → IsDrawnOnGrid s → (t : GridSegment) → IsPiece s.drawing t → IsOnGrid t
 piece_on_grid s realm on_grid t piece =
     let ends = realm.ends_are_points t piece in
     let lesser = on_grid t.a ends.0 in

@@ -1,5 +1,5 @@
 -- This file shows that in a valid state each query has a reply, where what it rests on is on the grid.
-use Rattle.std.proofs.Common.{◌≡◌, ◌⊎◌, ◌↔◌, ℕ, List, ◌++◌, flat_map, Contains, Option, Some, None, Ok, Err}
+use Rattle.std.proofs.Common.{◌≡◌, ◌↔◌, ℕ, List, ◌++◌, flat_map, Contains, Option, Some, None, Ok, Err}
 use Rattle.std.proofs.Common.{refl, sym, subst, ◌∙◌, inl, inr}
 use Rattle.std.proofs.lemmas.Bool.{cases_eq, true≢false}
 use Rattle.std.proofs.lemmas.List.{append-nil}
@@ -22,6 +22,7 @@ use Rattle.rose_measure.proofs.Members.{Contains-flat_map, joined_from}
 use Rattle.rose_predicates.specs.declared.answering.HoldsError.TheVariants.{WrongTypes}
 use Rattle.line_grammar.specs.declared.command.Query.{Query}
 use Rattle.line_grammar.specs.declared.command.Query.TheVariants.{Realm, Show, Chain, Eval, Trace, Ask, Faces}
+use Rattle.line_grammar.specs.declared.command.Query.TheVariants.{Sum, Decompose, Overlay, Fusion}
 use Rattle.line_grammar.specs.declared.command.Query.TheVariants.{Num as Measure}
 use Rattle.realm_drawing.specs.Chains.{AllValid}
 use Rattle.realm_drawing.specs.Ids.{LacksId, IsAscending as RiseById}
@@ -32,13 +33,13 @@ use Rattle.realm_insert.specs.Operands.{AreOperands}
 use Rattle.realm_insert.specs.Snapshots.{IsValidState}
 use Rattle.realm_insert.specs.declared.refusal.Refusal.TheVariants.{NoName, Types, NoId, NoTrace}
 use Rattle.rose_query.specs.Asking.{AnswersAsk, AnswersNum}
-use Rattle.rose_query.specs.Causes.{Answer, Unless}
+use Rattle.rose_query.specs.Causes.{Unless}
 use Rattle.rose_query.specs.Outlines.{AnswersFaces}
 use Rattle.rose_query.specs.Told.{TellsFaces}
 use Rattle.rose_query.specs.Replies.{no_reply, realm_reply, chain_reply, value_reply, trace_reply, truth_reply, faces_reply}
 use Rattle.rose_query.specs.Answers.{ShowsRealm, ShowsChain, ShowsTrace, LacksTrace, AnswersEval, AnswersQuery}
 use Rattle.rose_query.proofs.DrawnOperands.{operands_are_outside}
-use Rattle.one_reply.proofs.ShownFaces.{faces_shown}
+use Rattle.rose_query.proofs.FaceAnswers.{faces_shown}
 use Rattle.rose_query.proofs.Results.{told_answers}
 use Rattle.rose_query.proofs.Told.{measured_answers, asked_answers}
 use Rattle.rose_query.proofs.ValueAnswers.{value_shown}
@@ -50,11 +51,8 @@ use Rattle.one_reply.proofs.SomeFaces.{some_faces}
 use Rattle.one_reply.proofs.SomeMade.{MayMake, some_operated}
 use Rattle.one_reply.proofs.SomeNumber.{MayMeasure, some_measure}
 use Rattle.one_reply.proofs.SomeOperands.{AreFit, AreAllOnGrid, some_operands, first_on_grid, operands_on_grid}
+use Rattle.one_reply.proofs.SomeSets.{IsTold, told_sum, told_parts, told_overlay, told_fusion}
 use Rattle.one_reply.proofs.SomeTruth.{MayTell, some_truth}
-
--- the answer allows some reply in the state
-abbrev pub IsTold : Answer → State → Type 0
-IsTold answer s = (reply : List ℕ) × answer s reply
 
 -- ---- what is drawn
 -- the explicit points and the vertices of all chains
@@ -246,3 +244,7 @@ some_reply (Measure num first second) s some valid = told_number num first secon
 some_reply (Eval op first second) s some valid = told_made op first second s some valid
 some_reply (Ask pred first second) s some valid = told_truth pred first second s some valid
 some_reply (Faces name) s some valid = told_faces name s some valid
+some_reply (Sum names) s some valid = told_sum names s valid
+some_reply (Decompose name) s some valid = told_parts name s some valid
+some_reply (Overlay first second) s some valid = told_overlay first second s valid
+some_reply (Fusion entries) s some valid = told_fusion entries s valid

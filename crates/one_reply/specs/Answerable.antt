@@ -5,7 +5,7 @@ use Rattle.grid_base.specs.Point.{GridPoint, OnGrid}
 use Rattle.line_grammar.specs.declared.command.Command.{Command}
 use Rattle.line_grammar.specs.declared.command.Command.TheVariants as commands
 use Rattle.line_grammar.specs.declared.command.Query.{Query}
-use Rattle.line_grammar.specs.declared.command.Query.TheVariants.{Eval, Ask, Faces}
+use Rattle.line_grammar.specs.declared.command.Query.TheVariants.{Eval, Ask, Faces, Decompose}
 use Rattle.line_grammar.specs.declared.command.Query.TheVariants.{Num as Measure}
 use Rattle.rose_values.specs.declared.operators.Num.TheVariants.{NoOfComponents}
 use Rattle.rose_values.specs.declared.operators.Op.TheVariants.{Interior}
@@ -27,6 +27,7 @@ HasSomeReply (Eval Interior first second) s = IsDrawnOnGrid s
 HasSomeReply (Ask Encloses first second) s = IsDrawnOnGrid s
 HasSomeReply (Measure NoOfComponents first second) s = IsDrawnOnGrid s
 HasSomeReply (Faces name) s = IsDrawnOnGrid s
+HasSomeReply (Decompose name) s = IsDrawnOnGrid s
 HasSomeReply q s = Unit {0}
 
 -- the group that is open, if one is, has led on from what is kept to a sound state

@@ -1,4 +1,4 @@
--- Segments in parts by numbers. No public clause cites this file.
+-- Segments in parts by numbers.
 use Rattle.std.specs.Prelude.{◌≡◌, ◌↔◌, ℕ, ◌<◌, List, Contains, length, slice_index}
 use Rattle.std.specs.List.Sorted.{IsStrictlyIncreasing}
 

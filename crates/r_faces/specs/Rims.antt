@@ -1,4 +1,4 @@
--- The rims of faces, as what a rim says by itself. No public clause cites this file.
+-- The rims of faces, as what a rim says by itself.
 use Rattle.std.specs.Prelude.{◌≡◌, ◌≢◌, ℕ, ◌<◌, List, Contains, AllPairs, length, slice_index}
 use Rattle.grid_base.specs.Segment.{GridSegment, IsSegmentBefore}
 use Rattle.grid_base.specs.Sides.{Side, On}

@@ -168,8 +168,8 @@ fn is_right(class: SideClasses, number: u64, forward: bool) -> bool
     }
 }
 
-// The place of a segment of the rim.
-fn place_of(rim: &[Segment], s: &Segment) -> usize
+/// The place, from 0, of a segment that an ascending list has.
+pub fn place_of(rim: &[Segment], s: &Segment) -> usize
     requires ascending { AllPairs IsSegmentBefore rim.now }
     requires there { Contains rim.now s.now }
     ensures within { result < length rim.now }

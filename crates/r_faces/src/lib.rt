@@ -11,8 +11,11 @@ mod parts;
 mod rims;
 mod turning;
 
+pub use bounds::place_of;
 pub use face::{Face, Holes};
 pub use listing::faces;
-pub use number::number_of_faces;
+pub use number::{distinct, number_of_faces};
 pub use ordering::{faces_in_order, in_order};
+pub use parts::places_in;
+pub use rims::odd_sides;
 pub use turning::turned;

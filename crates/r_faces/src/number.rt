@@ -26,8 +26,8 @@ pub fn number_of_faces(alloc: Global, r: &RegionsValue) -> Result<u64, NoMemory>
     Ok(numbers.len() as u64)
 }
 
-// The numbers in ascending order, each once.
-pub(crate) fn distinct(mut numbers: Vec<u64>) -> Vec<u64>
+/// The numbers in ascending order, each once.
+pub fn distinct(mut numbers: Vec<u64>) -> Vec<u64>
     ensures ascending { IsStrictlyIncreasing result.items }
     ensures same { (n : ℕ) → Contains result.items n ↔ Contains numbers.items n }
 {

@@ -30,8 +30,8 @@ pub(crate) fn parted(alloc: Global, list: &[Segment], numbers: &[u64]) -> Result
     Ok(Parts { keys, lists })
 }
 
-// For each number its place among the keys.
-fn places_in(alloc: Global, keys: &[u64], numbers: &[u64]) -> Result<Vec<usize>, NoMemory>
+/// For each number its place among the keys, which ascend and have each of the numbers.
+pub fn places_in(alloc: Global, keys: &[u64], numbers: &[u64]) -> Result<Vec<usize>, NoMemory>
     requires ascending { IsStrictlyIncreasing keys.now }
     requires there { (n : ℕ) → Contains numbers.now n → Contains keys.now n }
     ensures { IfOk result (λ v. ArePlacesIn keys.now numbers.now (length numbers.now) v.items) }

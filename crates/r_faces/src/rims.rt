@@ -35,8 +35,9 @@ pub(crate) fn rims_of(alloc: Global, border: &[Segment]) -> Result<Vec<Vec<Segme
     Ok(parts.lists)
 }
 
-// For each segment the number of the class on its odd side.
-pub(crate) fn odd_sides(
+/// For each segment of a border the number of the class on its odd side, where `classes` numbers the classes
+/// on both sides of each segment, and `odd` says which of them are odd.
+pub fn odd_sides(
     alloc: Global,
     border: &[Segment],
     classes: &[SideClasses],

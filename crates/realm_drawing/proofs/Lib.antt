@@ -6,6 +6,8 @@ pub mod StraightPieces
 pub mod Additions
 -- originals in a map by id
 pub mod ById
+-- copies of originals and of points
+pub mod Copies
 -- a search along the chains of a map of originals
 pub mod ChainSearches
 -- strips along a diagonal
@@ -127,7 +129,7 @@ mod KeptPieces
 -- the vertices of a drawing that is kept
 mod Vertices
 -- what is promised of the chains that stand for originals
-mod StandingChains
+pub mod StandingChains
 -- what a step draws anew, with keys
 mod DrawnAnew
 -- searches for a point inside a segment

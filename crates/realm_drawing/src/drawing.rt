@@ -25,7 +25,7 @@ use crate::explicit::ExplicitPoints;
 use crate::keyed::KeyedPiece;
 use crate::leaving::drop_chain;
 use crate::mending::{is_mending, redrawings_of};
-use crate::originals::Originals;
+use crate::originals::{Originals, copied};
 use crate::redrawing::put_paths;
 use crate::shares::{add_shares, chain_shares};
 use crate::violations::first_violation;
@@ -69,6 +69,19 @@ impl Drawing {
             registry: Registry::new(alloc),
             alloc,
         }
+    }
+
+    /// The same drawing once more, its pieces under the same keys. Takes as much memory as this one, and time
+    /// nearly linear in it. Fails only for want of memory.
+    pub fn copied(&self) -> Result<Drawing, NoMemory>
+        ensures same { IfOk result (λ copy. copy ≡ self.now) }
+    {
+        Ok(Drawing {
+            explicit: self.explicit.copied()?,
+            originals: self.originals.copied(self.alloc)?,
+            registry: self.registry.copied()?,
+            alloc: self.alloc,
+        })
     }
 
     /// Makes `p` explicit, and says whether it wasn't.
@@ -351,13 +364,4 @@ impl Drawing {
     {
         self.registry.pieces()
     }
-}
-
-// The same points in a list of their own.
-fn copied(alloc: Global, points: &[Point]) -> Result<Vec<Point>, NoMemory>
-    ensures { IfOk result (λ v. v.items ≡ points.now) }
-{
-    let mut list = Vec::new(alloc);
-    list.extend_from_slice(points)?;
-    Ok(list)
 }

@@ -37,6 +37,16 @@ impl ExplicitPoints {
         }
     }
 
+    // The same points in a set of their own.
+    pub(crate) fn copied(&self) -> Result<ExplicitPoints, NoMemory>
+        ensures same { IfOk result (λ copy. copy ≡ self.now) }
+    {
+        Ok(ExplicitPoints {
+            set: self.set.clone()?,
+            alloc: self.alloc,
+        })
+    }
+
     // Whether `p` is there.
     pub(crate) fn has(&self, p: &Point) -> bool
         ensures { IsTrue result ↔ Contains self.now p.now }

@@ -1,6 +1,6 @@
 //! The originals: an ordered map by id, in which none moves where another comes or goes.
 ghost use Rattle.std.specs.Prelude.{◌≡◌, ◌↔◌, ◌<◌, ◌==◌, ◌++◌, ◌∷◌, [], All, map, filter, not};
-ghost use Rattle.std.specs.Prelude.{IsNone, IfSome, OnOk, OnErr};
+ghost use Rattle.std.specs.Prelude.{IsNone, IfSome, IfOk, OnOk, OnErr};
 ghost use Rattle.std.specs.Map.Iter.{ShowsInOrder, deref};
 ghost use Rattle.realm_drawing.specs.Ids.{LacksId, IsChainAmong};
 ghost use Rattle.realm_drawing.specs.ById.{rechained};
@@ -45,6 +45,18 @@ impl Originals {
         Originals {
             by_id: BTreeMap::new(alloc),
         }
+    }
+
+    // The same originals with chains of their own. They come by rising id, so each is put last.
+    pub(crate) fn copied(&self, alloc: Global) -> Result<Originals, NoMemory>
+        ensures same { IfOk result (λ copy. copy ≡ self.now) }
+    {
+        let mut copy = Originals::new(alloc);
+        for (id, placed) in self.by_id.iter() {
+            let points = copied(alloc, placed.chain.points())?;
+            copy.put(*id, placed.line, Chain::new(points))?;
+        }
+        Ok(copy)
     }
 
     // The chain of the original with this id.
@@ -92,4 +104,13 @@ impl Originals {
     {
         self.by_id.remove(&id);
     }
+}
+
+// The same points in a list of their own, which has no room for more.
+pub(crate) fn copied(alloc: Global, points: &[Point]) -> Result<Vec<Point>, NoMemory>
+    ensures { IfOk result (λ v. v.items ≡ points.now) }
+{
+    let mut list = Vec::with_capacity(alloc, points.len())?;
+    list.extend_from_slice(points)?;
+    Ok(list)
 }

@@ -63,6 +63,23 @@ impl Tree {
         }
     }
 
+    // The same tree once more.
+    pub(crate) fn copied(&self, alloc: Global) -> Result<Tree, NoMemory>
+        ensures same { IfOk result (λ copy. copy ≡ self.now) }
+    {
+        let own = SmallVec::from_slice(alloc, self.own.as_slice())?;
+        let mut parts = Vec::with_capacity(alloc, self.parts.len())?;
+        for part in &self.parts {
+            let copy = part.copied(alloc)?;
+            parts.push(copy)?;
+        }
+        Ok(Tree {
+            square: self.square,
+            parts,
+            own,
+        })
+    }
+
     // The part alone, in a greater square. There is room for it in the list.
     fn round(square: Square, mut list: Vec<Tree>, part: Tree) -> Tree
         requires empty { list.items ≡ [] }

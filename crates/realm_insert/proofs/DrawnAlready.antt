@@ -43,9 +43,9 @@ end_is_point d s p piece (inl is_a) = subst (IsPoint d) (sym is_a) (piece_ends d
 end_is_point d s p piece (inr is_b) = subst (IsPoint d) (sym is_b) (piece_ends d s piece).1
 
 -- what the figure draws are points and pieces of d
-record IsDrawn (d : Drawing) (figure : Figure) : Type 0 where
-  points : (p : GridPoint) → Contains figure.points p → IsPoint d p
-  pieces : (s : GridSegment) → Contains figure.segments s → IsPiece d s
+pub record IsDrawn (d : Drawing) (figure : Figure) : Type 0 where
+  pub points : (p : GridPoint) → Contains figure.points p → IsPoint d p
+  pub pieces : (s : GridSegment) → Contains figure.segments s → IsPiece d s
 
 module _ (d : Drawing) where
   of_points : (list : List GridPoint) → ((p : GridPoint) → Contains list p → IsPoint d p) → IsDrawn d (figure_of (P list))
@@ -138,7 +138,7 @@ module _ (s : State) (fit : AreValuesOf s.drawing s.values) where
       (λ t there. named_pieces s first (L lines) is_first t (shut_in.of_these t there)))
       op
 
-  let_drawn : (c : Change) (figure : Figure) → IsLet c → Draws c s figure → IsDrawn s.drawing figure
+  pub let_drawn : (c : Change) (figure : Figure) → IsLet c → Draws c s figure → IsDrawn s.drawing figure
   let_drawn (Let name op first second) figure is (made, by, drawn) =
       subst (IsDrawn s.drawing) (sym drawn)
       (by_result op first second by.a by.b made by.is_made by.are_operands.is_first by.are_operands.is_second)

@@ -99,6 +99,18 @@ impl Model for Engine {
     ghost invariant = { λ e. IsSettledUnlessSpent e.spent e.drawing e.index e.table e.next_id e.changes e.traces.items };
 }
 
+impl LastTrace {
+    // The same trace once more, under its number.
+    fn copied(&self, alloc: Global) -> Result<LastTrace, NoMemory>
+        ensures same { IfOk result (λ copy. copy ≡ self.now) }
+    {
+        Ok(LastTrace {
+            number: self.number,
+            trace: self.trace.copied(alloc)?,
+        })
+    }
+}
+
 impl Drop for Engine {
     fn drop(self) {
         let Engine {
@@ -164,6 +176,27 @@ impl Engine {
             originals: ListOf::new(originals),
             values: ListOf::new(values),
             traces: ListOf::new(traces),
+        })
+    }
+
+    /// The same engine once more. What it keeps is copied as it is kept, so nothing is drawn or tested again. That takes the
+    /// time to go through it once, and as much memory as it has.
+    pub fn copied(&self) -> Result<Engine, NoMemory>
+        ensures same { IfOk result (λ copy. copy ≡ self.now) }
+    {
+        let drawing = self.drawing.copied()?;
+        let index = self.index.copied()?;
+        let table = self.table.copied()?;
+        let traces = traces_again(self.alloc, self.traces.as_slice())?;
+        Ok(Engine {
+            alloc: self.alloc,
+            drawing,
+            index,
+            table,
+            next_id: self.next_id,
+            changes: self.changes,
+            traces,
+            spent: self.spent,
         })
     }
 
@@ -500,6 +533,18 @@ fn push_trace(alloc: Global, traces: &mut Vec<LastTrace>, kept: &Kept) -> Result
         trace,
     })?;
     Ok(())
+}
+
+// The same traces once more, in their order.
+fn traces_again(alloc: Global, list: &[LastTrace]) -> Result<Vec<LastTrace>, NoMemory>
+    ensures same { IfOk result (λ v. v.items ≡ list.now) }
+{
+    let mut copies = Vec::with_capacity(alloc, list.len())?;
+    for kept in list {
+        let copy = kept.copied(alloc)?;
+        copies.push(copy)?;
+    }
+    Ok(copies)
 }
 
 // The traces, as a snapshot keeps them.

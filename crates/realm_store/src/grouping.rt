@@ -8,7 +8,6 @@ ghost use Rattle.realm_store.specs.NextGates.{IsGateFor};
 ghost use Rattle.realm_store.specs.Groups.{with_entry};
 
 use crate::committing::{NextGate, gate_for};
-use crate::looking::copied;
 use grid_base::NoMemory;
 use realm_files::Place;
 use realm_insert::Engine;
@@ -38,7 +37,7 @@ pub(crate) fn begin_group(
     ensures entries { IfOk result (λ held. held.entries ≡ []) }
     ensures gate { IfOk result (λ held. IsGateFor held.gate place has_gate) }
 {
-    let begun = copied(alloc, engine)?;
+    let begun = engine.copied()?;
     let gate = gate_for(alloc, place, has_gate)?;
     Ok(OpenGroup {
         begun,

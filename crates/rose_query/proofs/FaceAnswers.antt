@@ -1,6 +1,5 @@
 -- This file shows that what is told of the faces of a value answers the query.
-use Rattle.std.proofs.Common.{◌≡◌, ◌≢◌, refl, sym, subst, ℕ, List, Option, Some, IsSome, inl, inr}
-use Rattle.grid_base.specs.declared.kinds.Kind.{Kind}
+use Rattle.std.proofs.Common.{◌≢◌, refl, sym, subst, ℕ, List, Option, Some, IsSome, inl, inr}
 use Rattle.grid_base.specs.declared.kinds.Kind.TheVariants.{Points, Lines, Regions}
 use Rattle.rose_values.specs.declared.geometry.Geometry.{Geometry}
 use Rattle.rose_values.specs.declared.geometry.Geometry.TheVariants.{P, L, R}
@@ -13,7 +12,7 @@ use Rattle.rose_query.specs.Told.{TellsFaces}
 use Rattle.rose_query.proofs.NamedKinds.{kind_of_one}
 
 -- some value has the name
-is_named : (s : State) (name : List ℕ) (g : Geometry) → IsGeometryNamed s name (Some g) → IsNamed name s.values
+pub is_named : (s : State) (name : List ℕ) (g : Geometry) → IsGeometryNamed s name (Some g) → IsNamed name s.values
 is_named s name g is = subst (λ (found : Option Value). IsSome found) (sym is.1) refl
 
 points_differ : Points ≢ Regions

@@ -25,7 +25,7 @@ kind_of_one s name g Q (v, named, is) =
           (subst Q (sym same) told),
     )
 
-kinds_of_both : (s : State) (first second : List ℕ) (a b : Geometry) (Q : Kind → Kind → Type 0)
+pub kinds_of_both : (s : State) (first second : List ℕ) (a b : Geometry) (Q : Kind → Kind → Type 0)
     → IsGeometryNamed s first (Some a) → IsGeometryNamed s second (Some b)
     → IsSomeAnd (value_named first s.values)
     (λ (v : Value). IsSomeAnd (value_named second s.values) (λ (w : Value). Q v.kind w.kind)) ↔ Q (kind_of a) (kind_of b)

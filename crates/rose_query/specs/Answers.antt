@@ -1,5 +1,5 @@
 -- What each query is answered about a state.
-use Rattle.std.specs.Prelude.{◌≡◌, ◌⊎◌, ◌↔◌, ℕ, List, AllPairs, Contains, Option, Some}
+use Rattle.std.specs.Prelude.{◌≡◌, ◌↔◌, ℕ, List, AllPairs, Contains, Option, Some}
 use Rattle.grid_base.specs.Point.{GridPoint, IsBefore}
 use Rattle.grid_base.specs.Segment.{GridSegment, IsSegmentBefore}
 use Rattle.grid_base.specs.Drawing.{Drawing, IsPoint, IsPiece}
@@ -9,6 +9,7 @@ use Rattle.rose_values.specs.declared.operators.Op.{Op}
 use Rattle.rose_operators.specs.Results.{IsAscending}
 use Rattle.line_grammar.specs.declared.command.Query.{Query}
 use Rattle.line_grammar.specs.declared.command.Query.TheVariants.{Realm, Show, Chain, Eval, Trace, Ask, Faces}
+use Rattle.line_grammar.specs.declared.command.Query.TheVariants.{Sum, Decompose, Overlay, Fusion}
 use Rattle.line_grammar.specs.declared.command.Query.TheVariants.{Num as Measure}
 use Rattle.realm_drawing.specs.Ids.{LacksId, IsChainOf}
 use Rattle.realm_insert.specs.State.{State, kept_trace}
@@ -18,6 +19,7 @@ use Rattle.realm_insert.specs.declared.refusal.Refusal.TheVariants.{NoName, Type
 use Rattle.rose_query.specs.Causes.{Answer, Unless}
 use Rattle.rose_query.specs.Asking.{AnswersAsk, AnswersNum}
 use Rattle.rose_query.specs.Outlines.{AnswersFaces}
+use Rattle.rose_query.specs.Sets.{AnswersSum, AnswersDecompose, AnswersOverlay, AnswersFusion}
 use Rattle.rose_query.specs.Replies.{realm_reply, chain_reply, value_reply, trace_reply}
 
 -- ---- what is drawn
@@ -88,3 +90,7 @@ AnswersQuery (Trace number) state reply = Unless (LacksTrace number) NoTrace (Sh
 AnswersQuery (Ask pred first second) state reply = AnswersAsk pred first second state reply
 AnswersQuery (Measure num first second) state reply = AnswersNum num first second state reply
 AnswersQuery (Faces name) state reply = AnswersFaces name state reply
+AnswersQuery (Sum names) state reply = AnswersSum names state reply
+AnswersQuery (Decompose name) state reply = AnswersDecompose name state reply
+AnswersQuery (Overlay first second) state reply = AnswersOverlay first second state reply
+AnswersQuery (Fusion entries) state reply = AnswersFusion entries state reply

@@ -10,6 +10,8 @@ use Rattle.rose_values.specs.declared.geometry.Geometry.{Geometry}
 use Rattle.rose_values.specs.declared.geometry.Geometry.TheVariants.{P, L, R}
 use Rattle.line_grammar.specs.Spelling.{space}
 use Rattle.r_faces.specs.declared.face.Face.{Face}
+use Rattle.rose_sets.specs.declared.pair.Pair.{Pair}
+use Rattle.rose_sets.specs.declared.group.Group.{Group}
 use Rattle.realm_insert.specs.declared.refusal.Refusal.{Refusal}
 use Rattle.realm_insert.specs.declared.refusal.Refusal.TheVariants.{Range, Shape, Degenerate, NameTaken}
 use Rattle.realm_insert.specs.declared.refusal.Refusal.TheVariants.{NoName, Types, NoId, NoPoint, NoTrace}
@@ -112,6 +114,29 @@ face_lines face = cycle_line (codes "outer") face.outer ++ flat_map (cycle_line 
 -- how many faces there are, and the lines of each in order
 abbrev pub faces_reply : List Face → List ℕ
 faces_reply faces = codes "faces " ++ (decimal (length faces) ++ (line_feed ++ flat_map face_lines faces))
+
+-- how many entries a set has, and the lines of each in order
+abbrev pub set_reply : {X : Type 0} → (X → List ℕ) → List X → List ℕ
+set_reply lines entries = codes "set " ++ (decimal (length entries) ++ (line_feed ++ flat_map lines entries))
+
+-- the parts of a value, each as `show` lists it
+abbrev pub parts_reply : List Geometry → List ℕ
+parts_reply parts = set_reply value_reply parts
+
+-- the positions of two regions, from 1, and what they have in common
+abbrev pub pair_lines : Pair → List ℕ
+pair_lines pair =
+    codes "pair " ++ (decimal pair.i ++ (space ++ (decimal pair.j ++ (line_feed ++ value_reply pair.g))))
+
+abbrev pub pairs_reply : List Pair → List ℕ
+pairs_reply pairs = set_reply pair_lines pairs
+
+-- a key, and the sum of the values that have it
+abbrev pub group_lines : Group → List ℕ
+group_lines group = codes "key " ++ (decimal group.key ++ (line_feed ++ value_reply group.g))
+
+abbrev pub groups_reply : List Group → List ℕ
+groups_reply groups = set_reply group_lines groups
 
 -- whether a predicate is true
 abbrev pub truth_reply : Bool → List ℕ

@@ -6,6 +6,7 @@ ghost use Rattle.rose_query.specs.Answers.{AnswersQuery};
 
 use crate::asking::show_truth;
 use crate::evaluating::list_made;
+use crate::gathering::{show_fusion, show_overlay, show_parts, show_sum};
 use crate::measuring::show_number;
 use crate::outlining::show_faces;
 use crate::printing::{list_chain, list_realm, list_trace, list_value};
@@ -59,6 +60,10 @@ pub fn answer_alone(alloc: Global, state: &Engine, q: &Query) -> Result<Reply, N
         Query::Ask(pred, first, second) => show_truth(alloc, state, *pred, first, second),
         Query::Num(num, first, second) => show_number(alloc, state, *num, first, second.as_ref()),
         Query::Faces(name) => show_faces(alloc, state, name),
+        Query::Sum(names) => show_sum(alloc, state, names),
+        Query::Decompose(name) => show_parts(alloc, state, name),
+        Query::Overlay(first, second) => show_overlay(alloc, state, first, second),
+        Query::Fusion(entries) => show_fusion(alloc, state, entries),
     }
 }
 

@@ -5,7 +5,10 @@
 mod answering;
 mod asking;
 mod evaluating;
+mod gathering;
+mod listing;
 mod measuring;
+mod naming;
 mod outlining;
 mod printing;
 mod refusals;

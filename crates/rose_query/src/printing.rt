@@ -33,18 +33,18 @@ pub(crate) fn list_value(alloc: Global, geometry: &Geometry) -> Result<Reply, No
     ensures reply { IfOk result (λ reply. reply ≡ value_reply geometry.now) }
     ensures ascending { IsAscending geometry.now }
 {
-    match geometry {
-        Geometry::P(points) => list_points(alloc, "points", points.points()),
-        Geometry::L(lines) => list_segments(alloc, "lines", lines.segments()),
-        Geometry::R(region) => list_segments(alloc, "regions", region.segments()),
-    }
+    let mut text = String::new(alloc);
+    push_value(&mut text, geometry)?;
+    Ok(Reply::new(text.into_bytes()))
 }
 
 /// The reply to `chain`.
 pub(crate) fn list_chain(alloc: Global, points: &[Point]) -> Result<Reply, NoMemory>
     ensures { IfOk result (λ reply. reply ≡ chain_reply points.now) }
 {
-    list_points(alloc, "chain", points)
+    let mut text = String::new(alloc);
+    push_points(&mut text, "chain", points)?;
+    Ok(Reply::new(text.into_bytes()))
 }
 
 /// The reply to `trace`.
@@ -90,22 +90,33 @@ pub(crate) fn list_faces(alloc: Global, faces: &[Face]) -> Result<Reply, NoMemor
     Ok(Reply::new(text.into_bytes()))
 }
 
-fn list_points(alloc: Global, word: &str, points: &[Point]) -> Result<Reply, NoMemory>
-    ensures { IfOk result (λ reply. reply ≡ points_reply word.now points.now) }
+/// Writes a value as `show` lists it. What it lists ascends.
+pub(crate) fn push_value(text: &mut String, geometry: &Geometry) -> Result<(), AllocError>
+    ensures text { OnOk result (string_bytes text.new ≡ string_bytes text.old ++ value_reply geometry.now) }
+    ensures ascending { IsAscending geometry.now }
 {
-    let count = points.len();
-    let mut text = format!(in alloc; "{word} {count}\n")?;
-    push_point_lines(&mut text, points)?;
-    Ok(Reply::new(text.into_bytes()))
+    match geometry {
+        Geometry::P(points) => push_points(text, "points", points.points()),
+        Geometry::L(lines) => push_segments(text, "lines", lines.segments()),
+        Geometry::R(region) => push_segments(text, "regions", region.segments()),
+    }
 }
 
-fn list_segments(alloc: Global, word: &str, segments: &[Segment]) -> Result<Reply, NoMemory>
-    ensures { IfOk result (λ reply. reply ≡ segments_reply word.now segments.now) }
+fn push_points(text: &mut String, word: &str, points: &[Point]) -> Result<(), AllocError>
+    ensures { OnOk result (string_bytes text.new ≡ string_bytes text.old ++ points_reply word.now points.now) }
+{
+    let count = points.len();
+    write!(text, "{word} {count}\n")?;
+    push_point_lines(text, points)
+}
+
+fn push_segments(text: &mut String, word: &str, segments: &[Segment]) -> Result<(), AllocError>
+    ensures { OnOk result (string_bytes text.new
+        ≡ string_bytes text.old ++ segments_reply word.now segments.now) }
 {
     let count = segments.len();
-    let mut text = format!(in alloc; "{word} {count}\n")?;
-    push_segment_lines(&mut text, segments)?;
-    Ok(Reply::new(text.into_bytes()))
+    write!(text, "{word} {count}\n")?;
+    push_segment_lines(text, segments)
 }
 
 fn push_point_lines(text: &mut String, points: &[Point]) -> Result<(), AllocError>

@@ -2,5 +2,5 @@
 pub mod Tables
 -- counts of keys that ascend, and of the values that name one
 pub mod Counts
--- counts where a value comes or goes
+-- counts where a value comes or goes, or all are copied
 pub mod Changes

@@ -1,10 +1,10 @@
 -- This file shows how what clauses see of a table follows from its entries.
 use Rattle.std.proofs.Common.{◌≡◌, ◌≢◌, ℕ, Bool, true, false, cond, refl, sym, ap, ◌∙◌, subst, Option, Some, None, option_map}
-use Rattle.std.proofs.Common.{List, [], ◌∷◌, map, slice_get, AllPairs, String}
+use Rattle.std.proofs.Common.{List, [], ◌∷◌, zero, suc, map, take, slice_get, AllPairs, String}
 use Rattle.std.specs.Map.{lookup, keys_of, values_of, remove_entry}
 use Rattle.std.specs.List.{IsDistinct, AllByRecursion}
 use Rattle.std.specs.Str.{bytes_eq}
-use Rattle.std.specs.String.{string_bytes, string_eq}
+use Rattle.std.specs.String.{string_bytes, string_eq, string_eq_equiv}
 use Rattle.std.proofs.lemmas.Option.{slice_get-map}
 use Rattle.std.proofs.lemmas.Slice.Eq.{bytes_eq-Decides}
 use Rattle.std.proofs.lemmas.Map.Made.{AllPairs-from_IsDistinct}
@@ -87,6 +87,26 @@ module _ {Y : Type 0} where
   distinct-seen es distinct =
       subst (AllPairs (λ name other. name ≢ other)) (sym (keys-seen es))
       (AllPairs-from_IsDistinct bytes_eq-Decides _ (bytes_distinct (keys_of es) distinct))
+
+  -- one of some keys that differ from x
+  differs : (x : String Y) (es : List (String Y × Value)) → AllByRecursion (λ y. string_eq x y ≡ false) (keys_of es)
+      → (k : ℕ) (e : String Y × Value) → slice_get es k ≡ Some e → string_eq x e.0 ≡ false
+  differs x [] all k e at = cc
+  differs x (y ∷ es) all zero e at =
+      let same : y ≡ e = cc in
+      subst (λ entry. string_eq x entry.0 ≡ false) same all.0
+  differs x (y ∷ es) all (suc k) e at = differs x es all.1 k e at
+
+  -- the name at a place isn't that of an entry before it
+  pub none_before : (es : List (String Y × Value)) → IsDistinct string_eq (keys_of es) → (k : ℕ) (e : String Y × Value)
+      → slice_get es k ≡ Some e → lookup (bytes_eq (string_bytes e.0)) (seen_of (take k es)) ≡ None
+  unfolding IsDistinct
+  none_before [] distinct k e at = cc
+  none_before (x ∷ es) distinct zero e at = refl
+  none_before (x ∷ es) distinct (suc k) e at =
+      let other : bytes_eq (string_bytes e.0) (string_bytes x.0) ≡ false =
+      string_eq_equiv.symm e.0 x.0 ∙ differs x.0 es distinct.0 k e at in
+      rw other (none_before es distinct.1 k e at)
 
   -- a map that lost the name's entry is seen without the name
   pub seen_without : (name : List ℕ) (es after : List (String Y × Value)) (table : NamedValues) → IsDistinct string_eq (keys_of es)

@@ -1,5 +1,5 @@
 //! The values of a store by name, in the order in which they were defined. Begin at `Table`.
-//! Only `define` takes memory.
+//! Only `define` and `copied` take memory.
 #![tactic(auto)]
 
 mod table;

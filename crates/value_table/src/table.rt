@@ -1,9 +1,12 @@
 //! Values by name, in the order in which they were defined. Room for a name is made before its uses are
 //! counted, so want of memory leaves nothing to undo but counts.
-ghost use Rattle.std.specs.Prelude.{◌≡◌, ◌↔◌, ◌++◌, ◌∷◌, [], Err, IsTrue, OnOk, OnErr};
+ghost use Rattle.std.specs.Prelude.{◌≡◌, ◌↔◌, ◌++◌, ◌∷◌, [], Err, IsTrue, IfOk, OnOk, OnErr};
 ghost use Rattle.std.specs.Prelude.{length, slice_get};
 ghost use Rattle.std.specs.Option.{option_copied};
 ghost use Rattle.std.specs.Map.{keys_of};
+ghost use Rattle.std.specs.HashMap.{IsUnique};
+ghost use Rattle.std.specs.String.{string_eq};
+ghost use Rattle.value_table.specs.Kept.{seen_of};
 ghost use Rattle.value_table.specs.Table.{value_named, IsNamed, without, HasDistinctNames};
 ghost use Rattle.value_table.specs.Table.{users_of, users_of_point};
 
@@ -28,12 +31,14 @@ pub enum TableError {
     NoMemory,
 }
 
+// The hash is SipHash: of the faster one that maps have by default, names that collide can be worked out.
+type Values = IndexMap<String, Value, BuildHasherDefault<DefaultHasher>>;
+
 /// Values by name, in the order in which they were defined. Contracts see the list of names with
 /// their values.
 #[derive(Drop)]
 pub struct Table {
-    // The hash is SipHash: of the faster one that maps have by default, names that collide can be worked out.
-    values: IndexMap<String, Value, BuildHasherDefault<DefaultHasher>>,
+    values: Values,
     ids: BTreeMap<u32, u64>,
     points: BTreeMap<Point, u64>,
     alloc: Global,
@@ -62,6 +67,18 @@ impl Table {
             points: BTreeMap::new(alloc),
             alloc,
         }
+    }
+
+    /// The same table once more: each name and what is kept of it is copied once.
+    pub fn copied(&self) -> Result<Table, NoMemory>
+        ensures same { IfOk result (λ copy. copy ≡ self.now) }
+    {
+        Ok(Table {
+            values: copied_values(self.alloc, &self.values)?,
+            ids: self.ids.clone()?,
+            points: self.points.clone()?,
+            alloc: self.alloc,
+        })
     }
 
     /// Gives `name` to `v`, after all others.
@@ -155,4 +172,23 @@ impl Table {
     {
         users::count_of(&self.points, p)
     }
+}
+
+// The same names with the same values, in their order.
+fn copied_values(alloc: Global, values: &Values) -> Result<Values, NoMemory>
+    requires distinct { IsUnique string_eq values.now }
+    ensures same { IfOk result (λ copy. seen_of copy.entries ≡ seen_of values.now.entries) }
+    ensures distinct { IfOk result (IsUnique string_eq) }
+{
+    let count = values.len();
+    let mut copy = IndexMap::with_capacity_and_hasher(alloc, count, BuildHasherDefault::new())?;
+    for k in 0..count {
+        let Some((name, value)) = values.get_index(k) else {
+            unreachable!()
+        };
+        let name = String::from_str(alloc, name.as_str())?;
+        let value = value.copied(alloc)?;
+        copy.insert(name, value)?;
+    }
+    Ok(copy)
 }

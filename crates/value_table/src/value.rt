@@ -1,10 +1,11 @@
 //! Values, by what they are made of.
-ghost use Rattle.std.specs.Prelude.{◌≡◌, ◌<◌, AllPairs};
+ghost use Rattle.std.specs.Prelude.{◌≡◌, ◌<◌, AllPairs, IfOk};
 ghost use Rattle.rose_values.specs.Border.{ArePointsAscending};
 ghost use Rattle.value_table.specs.Value.{ids_among, points_among};
 
-use grid_base::{Kind, Point};
+use grid_base::{Kind, NoMemory, Point};
 use rose_values::PointsValue;
+use std::alloc::Global;
 use std::marker::Model;
 
 /// Ids of originals, ascending without repeats. Contracts see the list.
@@ -57,6 +58,22 @@ pub enum Parts {
 }
 
 impl Parts {
+    // The same parts once more.
+    fn copied(&self, alloc: Global) -> Result<Parts, NoMemory>
+        ensures same { IfOk result (λ copy. copy ≡ self.now) }
+    {
+        match self {
+            Parts::Points(value) => {
+                let list = Vec::from_slice(alloc, value.points())?;
+                Ok(Parts::Points(PointsValue::new(list)))
+            }
+            Parts::Ids(ids) => {
+                let list = Vec::from_slice(alloc, ids.ids())?;
+                Ok(Parts::Ids(IdList::new(list)))
+            }
+        }
+    }
+
     // The ids among the parts, ascending.
     pub(crate) fn ids(&self) -> &[u32]
         ensures ids { result.now ≡ ids_among self.now }
@@ -85,4 +102,16 @@ impl Parts {
 pub struct Value {
     pub kind: Kind,
     pub parts: Parts,
+}
+
+impl Value {
+    // The same value once more.
+    pub(crate) fn copied(&self, alloc: Global) -> Result<Value, NoMemory>
+        ensures same { IfOk result (λ copy. copy ≡ self.now) }
+    {
+        Ok(Value {
+            kind: self.kind,
+            parts: self.parts.copied(alloc)?,
+        })
+    }
 }

@@ -20,3 +20,5 @@ mod groups;
 mod running;
 #[cfg(test)]
 mod sessions;
+#[cfg(test)]
+mod sets;

@@ -4,8 +4,8 @@ use std::alloc::Global;
 use std::process::Abort;
 use std::thread::Threads;
 
-// Each session gets its replies.
-fn compare<R: Threads + Sync + Abort>(rt: &R, alloc: Global, rows: &[(&str, &str)]) {
+/// Each session gets its replies.
+pub(crate) fn compare<R: Threads + Sync + Abort>(rt: &R, alloc: Global, rows: &[(&str, &str)]) {
     for (lines, replies) in rows {
         assert!(rt;
             look(rt, alloc, lines, b"", replies, 0).is_ok(),

@@ -4,3 +4,4 @@ mod classes;
 mod geometries;
 mod numbers;
 mod parts;
+mod sets;

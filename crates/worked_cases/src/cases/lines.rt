@@ -2,8 +2,9 @@
 //! `docs/formats/LINES.md`.
 use grid_base::Reply;
 use line_grammar::{
-    At, Change, Command, LineError, Name, Path, Paths, Query, a_change_is_a_line,
-    one_command_a_text, read_line, spellable, spellable_change, write_change, write_line,
+    At, Change, Command, KeyedNames, LineError, Name, Names, Path, Paths, Query,
+    a_change_is_a_line, one_command_a_text, read_line, spellable, spellable_change, write_change,
+    write_line,
 };
 use rose_values::{Num, Op};
 use std::alloc::Global;
@@ -150,8 +151,38 @@ static NAMES: [(&str, usize); 39] = [
     ("faces 1", 6),
 ];
 
+// Lists of names, with keys and in two lists.
+static SETS: [(&str, usize); 26] = [
+    ("su", 2),
+    ("sum", 3),
+    ("sums", 3),
+    ("sum ", 4),
+    ("sum p ", 6),
+    ("sum p  q", 6),
+    ("sum p 1", 6),
+    ("sum p ; q", 6),
+    ("de", 2),
+    ("decompose", 9),
+    ("decompose p q", 11),
+    ("overlay", 7),
+    ("overlay ; q", 8),
+    ("overlay p", 9),
+    ("overlay p q", 11),
+    ("overlay p ;", 11),
+    ("overlay p ; ", 12),
+    ("overlay p; q", 9),
+    ("overlay p ;q", 11),
+    ("overlay p ; q ;", 14),
+    ("overlay p ; q r ; s", 16),
+    ("fusion", 6),
+    ("fusion p", 8),
+    ("fusion p 1 q", 12),
+    ("fusion p 01", 10),
+    ("fusion p q", 9),
+];
+
 // Every form, operator, predicate and number, with the longest name and the longest number.
-static GOOD: [&str; 46] = [
+static GOOD: [&str; 54] = [
     "point 0 9999999999999999999",
     "unpoint 7 0",
     "segment 4 5 6 7",
@@ -196,6 +227,14 @@ static GOOD: [&str; 46] = [
     "num no_of_components r",
     "faces r",
     "trace 3",
+    "sum p",
+    "sum a b abcdefghijklmnopqrstuvwxyz_01234 a",
+    "decompose p",
+    "overlay a ; b",
+    "overlay a a b ; c d",
+    "overlay a ; b c",
+    "fusion p 0",
+    "fusion p 9999999999999999999 q 2 p 2",
     "batch 2",
     "checkpoint",
 ];
@@ -230,6 +269,7 @@ fn other_lines_are_refused_where_they_go_wrong(rt: HostRuntime) {
     assert!(rt; other_place(rt.alloc(), &NUMBERS).is_none());
     assert!(rt; other_place(rt.alloc(), &LISTS).is_none());
     assert!(rt; other_place(rt.alloc(), &NAMES).is_none());
+    assert!(rt; other_place(rt.alloc(), &SETS).is_none());
 }
 
 // The line of the command that the line is read as.
@@ -274,6 +314,25 @@ fn the_parts_of_a_line_are_its_command(rt: HostRuntime) {
     assert!(rt; first.into_places().as_slice() == PLACES.split_at(2).0);
 }
 
+#[test]
+fn the_names_of_a_line_are_its_command(rt: HostRuntime) {
+    let found = read_line(rt.alloc(), b"overlay a b ; c");
+    let Ok(Command::Query(Query::Overlay(first, second))) = found else {
+        panic!(rt; "another command");
+    };
+    assert!(rt; second.names().len() == 1);
+    let mut names = first.into_names();
+    assert!(rt; names.len() == 2);
+    assert!(rt; names.pop().expect(&rt, "a name").text() == "b");
+    let found = read_line(rt.alloc(), b"fusion p 7 q 5");
+    let Ok(Command::Query(Query::Fusion(keyed))) = found else {
+        panic!(rt; "another command");
+    };
+    assert!(rt; keyed.names().len() == 2);
+    let (last, key) = keyed.into_names().pop().expect(&rt, "a name");
+    assert!(rt; last.text() == "q" && key == 5);
+}
+
 static PLACES: [At; 3] = [At { x: 1, y: 2 }, At { x: 3, y: 4 }, At { x: 5, y: 6 }];
 
 fn name(rt: &impl Abort, alloc: Global, text: &str) -> Name {
@@ -309,6 +368,10 @@ fn some_commands_have_no_line(rt: HostRuntime) {
     assert!(rt; !spellable(&Command::Query(two)));
     let one = Query::Num(Num::Dist2, name(&rt, alloc, "p"), None);
     assert!(rt; !spellable(&Command::Query(one)));
+    let none = Query::Sum(Names::new(Vec::new(alloc)));
+    assert!(rt; !spellable(&Command::Query(none)));
+    let no_key = Query::Fusion(KeyedNames::new(Vec::new(alloc)));
+    assert!(rt; !spellable(&Command::Query(no_key)));
 }
 
 // The lines of no path have a line, and those of an empty one don't.

@@ -15,3 +15,7 @@ returns-in-Some c =
           c.in-Eval.op c.operate_alone.result made wrong reply told)
           c.list_made.ensures);
     }
+
+-- what an overlay is answered is told as it is
+pub returns-in-Overlay : goal.returns-in-Overlay
+returns-in-Overlay c = record { answer = rw c.in-Overlay.is c.show_overlay.ensures }

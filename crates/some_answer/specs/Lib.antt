@@ -1,0 +1,2 @@
+-- lines that have an answer
+pub mod Answered
