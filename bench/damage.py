@@ -17,6 +17,8 @@ import rules
 LINES = [b"segment 0 0 3 1", b"segment 0 1 3 0", b"point 2 3", b"points p 1 5 2 6", b"lines l 0 7 6 7 6 9", b"point 3 7",
          b"regions r 10 0 14 0 12 4", b"segment 10 10 12 12", b"segment 10 13 13 10", b"drop p", b"unpoint 1 5", b"delete 1"]
 BEHIND = [b"segment 20 0 30 4", b"segment 26 0 26 9", b"unpoint 2 3", b"regions s 11 0 13 0 12 2", b"drop l"]
+# Versions that heads are given: those of the format, their neighbours, and numbers that have the same lower or upper byte.
+VERSIONS = [0, 1, 2, 3, 255, 256, 257, 258, 512, 65535]
 
 
 def journal():
@@ -44,7 +46,7 @@ def checkpoint():
         store.change(line)
     points = b" ".join(b"%d 100" % x for x in range(260))
     store.change(b"points many " + points)
-    store.checkpoint(rules.payload_bytes(store.state))
+    store.checkpoint()
     for line in BEHIND:
         store.change(line)
     return store.files
@@ -55,7 +57,7 @@ def page():
     store = rules.Writer()
     for line in LINES:
         store.change(line)
-    store.checkpoint(rules.payload_bytes(store.state))
+    store.checkpoint()
     return store.files
 
 
@@ -64,8 +66,32 @@ def other_page():
     store = rules.Writer()
     for line in LINES:
         store.change(line)
-    store.checkpoint(rules.payload_bytes(store.state))
-    store.checkpoint(rules.payload_bytes(store.state))
+    store.checkpoint()
+    store.checkpoint()
+    return store.files
+
+
+def first_version():
+    """A checkpoint of one page in file B with a record of one change and one of a group behind it, and the older records in file A,
+    all by version 1 of the format."""
+    store = rules.Writer(version=1)
+    for line in LINES[:6]:
+        store.change(line)
+    store.checkpoint()
+    store.change(BEHIND[0])
+    store.group(BEHIND[1:3])
+    return store.files
+
+
+def carried():
+    """Records in file A by version 1, and the state behind them in file B by version 2, with a record of one change and one of a
+    group behind it."""
+    store = rules.Writer(version=1)
+    for line in LINES[:6]:
+        store.change(line)
+    store.version = 2
+    store.change(BEHIND[0])
+    store.group(BEHIND[1:3])
     return store.files
 
 
@@ -91,6 +117,14 @@ def damages(files, values, chance):
                 yield "byte", pair(files, which, file[:at] + bytes([byte]) + file[at + 1:])
 
 
+def versions(files, values, chance):
+    """The same, and each pair of files with another version in one head."""
+    yield from damages(files, values, chance)
+    for which, file in enumerate(files):
+        for version in VERSIONS:
+            yield "version", pair(files, which, file[:8] + version.to_bytes(2, "big") + file[10:])
+
+
 def sealed(files, values, chance):
     """Each pair of files with one byte of page 1 of the newest file changed and the digest of the page made anew."""
     which = 0 if files[1] < files[0] else 1
@@ -104,7 +138,8 @@ def sealed(files, values, chance):
 
 
 STORES = {"journal": (journal, damages), "groups": (groups, damages), "checkpoint": (checkpoint, damages), "page": (page, sealed),
-          "other_page": (other_page, sealed), "twins": (twins, damages)}
+          "other_page": (other_page, sealed), "first_version": (first_version, versions), "carried": (carried, versions),
+          "twins": (twins, damages)}
 
 
 def pair(files, which, file):

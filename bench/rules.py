@@ -8,6 +8,8 @@ from fractions import Fraction
 ROOM = 4_054
 # The side of the grid, for all scripts.
 SIDE = 2 ** 30
+# The versions of the format. Both are read by the same rules, and the last one is written.
+VERSIONS = (1, 2)
 NUMBER = re.compile(rb"0|[1-9][0-9]{0,18}")
 NAME = re.compile(rb"[a-z][a-z0-9_]{0,31}")
 KINDS = {1: "points", 2: "lines", 3: "regions"}
@@ -244,6 +246,10 @@ class State:
         self.redraw(u, without_repeats([u[0], (x, y + 1), (x, y), (x + 1, y), u[1]]))
         self.redraw(t, without_repeats([t[0], (x, y), t[1]]))
 
+    def is_empty(self):
+        """Whether it is the state of files of which neither counts. Nothing is in it then, and no id was given."""
+        return (self.changes, self.next_id) == (0, 1) and not (self.points or self.originals or self.values or self.traces)
+
     def copy(self):
         other = State()
         other.changes, other.next_id = self.changes, self.next_id
@@ -474,7 +480,7 @@ def state_of(payload):
     values = source.items(source.value)
     state.traces = source.items(source.trace)
     source.end()
-    if (state.changes, state.next_id) == (0, 1) and not (state.points or originals or values or state.traces):
+    if state.is_empty() and not originals and not values:
         raise Outside
     if state.changes > 2 ** 63 or not 1 <= state.next_id <= 2 ** 32:
         raise Outside
@@ -507,9 +513,9 @@ def add_value(state, name, kind, parts):
 def head_of(file):
     """Generation, pages and length of the payload of a file that counts."""
     source = Source(file[1:4096])
-    name, generation = source.bytes(9), source.number(8)
-    pages, length = source.number(8), source.number(8)
-    if source.bytes(4062).strip(b"\0") or name != b"ROSEREL\0\1" or not 1 <= generation <= 2 ** 63:
+    name, version = source.bytes(7), source.number(2)
+    generation, pages, length = source.number(8), source.number(8), source.number(8)
+    if source.bytes(4062).strip(b"\0") or name != b"ROSEREL" or version not in VERSIONS or not 1 <= generation <= 2 ** 63:
         raise Outside
     if pages != -(-length // ROOM) or 4096 * (pages + 1) >= 2 ** 64:
         raise Outside
@@ -632,6 +638,8 @@ def points_bytes(points):
 
 
 def payload_bytes(state):
+    if state.is_empty():
+        return b""
     originals = [number.to_bytes(4, "big") + point_bytes(a) + point_bytes(b) + points_bytes(chain)
                  for number, ((a, b), chain) in state.originals.items()]
     numbers = {kind: number for number, kind in KINDS.items()}
@@ -644,18 +652,24 @@ def payload_bytes(state):
 
 
 class Writer:
-    """The state after some lines, and the two files that stand for it."""
+    """The state after some lines, and the two files that stand for it, written by this version of the format. Another version may
+    be given between two lines, as when a newer program goes on with the files."""
 
-    def __init__(self):
-        self.state, self.files, self.generation = State(), [b"", b""], 0
+    def __init__(self, version=VERSIONS[-1]):
+        self.state, self.files, self.generation, self.version = State(), [b"", b""], 0, version
+        # That of the newest file; 0 where neither counts.
+        self.version_of_newest = 0
 
     def newest(self):
         return 1 - self.generation % 2
 
-    def checkpoint(self, payload):
-        self.generation += 1
+    def checkpoint(self):
+        """Puts the state on the file that isn't the newest, as the next generation."""
+        self.generation, self.version_of_newest = self.generation + 1, self.version
+        payload = payload_bytes(self.state)
         parts = [payload[i:i + ROOM] for i in range(0, len(payload), ROOM)]
-        file = b"\xa5ROSEREL\0\1" + b"".join(n.to_bytes(8, "big") for n in (self.generation, len(parts), len(payload))) + bytes(4062)
+        file = b"\xa5ROSEREL" + self.version.to_bytes(2, "big")
+        file += b"".join(n.to_bytes(8, "big") for n in (self.generation, len(parts), len(payload))) + bytes(4062)
         for number, part in enumerate(parts, 1):
             body = body_of(number, part)
             file += body + hashlib.sha256(body).digest()
@@ -679,9 +693,10 @@ class Writer:
         return entry_bytes(line, steps)
 
     def append(self, body_behind):
-        """Puts a record with this body, whose first change is the next one, behind the last."""
-        if self.generation == 0:
-            self.checkpoint(b"")
+        """Puts a record with this body, whose first change is the next one, behind the last. Where no file counts, or the newest is
+        of an earlier version, it comes behind a generation of its own."""
+        if self.version_of_newest < self.version:
+            self.checkpoint()
         body = body_behind((self.state.changes + 1).to_bytes(8, "big"))
         file = self.files[self.newest()]
         self.files[self.newest()] = file[:-1] + b"\xa5" + len(body).to_bytes(8, "big") + body + b"\0"

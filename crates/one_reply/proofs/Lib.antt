@@ -16,6 +16,8 @@ mod OneQuery
 mod OnePayload
 -- a state that fits into pages has one
 mod SomePayload
+-- room for a record, or what is lacking
+pub mod Rooms
 -- what a change comes to
 mod OneChange
 -- the reply to a line

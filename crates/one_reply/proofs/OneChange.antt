@@ -1,6 +1,6 @@
 -- This file shows that a change has one answer, but for its trace.
-use Rattle.std.proofs.Common.{◌≡◌, ◌<◌, ◌^◌, ℕ, ◌+◌, ◌-◌, List, [], ◌∷◌, ◌++◌, length, Option, Some, None, MatchOption}
-use Rattle.std.proofs.Common.{sym, ap, subst, ◌∙◌, inl, inr, arith}
+use Rattle.std.proofs.Common.{◌≡◌, ℕ, ◌+◌, ◌-◌, List, [], ◌∷◌, ◌++◌, length, Option, Some, None, MatchOption}
+use Rattle.std.proofs.Common.{sym, ap, subst, ◌∙◌, inl, inr}
 use Rattle.grid_base.specs.declared.kinds.Step.{Step}
 use Rattle.line_grammar.specs.declared.command.Change.{Change}
 use Rattle.realm_insert.specs.State.{State}
@@ -11,9 +11,10 @@ use Rattle.realm_insert.specs.declared.refusal.Refusal.{Refusal}
 use Rattle.realm_insert.proofs.OneFigure.{one_figure}
 use Rattle.realm_insert.proofs.SameStates.{one_state, none_is_first, not_refused}
 use Rattle.realm_store.specs.Keeping.{Kept, Group, SpendableKept, state_with, present}
-use Rattle.realm_store.specs.Making.{next_gate, place_behind, entry_of, record_of, IsMade, IsRefusedFor, Joins, Commits}
+use Rattle.realm_store.specs.Making.{HasRoom, place_behind, entry_of, record_of, IsMade, IsRefusedFor, Joins, Commits}
 use Rattle.realm_store.specs.Replies.{ok_reply}
 use Rattle.one_reply.specs.Outcomes.{IsMadeTwice, JoinsTwice, IsWrittenTwice, IsJoinedTwice, CommitsTwice}
+use Rattle.one_reply.proofs.Rooms.{one_lack, never_both}
 
 -- ---- refusals
 -- the first of a list that has its cause is one
@@ -24,19 +25,19 @@ first_is_one (r ∷ list) c s a b (inl here) (inr later) = absurd (later.0 here.
 first_is_one (r ∷ list) c s a b (inr later) (inl here) = absurd (later.0 here.0)
 first_is_one (r ∷ list) c s a b (inr one) (inr other) = first_is_one list c s a b one.1 other.1
 
--- the first cause in the state, or that the file is full where there is none
+-- the first cause in the state, or that there is no room where there is none
 pub one_refusal : (c : Change) (state : State) (kept : Kept) (a b : Refusal) → IsRefusedFor c state kept a
     → IsRefusedFor c state kept b → a ≡ b
 one_refusal c state kept a b (inl one) (inl other) = first_is_one order_of_refusals c state a b one other
-one_refusal c state kept a b (inl one) (inr full) = absurd (none_is_first order_of_refusals c state a full.0 one)
-one_refusal c state kept a b (inr full) (inl other) = absurd (none_is_first order_of_refusals c state b full.0 other)
-one_refusal c state kept a b (inr full) (inr other) = full.2 ∙ sym other.2
+one_refusal c state kept a b (inl one) (inr lacking) = absurd (none_is_first order_of_refusals c state a lacking.0 one)
+one_refusal c state kept a b (inr lacking) (inl other) = absurd (none_is_first order_of_refusals c state b lacking.0 other)
+one_refusal c state kept a b (inr lacking) (inr other) = one_lack kept a b lacking.1 other.1
 
--- what is refused isn't settled where the file has room
+-- what is refused isn't settled where there is room
 refused_or_settled : (c : Change) (kept : Kept) (word : Refusal) (steps : List Step) (old new : State)
-    → IsRefusedFor c old kept word → Next old c steps new → next_gate kept < 2 ^ 61 → ⊥
+    → IsRefusedFor c old kept word → Next old c steps new → HasRoom kept → ⊥
 refused_or_settled c kept word steps old new (inl refused) next room = not_refused old new c steps word next refused
-refused_or_settled c kept word steps old new (inr full) next room = omega (arith, full.1, room)
+refused_or_settled c kept word steps old new (inr lacking) next room = never_both kept word room lacking.1
 
 -- so it is neither made nor does it join the group
 pub not_both : (c : Change) (old : SpendableKept) (word : Refusal) (reply : List ℕ) (new : SpendableKept)

@@ -11,22 +11,19 @@ use Rattle.grid_base.specs.declared.original.Original.{Original}
 use Rattle.line_grammar.specs.Spellable.{IsName}
 use Rattle.record_codec.specs.Fitting.{IsList}
 use Rattle.record_codec.specs.Payload.{IsOriginal, IsValue, IsNamed, IsKeptTrace, payload}
-use Rattle.record_codec.specs.declared.snapshot.Kept.{Kept}
-use Rattle.record_codec.specs.declared.snapshot.Snapshot.{Snapshot}
-use Rattle.state_check.specs.Tabled.{entry_of, kept_parts, parts_of, AreAscending}
+use Rattle.state_check.specs.Tabled.{kept_parts, AreAscending}
 use Rattle.state_check.proofs.Copying.{fits_as_list}
 use Rattle.value_geometry.specs.Parts.{AreOriginals, HasParts}
-use Rattle.value_table.specs.declared.value.Value.{Value}
 use Rattle.value_table.specs.declared.value.Parts.{Parts}
 use Rattle.value_table.specs.declared.value.Parts.TheVariants.{Points, Ids}
 use Rattle.realm_drawing.specs.Chains.{HasValidChain}
 use Rattle.realm_drawing.specs.Straight.{along}
 use Rattle.realm_drawing.proofs.Progress.{chain_is_short}
-use Rattle.realm_insert.specs.State.{State, kept_trace}
-use Rattle.realm_insert.specs.Snapshots.{state_of, kept_steps, IsValidState}
+use Rattle.realm_insert.specs.State.{State}
+use Rattle.realm_insert.specs.Snapshots.{snapshot_for, kept_entry, kept_steps, IsValidState}
+use Rattle.realm_insert.proofs.OneSnapshot.{state_again}
 use Rattle.realm_store.specs.Stands.{Opens}
 use Rattle.one_reply.specs.Payloads.{LiesOnGrid, FitsInPages}
-use Rattle.one_reply.proofs.OnePayload.{kept_entry, taken_back}
 
 -- ---- lists that ascend
 -- from its first number on, each number of the list takes another one below the bound
@@ -149,43 +146,12 @@ traces_fit s valid =
     }))
 
 -- ---- all of it
--- field by field
-abbrev snapshot_of : State → Snapshot
-snapshot_of s = record {
-  changes = s.changes;
-  next_id = s.next_id;
-  points = s.drawing.points;
-  originals = s.drawing.originals;
-  values = map kept_entry s.values;
-  traces = map kept_steps s.traces;
-}
-
-parts_again : (parts : Parts) → parts_of (kept_parts parts) ≡ parts
-parts_again (Points list) = refl
-parts_again (Ids ids) = refl
-
-entry_again : (entry : List ℕ × Value) → entry_of (kept_entry entry) ≡ entry
-entry_again entry =
-    ap (λ (made : Parts). (entry.0, record { kind = entry.1.kind; parts = made })) (parts_again entry.1.parts)
-
-state_again : (s : State) → state_of (snapshot_of s) ≡ s
-state_again s =
-    let values = taken_back kept_entry entry_of entry_again s.values in
-    let traces = taken_back kept_steps (λ (k : Kept). kept_trace k.number k.steps) (λ t. refl) s.traces in
-    λ i. record {
-      drawing = s.drawing;
-      next_id = s.next_id;
-      values = values i;
-      changes = s.changes;
-      traces = traces i;
-    }
-
 -- its payload is that of the state
 pub some_payload : (s : State) → IsValidState s → FitsInPages s → (bytes : List ℕ) × Opens bytes s
 some_payload s valid fits = (
-  payload (snapshot_of s),
+  payload (snapshot_for s),
   record {
-    snapshot = snapshot_of s;
+    snapshot = snapshot_for s;
     is_snapshot = record {
       changes = omega (arith, valid.most_changes);
       next_id = omega (arith, valid.most_ids);

@@ -12,7 +12,7 @@ use Rattle.realm_journal.specs.Gates.{IsClosedAt, HasClosedAt, IsWholeAt}
 use Rattle.realm_journal.specs.Appending.{IsPart, Appended}
 use Rattle.realm_pages.specs.Generations.{gate_of}
 use Rattle.realm_files.specs.Meaning.{Meaning}
-use Rattle.realm_files.specs.Stands.{Files, StandsOn, numbered}
+use Rattle.realm_files.specs.Stands.{Files, StandsOn, generation_at}
 use Rattle.realm_files.specs.Keeping.{at_gate, RestsAt, AllRest}
 use Rattle.realm_files.specs.Writing.{with_gate, RestsBetween, Committed}
 use Rattle.realm_files.specs.declared.place.Place.{Place}
@@ -27,7 +27,7 @@ module _ {S : Type 0} (m : Meaning S) where
       (others : (f : FileName) → f ≢ place.file → files f ≡ was f)
       (front : take place.next (files place.file) ≡ take place.next (was place.file)) where
     abbrev gate : ℕ
-    gate = gate_of (numbered place.generation stands.payload)
+    gate = gate_of (generation_at place stands.payload)
 
     reach : gate ≤ place.next
     reach = led_reach m stands.first stands.records gate (was place.file) state place.next stands.lead.0
@@ -36,7 +36,7 @@ module _ {S : Type 0} (m : Meaning S) where
     stands_front : IsClosedAt place.next (files place.file) → StandsOn m files state place
     stands_front closed = record {
       payload = stands.payload;
-      newest = newest_front (numbered place.generation stands.payload) was files place.file place.next reach others front stands.newest;
+      newest = newest_front (generation_at place stands.payload) was files place.file place.next reach others front stands.newest;
       first = stands.first;
       opens = stands.opens;
       records = stands.records;
@@ -52,7 +52,7 @@ module _ {S : Type 0} (m : Meaning S) where
         → StandsOn m files after (with_gate place (place.next + 1 + length (record_text r)))
     stands_more after r is_record leads whole = record {
       payload = stands.payload;
-      newest = newest_front (numbered place.generation stands.payload) was files place.file place.next reach others front stands.newest;
+      newest = newest_front (generation_at place stands.payload) was files place.file place.next reach others front stands.newest;
       first = stands.first;
       opens = stands.opens;
       records = stands.records ++ r ∷ [];

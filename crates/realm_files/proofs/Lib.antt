@@ -24,3 +24,5 @@ pub mod Syncs
 pub mod Alones
 -- the gate before a record is made ready
 pub mod ReadyGates
+-- files stand for the same by a wider meaning
+pub mod Wider

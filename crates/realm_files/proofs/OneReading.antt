@@ -11,7 +11,7 @@ use Rattle.realm_pages.specs.declared.damage.Damage.TheVariants.{BadSnapshot, Ba
 use Rattle.realm_pages.proofs.FilesOnce.{generation_once, no_damage, damage_once, damage_counts}
 use Rattle.realm_files.specs.Meaning.{Meaning}
 use Rattle.realm_files.specs.Rows.{AreLed, LacksRecord}
-use Rattle.realm_files.specs.Stands.{Files, StandsOn, StandsAt, StandsFor, ReachesTo, numbered}
+use Rattle.realm_files.specs.Stands.{Files, StandsOn, StandsAt, StandsFor, ReachesTo, generation_at}
 use Rattle.realm_files.specs.Keeping.{Kept, RestsAt, KnowsGate, StandsGated}
 use Rattle.realm_files.specs.Damages.{IsNoState, HasBadRecord, IsDamaged}
 use Rattle.realm_files.specs.declared.place.Place.{Place}
@@ -49,7 +49,7 @@ module _ {S : Type 0} (m : Meaning S) (opens_once : (payload : List ℕ) (s t : 
       (file, same, row.0, row.1, one.count_is ∙ row.2 ∙ sym also.count_is)
 
   row_stands : {state : S} {place : Place} (stands : StandsOn m files state place)
-      → Row place.file (numbered place.generation stands.payload) state place.next (length stands.records)
+      → Row place.file (generation_at place stands.payload) state place.next (length stands.records)
   row_stands {state} {place} stands = record {
     newest = stands.newest;
     first = stands.first;
@@ -74,8 +74,13 @@ module _ {S : Type 0} (m : Meaning S) (opens_once : (payload : List ℕ) (s t : 
 
   -- ---- one state
 
-  same_place : (p q : Place) → p.file ≡ q.file → p.generation ≡ q.generation → p.next ≡ q.next → p ≡ q
-  same_place p q file generation next = λ i. record { file = file i; generation = generation i; next = next i }
+  same_place : (p q : Place) → p.file ≡ q.file → p.version ≡ q.version → p.generation ≡ q.generation → p.next ≡ q.next → p ≡ q
+  same_place p q file version generation next = λ i. record {
+    file = file i;
+    version = version i;
+    generation = generation i;
+    next = next i;
+  }
 
   pub stands_once : (s t : S) (p q : Option Place) → StandsAt m files s p → StandsAt m files t q → (s ≡ t) × (p ≡ q)
   stands_once s t None None one also = (one.1 ∙ sym also.1, refl)
@@ -83,7 +88,9 @@ module _ {S : Type 0} (m : Meaning S) (opens_once : (payload : List ℕ) (s t : 
   stands_once s t (Some p) None one also = absurd (also.0 p.file one.newest.holds.counts)
   stands_once s t (Some p) (Some q) one also =
       let (file, generation, state, next, count) = rows_once (row_stands one) (row_stands also) in
-      (state, ap (λ x. Some x) (same_place p q file (ap (λ (g : Generation). g.number) generation) next))
+      let version : p.version ≡ q.version = ap (λ (g : Generation). g.version) generation in
+      let number : p.generation ≡ q.generation = ap (λ (g : Generation). g.number) generation in
+      (state, ap (λ x. Some x) (same_place p q file version number next))
 
   -- where they reach to a next gate that is there in one reading, it is there in each that knows it
   pub has_gate : {state : S} {kept : Kept S} → StandsGated m files state → RestsAt m kept files → KnowsGate kept files

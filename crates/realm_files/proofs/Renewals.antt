@@ -17,9 +17,9 @@ use Rattle.realm_pages.specs.Switching.{Switched, MayTake, HasSameNewest, IsNewe
 use Rattle.realm_pages.proofs.FilesOnce.{newest_once}
 use Rattle.realm_files.specs.Meaning.{Meaning}
 use Rattle.realm_files.specs.Rows.{AreRecords}
-use Rattle.realm_files.specs.Stands.{Files, StandsAt, ReachesTo, numbered}
+use Rattle.realm_files.specs.Stands.{Files, StandsAt, ReachesTo, numbered, generation_at}
 use Rattle.realm_files.specs.Keeping.{Kept, RestsAt, AllRest, at_gate}
-use Rattle.realm_files.specs.Writing.{other_file, next_file, next_generation, renewed_place, Renewed}
+use Rattle.realm_files.specs.Writing.{other_file, next_file, next_generation, version_now, renewed_place, Renewed}
 use Rattle.realm_files.specs.declared.place.Place.{Place}
 use Rattle.realm_files.proofs.Pairs.{not_a, not_b, same_or}
 use Rattle.realm_files.proofs.Rests.{stable_by_writing, rest_in_each}
@@ -46,7 +46,7 @@ module _ {S : Type 0} (m : Meaning S) where
       → (h : Header) × HasHead (files f) h × (h.generation < next_generation place)
   older_at state None f files stands counts = absurd (stands.0 f counts)
   older_at state (Some place) f files stands counts =
-      let g = numbered place.generation stands.payload in
+      let g = generation_at place stands.payload in
       ⊎_elim
       (λ same. (
         header_of g,
@@ -69,7 +69,7 @@ module _ {S : Type 0} (m : Meaning S) where
       → StandsAt m before state place → StandsAt m files state place
   stands_same state None same stands = (same.none stands.0, stands.1)
   stands_same state (Some place) same stands =
-      let g = numbered place.generation stands.payload in
+      let g = generation_at place stands.payload in
       let (newest, bytes) = same.newest place.file (header_of g) stands.newest.newest in
       record {
         payload = stands.payload;
@@ -85,7 +85,7 @@ module _ {S : Type 0} (m : Meaning S) where
       → StandsAt m before state place → ReachesTo before place has_gate → ReachesTo files place has_gate
   reach_same state has_gate None same stands reach = reach
   reach_same state has_gate (Some place) same stands reach =
-      let g = numbered place.generation stands.payload in
+      let g = generation_at place stands.payload in
       let (newest, bytes) = same.newest place.file (header_of g) stands.newest.newest in
       subst (λ (l : List ℕ). (place.next ≤ length l) × (has_gate ≡ true → place.next < length l)) (sym bytes) reach
 
@@ -95,11 +95,15 @@ module _ {S : Type 0} (m : Meaning S) where
     reach = reach_same kept.state kept.has_gate kept.place same rests.stands rests.reach;
   }
 
-  -- files of which the newest holds this generation and no record rest at its first gate
-  rests_renewed : {state : S} (file : FileName) (number : ℕ) (payload : List ℕ) → m.opens payload state → (files : Files)
-      → HoldsNewest files file (numbered number payload) → HoldsAlone (files file) (numbered number payload)
-      → RestsAt m (at_gate state (record { file = file; generation = number; next = gate_of (numbered number payload) })) files
-  rests_renewed {state} file number payload opens files newest alone = record {
+  -- where the first record's gate stands in a file that holds the generation
+  abbrev first_gate : FileName → Generation → Place
+  first_gate file g = record { file = file; version = g.version; generation = g.number; next = gate_of g }
+
+  -- files of which the newest holds this generation and no record rest there
+  rests_renewed : {state : S} (file : FileName) (version number : ℕ) (payload : List ℕ) → m.opens payload state → (files : Files)
+      → HoldsNewest files file (numbered version number payload) → HoldsAlone (files file) (numbered version number payload)
+      → RestsAt m (at_gate state (first_gate file (numbered version number payload))) files
+  rests_renewed {state} file version number payload opens files newest alone = record {
     stands = record {
       payload = payload;
       newest = newest;
@@ -112,8 +116,12 @@ module _ {S : Type 0} (m : Meaning S) where
   }
 
   module _ {old : View} (kept : Kept S) (rest : AllRest m kept old) where
-    -- so where all rests, the next generation may be put on the other file
-    may_take : (payload : List ℕ) → MayTake old (next_file kept.place) (numbered (next_generation kept.place) payload)
+    -- the next generation
+    abbrev next_with : List ℕ → Generation
+    next_with payload = numbered version_now (next_generation kept.place) payload
+
+    -- where all rests, it may be put on the other file
+    may_take : (payload : List ℕ) → MayTake old (next_file kept.place) (next_with payload)
     may_take payload = record {
       older = λ f c image counts.
           let same = rest.stable f c image in
@@ -127,7 +135,7 @@ module _ {S : Type 0} (m : Meaning S) where
       place = renewed_place kept.place payload
 
       abbrev g : Generation
-      g = numbered place.generation payload
+      g = next_with payload
 
       abbrev RestAtEither : Files → Type 0
       RestAtEither files = RestsAt m kept files ⊎ RestsAt m (at_gate kept.state place) files
@@ -135,7 +143,7 @@ module _ {S : Type 0} (m : Meaning S) where
       -- and while it is put there, the files rest at what is kept, or behind it
       at_moment : (files : Files) → IsNewestKept old place.file g files → RestAtEither files
       at_moment files (inl (before, images, same)) = inl (rests_same same (rest_in_each m rest before images))
-      at_moment files (inr (newest, alone)) = inr (rests_renewed place.file place.generation payload opens files newest alone)
+      at_moment files (inr (newest, alone)) = inr (rests_renewed place.file version_now place.generation payload opens files newest alone)
 
       module _ (new : View) (counts : (a : Moment) → MayLeave new a → new.left_since old.moment a)
           (only : (a : Moment) → old.left_since old.moment a → MayLeave old a) where
@@ -166,24 +174,23 @@ module _ {S : Type 0} (m : Meaning S) where
                 → OnOk r (AllRest m (at_gate kept.state place) new)
             at_ok (Ok n) whole stable newest = record {
               stable = stable_by_writing switched.writes rest.stable stable;
-              rests = rests_renewed place.file place.generation payload opens new.reads (newest new.reads reads)
+              rests = rests_renewed place.file version_now place.generation payload opens new.reads (newest new.reads reads)
                   (whole (new.reads place.file) (reads place.file));
             }
             at_ok (Err e) whole stable newest = tt
 
-    -- so it is with each generation that has the next number and a payload of this state
+    -- so it is with each generation of this version that has the next number and a payload of this state
     pub renewed_by : {new : View} {file : FileName} {g : Generation} {r : Result ℕ SwitchError} → file ≡ next_file kept.place
-        → g.number ≡ next_generation kept.place → m.opens g.payload kept.state
+        → g.version ≡ version_now → g.number ≡ next_generation kept.place → m.opens g.payload kept.state
         → ((f : FileName) → new.image f (new.reads f))
         → ((a : Moment) → MayLeave new a → new.left_since old.moment a)
         → ((a : Moment) → old.left_since old.moment a → MayLeave old a) → Switched old new file g r
         → (MayTake old file g → KeepsNewest old new file g r)
         → Renewed m old new kept (at_gate kept.state (renewed_place kept.place g.payload)) r
-    renewed_by {new} {file} {g} {r} there number opens reads counts only switched keeps =
-        let next : g ≡ numbered (next_generation kept.place) g.payload = λ i. numbered (number i) g.payload in
-        let to = subst (λ f. Switched old new f (numbered (next_generation kept.place) g.payload) r) there
+    renewed_by {new} {file} {g} {r} there version number opens reads counts only switched keeps =
+        let next : g ≡ next_with g.payload = λ i. numbered (version i) (number i) g.payload in
+        let to = subst (λ f. Switched old new f (next_with g.payload) r) there
         (subst (λ (k : Generation). Switched old new file k r) next switched) in
-        let on = subst (λ f. MayTake old f (numbered (next_generation kept.place) g.payload)
-        → KeepsNewest old new f (numbered (next_generation kept.place) g.payload) r) there
+        let on = subst (λ f. MayTake old f (next_with g.payload) → KeepsNewest old new f (next_with g.payload) r) there
         (subst (λ (k : Generation). MayTake old file k → KeepsNewest old new file k r) next keeps) in
         renewed g.payload opens new counts only r reads to (on (may_take g.payload))

@@ -59,7 +59,7 @@ module _ {S : Type 0} (m : Meaning S) where
   stands_gated {kept} {files} has rests =
       (kept.place, record { stands = rests.stands; reach = subst (λ b. ReachesTo files kept.place b) has rests.reach })
 
-  -- also where that gate came with a first generation
+  -- also where that gate came with a generation of its own
   pub stands_gated_from : {kept : Kept S} {files : Files} → kept.has_gate ≡ true → RestsFrom m kept files
       → StandsGated m files kept.state
   stands_gated_from has (inl rests) = stands_gated has rests

@@ -11,9 +11,9 @@ use Rattle.realm_files.specs.Rows.{AreRecords}
 use Rattle.realm_files.specs.Stands.{Files}
 use Rattle.realm_files.specs.declared.place.Place.{Place}
 
--- the head of the first generation, which has no page
+-- the head of the first generation, which has no page, by the first version of the format
 abbrev pub first_head : Header
-first_head = record { generation = 1; pages = 0; length = 0 }
+first_head = record { version = 1; generation = 1; pages = 0; length = 0 }
 
 -- a file that counts, with this head, and its records behind it
 pub record HoldsRecords {S : Type 0} (m : Meaning S) (file : List ℕ) (state : S) (next : ℕ) : Type 0 where
@@ -35,4 +35,4 @@ alone file B = []
 -- the place in file A, of the first generation
 abbrev pub place_alone : Option ℕ → Option Place
 place_alone None = None
-place_alone (Some next) = Some (record { file = A; generation = 1; next = next })
+place_alone (Some next) = Some (record { file = A; version = 1; generation = 1; next = next })

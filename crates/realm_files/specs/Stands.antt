@@ -13,19 +13,23 @@ use Rattle.realm_files.specs.declared.place.Place.{Place}
 abbrev pub Files : Type 0
 Files = FileName → List ℕ
 
--- a payload, and the number of its generation
-abbrev pub numbered : ℕ → List ℕ → Generation
-numbered number payload = record { number = number; payload = payload }
+-- a payload, the version of its format, and the number of its generation
+abbrev pub numbered : ℕ → ℕ → List ℕ → Generation
+numbered version number payload = record { version = version; number = number; payload = payload }
+
+-- the generation of this place, with this payload
+abbrev pub generation_at : Place → List ℕ → Generation
+generation_at place payload = numbered place.version place.generation payload
 
 -- The file of this place is the newest, with its generation. Its payload opens a state, and its records lead from there
 -- to this one, up to the gate of this place, which is closed.
 pub record StandsOn {S : Type 0} (m : Meaning S) (files : Files) (state : S) (place : Place) : Type 0 where
   pub payload : List ℕ
-  pub newest : HoldsNewest files place.file (numbered place.generation payload)
+  pub newest : HoldsNewest files place.file (generation_at place payload)
   pub first : S
   pub opens : m.opens payload first
   pub records : List Record
-  pub lead : AreRecords m first records (gate_of (numbered place.generation payload)) (files place.file) state place.next
+  pub lead : AreRecords m first records (gate_of (generation_at place payload)) (files place.file) state place.next
 
 -- neither file counts
 abbrev pub NoneCounts : Files → Type 0

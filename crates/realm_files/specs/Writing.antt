@@ -1,5 +1,5 @@
 -- What each kind of writing does to the files, and what a crash may leave meanwhile.
-use Rattle.std.specs.Prelude.{◌≡◌, ◌⊎◌, ◌+◌, ℕ, true, List, Option, Some, None, Result, OnOk}
+use Rattle.std.specs.Prelude.{◌≡◌, ◌⊎◌, ◌+◌, ◌==◌, if◌then◌else◌, ℕ, Bool, true, List, Option, Some, None, Result, OnOk}
 use Rattle.outside_world.specs.declared.world.FileName.{FileName}
 use Rattle.outside_world.specs.declared.world.FileName.TheVariants.{A, B}
 use Rattle.outside_world.specs.View.{View}
@@ -12,18 +12,10 @@ use Rattle.realm_files.specs.declared.place.Place.{Place}
 
 -- ---- places
 
--- the same file and generation, with the next gate there
+-- the same file, version and generation, with the next gate there
 abbrev pub with_gate : Place → ℕ → Place
-with_gate place next = record { file = place.file; generation = place.generation; next = next }
-
--- where the first record of all stands: in file A, behind a first generation without pages
-abbrev pub first_place : Place
-first_place = record { file = A; generation = 1; next = 4096 }
-
--- where the next record's gate stands, or will stand where no file counts yet
-abbrev pub place_or_first : Option Place → Place
-place_or_first None = first_place
-place_or_first (Some place) = place
+with_gate place next =
+    record { file = place.file; version = place.version; generation = place.generation; next = next }
 
 -- the other of the two files
 abbrev pub other_file : FileName → FileName
@@ -44,13 +36,32 @@ generation_of (Some place) = place.generation
 abbrev pub next_generation : Option Place → ℕ
 next_generation place = generation_of place + 1
 
+-- the version that each generation is written in
+abbrev pub version_now : ℕ
+version_now = 2
+
 -- where the first record of the next generation will stand, if that has this payload
 abbrev pub renewed_place : Option Place → List ℕ → Place
 renewed_place place payload = record {
   file = next_file place;
+  version = version_now;
   generation = next_generation place;
-  next = gate_of (numbered (next_generation place) payload);
+  next = gate_of (numbered version_now (next_generation place) payload);
 }
+
+-- The next record comes behind a generation of its own: no file counts yet, or the newest is of the first version.
+abbrev pub wants_generation : Option Place → Bool
+wants_generation None = true
+wants_generation (Some place) = place.version == 1
+
+-- where the next record's gate stands, or will stand behind a generation with this payload
+abbrev pub gate_place : Option Place → List ℕ → Place
+gate_place None payload = renewed_place None payload
+gate_place (Some place) payload = if place.version == 1 then renewed_place (Some place) payload else place
+
+-- and that of what is kept, whose payload such a generation has
+abbrev pub place_for : {S : Type 0} → Meaning S → Kept S → Place
+place_for m kept = gate_place kept.place (m.payload kept.state)
 
 -- ---- a run of calls
 
@@ -79,9 +90,9 @@ pub record Renewed {S : Type 0} {T E : Type 0} (m : Meaning S) (old new : View) 
 
 -- ---- the gate before a record
 
--- The files rest at what is kept; or at its next gate, once that is there: behind a first generation where no file counted.
+-- The files rest at what is kept; or at its next gate, once that is there: behind a generation of its own where one is wanted.
 abbrev pub RestsFrom : {S : Type 0} → Meaning S → Kept S → Files → Type 0
-RestsFrom m kept files = RestsAt m kept files ⊎ RestsAt m (at_gate kept.state (place_or_first kept.place)) files
+RestsFrom m kept files = RestsAt m kept files ⊎ RestsAt m (at_gate kept.state (place_for m kept)) files
 
 -- The gate at this place is there, closed: a generation was put before it, its byte was added, or nothing was to be done;
 -- or the disk failed before that. Where the gate's byte was missing, nothing is said of what crashes leave meanwhile.

@@ -68,5 +68,7 @@ pub mod DrawnAlready
 pub mod RestoredIndex
 -- engines made of snapshots
 pub mod RestoredStates
+-- that a state is kept by one snapshot
+pub mod OneSnapshot
 -- that what an engine keeps is a valid state
 pub mod KeptStates

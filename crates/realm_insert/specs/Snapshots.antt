@@ -1,17 +1,20 @@
 -- Snapshots of states, and which states are valid.
-use Rattle.std.specs.Prelude.{◌≡◌, ◌≤◌, ◌^◌, List, map, All, AllPairs}
+use Rattle.std.specs.Prelude.{◌≡◌, ◌≤◌, ◌^◌, ℕ, List, map, All, AllPairs}
 use Rattle.grid_base.specs.Point.{IsBefore}
 use Rattle.grid_base.specs.Drawing.{IsDrawnRealm}
 use Rattle.realm_drawing.specs.Chains.{AllValid}
 use Rattle.realm_drawing.specs.Ids.{IsAscending}
 use Rattle.realm_drawing.specs.Keyed.{KeyedDrawing}
 use Rattle.realm_index.specs.Index.{Entries}
+use Rattle.record_codec.specs.Payload.{payload}
 use Rattle.record_codec.specs.Traces.{IsTrace}
 use Rattle.record_codec.specs.declared.snapshot.Kept.{Kept}
+use Rattle.record_codec.specs.declared.snapshot.Named.{Named}
 use Rattle.record_codec.specs.declared.snapshot.Snapshot.{Snapshot}
 use Rattle.state_check.specs.Drawable.{drawing_with, IsDrawable}
-use Rattle.state_check.specs.Tabled.{entries_of, AreAscending, AreTabled}
+use Rattle.state_check.specs.Tabled.{entries_of, kept_parts, AreAscending, AreTabled}
 use Rattle.value_table.specs.Table.{NamedValues, HasDistinctNames}
+use Rattle.value_table.specs.declared.value.Value.{Value}
 use Rattle.realm_insert.specs.Kept.{IsAtRest}
 use Rattle.realm_insert.specs.State.{State, KeptTrace, kept_trace, HasIdsBelow, AreLatest}
 use Rattle.realm_insert.specs.Values.{AreValuesOf}
@@ -24,6 +27,10 @@ traces_in traces = map (λ k. kept_trace k.number k.steps) traces
 abbrev pub kept_steps : KeptTrace → Kept
 kept_steps t = record { number = t.number; steps = t.steps }
 
+-- a name with its value, as a snapshot keeps it
+abbrev pub kept_entry : List ℕ × Value → Named
+kept_entry entry = record { name = entry.0; value = record { kind = entry.1.kind; parts = kept_parts entry.1.parts } }
+
 -- the state that the snapshot keeps
 abbrev pub state_of : Snapshot → State
 state_of s = record {
@@ -33,6 +40,21 @@ state_of s = record {
   changes = s.changes;
   traces = traces_in s.traces;
 }
+
+-- the snapshot that keeps the state, field by field
+abbrev pub snapshot_for : State → Snapshot
+snapshot_for s = record {
+  changes = s.changes;
+  next_id = s.next_id;
+  points = s.drawing.points;
+  originals = s.drawing.originals;
+  values = map kept_entry s.values;
+  traces = map kept_steps s.traces;
+}
+
+-- the payload that is written for a state
+unfoldable pub payload_of : State → List ℕ
+payload_of s = payload (snapshot_for s)
 
 -- all that a valid state is
 pub record IsValidState (s : State) : Type 0 where

@@ -48,6 +48,9 @@ pub enum Refusal {
     /// The journal has no room for the change. The engine never answers this.
     #[error("no room is left in the journal")]
     Full,
+    /// No greater generation may be written. The engine never answers this.
+    #[error("no greater generation is left")]
+    Generations,
 }
 
 /// Why a change isn't made.

@@ -2,7 +2,7 @@
 use Rattle.std.proofs.Common.{◌≡◌, ℕ, ◌*◌, ◌^◌, ◌<◌, ◌≤◌, arith, ⊎_elim}
 use Rattle.std.proofs.lemmas.Bool.{cases_lt}
 use Rattle.std.proofs.lemmas.Grind.{div_ceil_times}
-use Rattle.record_codec.specs.Heads.{AreFewest, IsGeneration, IsHeader}
+use Rattle.record_codec.specs.Heads.{AreFewest, IsGeneration, IsVersion, IsHeader}
 use Rattle.realm_pages.specs.Generations.{page_count}
 
 -- they hold it,
@@ -26,11 +26,12 @@ fewest_are size = record {
 }
 
 -- and a head may say so,
-pub is_head : (generation size : ℕ) → IsGeneration generation → size < 2 ^ 63
-    → IsHeader (record { generation = generation; pages = page_count size; length = size })
+pub is_head : (version generation size : ℕ) → IsVersion version → IsGeneration generation → size < 2 ^ 63
+    → IsHeader (record { version = version; generation = generation; pages = page_count size; length = size })
 unfolding page_count
-is_head generation size is small = record {
-  generation = is;
+is_head version generation size is_version is_generation small = record {
+  version = is_version;
+  generation = is_generation;
   length = omega (arith, small);
   pages = (fewest_are size, omega (arith, small, (div_ceil_times size 4054 (omega arith)).1));
 }

@@ -84,11 +84,11 @@ module _ {files : FileName → List ℕ} where
       let there = subst (λ f. HoldsNewest files f k) (sym same_file) also in
       let long : length k.payload ≡ length g.payload = ap (λ (x : Header). x.length) (sym same_head) in
       let pages = subst (λ n. HoldsFirst (files file) n (page_count n) k.payload) long there.holds.pages in
+      let version : g.version ≡ k.version = ap (λ (x : Header). x.version) same_head in
       let number : g.number ≡ k.number = ap (λ (x : Header). x.generation) same_head in
       let payload : g.payload ≡ k.payload = payload_once (le_refl (page_count (length g.payload))) one.holds.pages pages in
-      let numbered : ℕ → Generation = λ n. record { number = n; payload = g.payload } in
-      let paged : List ℕ → Generation = λ l. record { number = k.number; payload = l } in
-      (same_file, ap numbered number ∙ ap paged payload)
+      let same : g ≡ k = λ i. record { version = version i; number = number i; payload = payload i } in
+      (same_file, same)
 
   -- ---- or one damage
 

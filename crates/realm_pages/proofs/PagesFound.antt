@@ -61,14 +61,18 @@ broken {file = file} {head} {e} chosen read = record {
 
 -- a payload as long as the head says has this head,
 pub head_is : (head : Header) (file bytes : List ℕ) → HasHead file head → HoldsFirst file head.length head.pages bytes
-    → head ≡ header_of (record { number = head.generation; payload = bytes })
+    → head ≡ header_of (record { version = head.version; number = head.generation; payload = bytes })
 head_is head file bytes has hold =
     let count : head.pages ≡ page_count head.length = fewest_once head.length head.pages has.is_header.pages.0 in
     let long : head.length ≡ length bytes =
     omega (arith, hold.fills, has.is_header.pages.0.enough) in
-    let of_pages : ℕ → Header = λ n. record { generation = head.generation; pages = n; length = head.length } in
-    let of_length : ℕ → Header = λ n. record { generation = head.generation; pages = page_count n; length = n } in
-    ap of_pages count ∙ ap of_length long
+    let fields : ℕ → ℕ → Header = λ pages size. record {
+      version = head.version;
+      generation = head.generation;
+      pages = pages;
+      length = size;
+    } in
+    ap (λ n. fields n head.length) count ∙ ap (λ n. fields (page_count n) n) long
 
 module _ {old mid new : View} {file : FileName} {head : Header} (pages : Vec ℕ Global) (chosen : Chosen old mid (Ok (Some (file, head))))
     (read : PagesRead mid new file head (Ok pages)) where
@@ -77,7 +81,7 @@ module _ {old mid new : View} {file : FileName} {head : Header} (pages : Vec ℕ
 
   -- its pages hold a generation,
   abbrev held : Generation
-  held = record { number = head.generation; payload = pages.items }
+  held = record { version = head.version; number = head.generation; payload = pages.items }
 
   hold : HoldsFirst (old.reads file) head.length head.pages pages.items
   hold = subst (λ l. HoldsFirst l head.length head.pages pages.items) (chosen.asks.files.reads file) read.hold
@@ -114,10 +118,16 @@ module _ {old mid new : View} {file : FileName} {head : Header} (pages : Vec ℕ
 
     module _ (s : Snapshot) where
       abbrev it : Found
-      it = record { file = file; generation = head.generation; snapshot = s; end = gate_behind head.pages }
+      it = record {
+        file = file;
+        version = head.version;
+        generation = head.generation;
+        snapshot = s;
+        end = gate_behind head.pages;
+      }
 
       abbrev numbered : List ℕ → Generation
-      numbered l = record { number = head.generation; payload = l }
+      numbered l = record { version = head.version; number = head.generation; payload = l }
 
       is_found : IsSnapshot s → pages.items ≡ payload s → IsFound old.reads it
       is_found is_snapshot is = record {

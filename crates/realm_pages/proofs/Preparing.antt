@@ -23,7 +23,11 @@ held_again g =
 
 -- what is read from a head and a text
 abbrev generation_by : Header → List ℕ → Generation
-generation_by head text = record { number = head.generation; payload = take head.length (held_in head.pages (drop 4095 text)) }
+generation_by head text = record {
+  version = head.version;
+  number = head.generation;
+  payload = take head.length (held_in head.pages (drop 4095 text));
+}
 
 -- a text that was made for a head
 pub text_is : (g : Generation) {head : Header} {block : List ℕ}
@@ -35,7 +39,7 @@ pub generation_is : (p : Inside) (g : Generation) → p.head ≡ header_of g →
 generation_is p g head text =
     ap (λ h. generation_by h p.block) head
     ∙ ap (λ t. generation_by (header_of g) t) text
-    ∙ ap (λ (l : List ℕ). let it : Generation = record { number = g.number; payload = l } in it) (held_again g)
+    ∙ ap (λ (l : List ℕ). let it : Generation = record { version = g.version; number = g.number; payload = l } in it) (held_again g)
 
 pub of_generation : (p : Inside) (g : Generation) → IsHeader (header_of g) → p.head ≡ header_of g → p.block ≡ generation_text g
     → IsOfGeneration p

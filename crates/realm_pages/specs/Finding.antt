@@ -16,7 +16,8 @@ use Rattle.realm_pages.specs.declared.found.Found.{Found}
 
 -- the generation that was found
 abbrev pub generation_found : Found → Generation
-generation_found found = record { number = found.generation; payload = payload found.snapshot }
+generation_found found =
+    record { version = found.version; number = found.generation; payload = payload found.snapshot }
 
 -- of the two files this one is the newest, and it holds the generation
 pub record HoldsNewest (files : FileName → List ℕ) (file : FileName) (g : Generation) : Type 0 where

@@ -5,8 +5,9 @@ use Rattle.record_codec.specs.declared.header.Header.{Header}
 use Rattle.record_codec.specs.Heads.{header_text}
 use Rattle.page_codec.specs.Pages.{page_of}
 
--- a payload, and the number of its generation
+-- a payload, the number of its generation, and the version of the format that it is written in
 pub record Generation : Type 0 where
+  pub version : ℕ
   pub number : ℕ
   pub payload : List ℕ
 
@@ -17,6 +18,7 @@ page_count size = div_ceil size 4054
 -- the head of a file that holds the generation
 abbrev pub header_of : Generation → Header
 header_of g = record {
+  version = g.version;
   generation = g.number;
   pages = page_count (length g.payload);
   length = length g.payload;

@@ -9,9 +9,10 @@ abbrev pub held_in : ℕ → List ℕ → List ℕ
 held_in zero pages = []
 held_in (suc n) pages = held_in n pages ++ take 4054 (drop (4096 * n + 10) pages)
 
--- its number, and the payload that its pages hold
+-- its version and number, and the payload that its pages hold
 abbrev pub generation_of : Inside → Generation
 generation_of p = record {
+  version = p.head.version;
   number = p.head.generation;
   payload = take p.head.length (held_in p.head.pages (drop 4095 p.block));
 }

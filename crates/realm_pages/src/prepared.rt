@@ -12,10 +12,14 @@ use record_codec::{Header, encode_header};
 use std::alloc::Global;
 use std::marker::Model;
 
+// The version of the format that each generation is written in.
+const VERSION: u64 = 2;
+
 // How many bytes of the payload a page holds.
 const PAGE_ROOM: usize = 4_054;
 
-/// The bytes of a generation: putting it on a file takes no memory. Contracts see its number and its payload.
+/// The bytes of a generation: putting it on a file takes no memory. Contracts see its version, its number and its
+/// payload.
 #[derive(Drop)]
 pub struct PreparedPages {
     head: Header,
@@ -33,14 +37,15 @@ impl Model for PreparedPages {
     ghost invariant = { IsOfGeneration };
 }
 
-/// Makes a generation with this payload ready to be put on a file. This takes the memory that it needs.
+/// Makes a generation with this payload ready to be put on a file, by version 2 of the format. This takes the memory
+/// that it needs.
 pub fn prepare_pages(
     alloc: Global,
     generation: u64,
     payload: &[u8],
 ) -> Result<PreparedPages, NoMemory>
     requires { IsGeneration generation }
-    ensures { IfOk result (λ p. p ≡ record { number = generation; payload = payload.now }) }
+    ensures { IfOk result (λ p. p ≡ record { version = 2; number = generation; payload = payload.now }) }
 {
     let head = head_for(generation, payload);
     let block = block_for(alloc, &head, payload)?;
@@ -50,10 +55,11 @@ pub fn prepare_pages(
 // The head of a file that holds the generation with this payload.
 fn head_for(generation: u64, payload: &[u8]) -> Header
     requires { IsGeneration generation }
-    ensures head { result ≡ header_of (record { number = generation; payload = payload.now }) }
+    ensures head { result ≡ header_of (record { version = 2; number = generation; payload = payload.now }) }
     ensures is_header { IsHeader result }
 {
     Header {
+        version: VERSION,
         generation,
         pages: pages_for(payload.len()) as u64,
         length: payload.len() as u64,

@@ -32,6 +32,7 @@ pub fn newest<W: Outside>(alloc: Global, world: &mut W) -> Result<Option<Found>,
                 None => Err(PagesError::Damaged(Damage::BadSnapshot { file })),
                 Some(snapshot) => Ok(Some(Found {
                     file,
+                    version: head.version,
                     generation: head.generation,
                     snapshot,
                     end: 4096 * (head.pages + 1),

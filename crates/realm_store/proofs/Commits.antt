@@ -1,5 +1,5 @@
 -- This file shows what a commit makes of what is kept, and what it leaves of the files.
-use Rattle.std.proofs.Common.{◌≡◌, inl, ◌<◌, ◌^◌, ℕ, Bool, List, Option, Some, None, refl, sym, ◌∙◌, ap, subst}
+use Rattle.std.proofs.Common.{◌≡◌, inl, ◌+◌, ℕ, Bool, true, false, Option, Some, None, List, length, refl, sym, ◌∙◌, ap, subst}
 use Rattle.std.proofs.lemmas.Result.{IfOk-from_err}
 use Rattle.std.specs.Prelude.{Result, Ok, Err, OnOk, IsErr, MatchOption}
 use Rattle.outside_world.specs.declared.world.FileName.{FileName}
@@ -12,38 +12,40 @@ use Rattle.record_codec.specs.Spelling.{record_text}
 use Rattle.realm_insert.specs.State.{State}
 use Rattle.realm_journal.specs.Appending.{Appended}
 use Rattle.realm_journal.specs.declared.error.JournalError.{JournalError}
-use Rattle.realm_files.specs.Writing.{place_or_first, Committed}
+use Rattle.realm_files.specs.Writing.{place_for, with_gate, Committed}
 use Rattle.realm_files.specs.declared.place.Place.{Place}
 use Rattle.realm_files.proofs.Appends.{committed}
 use Rattle.realm_files.proofs.ReadyGates.{committed_by}
 use Rattle.realm_files.proofs.Rests.{rest_in_each}
 use Rattle.realm_files.proofs.Runs.{leaves_none, leaves_wider}
 use Rattle.realm_store.specs.declared.committing.Ready.{Ready}
+use Rattle.realm_store.specs.declared.grouping.OpenGroup.{OpenGroup}
 use Rattle.realm_store.specs.Leading.{Leads}
 use Rattle.realm_store.specs.Stands.{meaning}
-use Rattle.realm_store.specs.Keeping.{Kept, Group, SpendableKept, AllRest, with_state}
-use Rattle.realm_store.specs.Making.{IsMade, next_gate, place_behind, kept_behind, Joins, Commits}
+use Rattle.realm_store.specs.Keeping.{Kept, Group, SpendableKept, AllRest, with_state, without_group}
+use Rattle.realm_store.specs.Making.{IsMade, HasRoom, place_behind, kept_behind, Joins, Commits}
 use Rattle.realm_store.specs.NextGates.{IsGateFor}
 use Rattle.realm_store.specs.ReadyChanges.{IsReady}
 use Rattle.realm_store.specs.Committing.{Readied, IsWritten, Keeps}
+use Rattle.realm_store.proofs.Groups.{seen}
 
 -- ---- a change is made
 
--- A change was made of what is kept, and waits to be written.
-module _ {c : Change} {old new : Kept} {ready : Ready} (made : IsReady c old new ready) where
+-- A change was made of what is kept, at the same place, and waits to be written.
+module _ {c : Change} {old new : Kept} {ready : Ready} (made : IsReady c old new.state ready) (same : new ≡ with_state new.state old) where
   -- its record will stand behind the gate that waited
   abbrev pub after : Kept
-  after = kept_behind new ready.record new.state
+  after = kept_behind old ready.record new.state
 
   -- so it is made of what is kept
-  pub is_made : next_gate old < 2 ^ 61 → IsMade c old ready.reply after
-  is_made room = record {
+  pub is_made : IsMade c old ready.reply after
+  is_made = record {
     steps = made.steps;
     makes = record {
       next = made.next;
-      place = λ i. Some (place_behind (made.same_place i) (made.record_is i));
+      place = ap (λ (r : Record). Some (place_behind old r)) made.record_is;
       has_gate = refl;
-      room = room;
+      room = made.room;
     };
     sound = made.sound;
     reply_is = made.reply_is;
@@ -57,18 +59,31 @@ module _ {c : Change} {old new : Kept} {ready : Ready} (made : IsReady c old new
   })
 
   before : with_state old.state new ≡ old
-  before = ap (λ k. with_state old.state k) made.same_place
+  before = ap (λ k. with_state old.state k) same
+
+  -- the gate waits for it still, and there is room
+  pub waits_before : IsGateFor ready.gate (with_state old.state new)
+  waits_before = subst (λ k. IsGateFor ready.gate k) (sym before) made.gate
+
+  pub room_before : HasRoom (with_state old.state new)
+  room_before = subst HasRoom (sym before) made.room
 
   -- the files rest at it still
   pub rests_before : {v : View} → AllRest old v → AllRest (with_state old.state new) v
   rests_before {v} rest = subst (λ k. AllRest k v) (sym before) rest
 
-  -- and what is written is written from it
+  -- and what is written is written from it,
   pub kept_from : {v w : View} {r : Result Unit JournalError} → IsSpellableChange c → AllRest old v
-      → ((state : State) → AllRest (with_state state new) v → Leads state ready.record new.state
-      → Keeps v w (with_state state new) after r) → Keeps v w old after r
-  kept_from {v} {w} {r} spellable rest told =
-      subst (λ k. Keeps v w k after r) before (told old.state (rests_before rest) (leads spellable))
+      → ((state : State) → IsGateFor ready.gate (with_state state new) → AllRest (with_state state new) v
+      → Leads state ready.record new.state
+      → Keeps v w (with_state state new) (kept_behind (with_state state new) ready.record new.state) r) → Keeps v w old after r
+  kept_from {v} {w} {r} spellable rest told = subst (λ k. Keeps v w k (kept_behind k ready.record new.state) r) before
+      (told old.state waits_before (rests_before rest) (leads spellable))
+
+  -- and kept behind it
+  pub stored : {self : SpendableKept} → ((state : State) → IsGateFor ready.gate (with_state state new)
+      → self ≡ without_group (kept_behind (with_state state new) ready.record new.state)) → self ≡ without_group after
+  stored told = told old.state waits_before ∙ ap (λ k. without_group (kept_behind k ready.record new.state)) before
 
 -- a change outside a group
 pub commits_alone : {c : Change} (old after : SpendableKept) {reply : List ℕ} → old.group ≡ None → IsMade c old.kept reply after.kept
@@ -96,10 +111,20 @@ written_in_group later (Err e) rest = tt
 
 -- ---- its record is written
 
--- the place is that of the gate which a store keeps
-pub place_is : {start : Kept} {group : Option Group} {spent : Bool} {self : SpendableKept} {place : Place}
-    → record { kept = start; group = group; spent = spent } ≡ self → place ≡ place_or_first start.place → place ≡ place_or_first self.kept.place
-place_is is there = there ∙ ap (λ (s : SpendableKept). place_or_first s.kept.place) is
+-- behind the place of the gate that was made ready
+pub kept_then : (state : State) (group : Option OpenGroup) (start : Kept) (r : Record) {old : Option Place} {has_gate spent : Bool}
+    {self : SpendableKept} {place : Place} {next : ℕ} → seen state group old has_gate spent ≡ self → self.group ≡ None
+    → place ≡ place_for meaning start → next ≡ place.next + 1 + length (record_text r)
+    → seen state group (Some (with_gate place next)) true false ≡ without_group (kept_behind start r self.kept.state)
+kept_then state group start r is alone there behind =
+    let at = ap (λ (s : SpendableKept). s.kept.state) is in
+    let none = ap (λ (s : SpendableKept). s.group) is ∙ alone in
+    let next_is = behind ∙ ap (λ (p : Place). p.next + 1 + length (record_text r)) there in
+    λ i. record {
+      kept = record { state = at i; place = Some (with_gate (there i) (next_is i)); has_gate = true };
+      group = none i;
+      spent = false;
+    }
 
 -- the gate isn't ready yet, or the record isn't whole,
 pub kept_early : {old new : View} {start later : Kept} {place : Place} {s : Result Unit JournalError} (r : Result Unit JournalError)
@@ -110,8 +135,8 @@ kept_early {new = new} {later = later} r failed ready = record {
 }
 
 -- or it stands behind its gate
-module _ {old mid new : View} {start : Kept} {state : State} {place : Place} {r : Record} (there : place ≡ place_or_first start.place)
-    (is_record : IsRecord r) (leads : Leads start.state r state) {x : Unit {0}} (ready : Readied old mid start (place_or_first start.place) (Ok x))
+module _ {old mid new : View} {start : Kept} {state : State} {place : Place} {r : Record} (there : place ≡ place_for meaning start)
+    (is_record : IsRecord r) (leads : Leads start.state r state) {x : Unit {0}} (ready : Readied old mid start (place_for meaning start) (Ok x))
     (reads : (f : FileName) → new.image f (new.reads f)) where
   behind : (a : Result ℕ JournalError) → Appended mid new place.file place.next (record_text r) a
       → Committed meaning old new start (kept_behind start r state) a

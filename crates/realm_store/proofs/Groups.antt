@@ -1,27 +1,26 @@
 -- This file shows what is seen of a group that a store holds, and what a change makes of it.
-use Rattle.std.proofs.Common.{◌≡◌, ◌<◌, ◌^◌, Bool, true, false, List, [], ◌∷◌, ◌++◌, Option, Some, None, refl, sym, ◌∙◌, ap, subst}
-use Rattle.std.specs.Prelude.{◌↔◌, IsTrue, IsSome, IfSome}
+use Rattle.std.proofs.Common.{◌≡◌, ◌⊎◌, inl, inr, ⊎_elim, Bool, true, false, List, [], ◌∷◌, ◌++◌, Option, Some, None, refl, sym, ◌∙◌, ap, subst}
+use Rattle.std.specs.Prelude.{◌↔◌, IsTrue, IsSome, IfSome, MatchOption}
 use Rattle.std.specs.List.{AllByRecursion}
 use Rattle.line_grammar.specs.declared.command.Change.{Change}
 use Rattle.line_grammar.specs.Spellable.{IsSpellableChange}
 use Rattle.record_codec.specs.declared.entry.Entry.{Entry}
 use Rattle.record_codec.specs.Fitting.{IsChange}
 use Rattle.realm_insert.specs.State.{State, SpendableState}
+use Rattle.realm_insert.specs.Refusals.{IsAccepted, IsRefusedBy}
+use Rattle.realm_insert.specs.declared.refusal.Refusal.{Refusal}
 use Rattle.realm_files.specs.declared.place.Place.{Place}
-use Rattle.realm_files.specs.Writing.{place_or_first}
 use Rattle.realm_store.specs.declared.committing.Made.{Made}
 use Rattle.realm_store.specs.declared.grouping.OpenGroup.{OpenGroup}
 use Rattle.realm_store.specs.Leading.{LeadsBy, LeadOnBy}
-use Rattle.realm_store.specs.Keeping.{Kept, Group, SpendableKept, HasGroup, state_with, present}
-use Rattle.realm_store.specs.Making.{Commits, next_gate}
+use Rattle.realm_store.specs.Keeping.{Kept, kept_at, with_state, Group, SpendableKept, HasGroup, state_with, present}
+use Rattle.realm_store.specs.Making.{Commits, HasRoom, LacksRoom, IsRefusedFor}
+use Rattle.realm_store.specs.NextGates.{IsGateFor}
 use Rattle.realm_store.specs.ReadyChanges.{IsMadeOf}
-use Rattle.realm_store.specs.Groups.{filed_state, group_seen, with_entry, IsOpen}
+use Rattle.realm_store.specs.Groups.{filed_state, group_seen, kept_begun, with_entry, IsOpen}
 use Rattle.realm_store.proofs.Replays.{lead_on_by}
 
 -- ---- what is seen of it
-
-abbrev pub kept_at : State → Option Place → Bool → Kept
-kept_at state place has_gate = record { state = state; place = place; has_gate = has_gate }
 
 -- what is seen of a store whose engine has this state
 abbrev pub seen : State → Option OpenGroup → Option Place → Bool → Bool → SpendableKept
@@ -56,8 +55,28 @@ pub at_kept : (state : State) (group : Option OpenGroup) {place : Option Place} 
 at_kept state group is alone =
     sym (filed_alone state state group (ap (λ (s : SpendableKept). s.group) is ∙ alone)) ∙ ap (λ (s : SpendableKept). s.kept.state) is
 
+pub kept_alone : (state : State) (group : Option OpenGroup) {place : Option Place} {has_gate spent : Bool} {self : SpendableKept}
+    → seen state group place has_gate spent ≡ self → self.group ≡ None → kept_at state place has_gate ≡ self.kept
+kept_alone state group {place} {has_gate} is alone =
+    ap (λ s. kept_at s place has_gate) (sym (filed_alone state state group (ap (λ (s : SpendableKept). s.group) is ∙ alone)))
+    ∙ ap (λ (s : SpendableKept). s.kept) is
+
+-- another engine's state is at the same place
+pub same_place : (state other : State) (group : Option OpenGroup) {place : Option Place} {has_gate spent : Bool} {self : SpendableKept}
+    → seen state group place has_gate spent ≡ self
+    → kept_at (filed_state other group) place has_gate ≡ with_state (filed_state other group) self.kept
+same_place state other group is = ap (λ (s : SpendableKept). with_state (filed_state other group) s.kept) is
+
 pub alone_at_present : (self : SpendableKept) → self.group ≡ None → self.kept.state ≡ present self
 alone_at_present self alone = sym (ap (state_with self.kept.state) alone)
+
+-- ---- a change is refused
+
+-- for a cause in the state, or since there is no room
+pub refused_for : {c : Change} {state now : State} (kept : Kept) {word lack : Refusal} → state ≡ now → LacksRoom kept lack
+    → IsRefusedBy c state word ⊎ (IsAccepted c state × (word ≡ lack)) → IsRefusedFor c now kept word
+refused_for {c} kept {word} at lacks found = subst (λ s. IsRefusedFor c s kept word) at
+    (⊎_elim (λ refused. inl refused) (λ lacking. inr (lacking.0, subst (λ w. LacksRoom kept w) (sym lacking.1) lacks)) found)
 
 -- an engine that is as it was leaves the store so
 pub same_store : {engine after : SpendableState} (group : Option OpenGroup) {place : Option Place} {has_gate spent : Bool}
@@ -72,6 +91,16 @@ same_store {engine} {after} group {place} {has_gate} stays is ready =
 pub no_group : (group : Option Group) (test : Bool) → (IsTrue test ↔ IsSome group) → test ≡ false → group ≡ None
 no_group None test told failed = refl
 no_group (Some group) test told failed = let yes : test ≡ true = told.1 refl in absurd cc
+
+-- what the gate of the group lacks is lacking of what is kept
+pub room_in : (state : State) (group : Option OpenGroup) (found : Option Refusal) {place : Option Place} {has_gate spent : Bool}
+    {self : SpendableKept} → seen state group place has_gate spent ≡ self → HasGroup self → IfSome group (IsOpen state place has_gate)
+    → IfSome group (λ held. (kept : Kept) → IsGateFor held.gate kept → MatchOption found (HasRoom kept) (LacksRoom kept))
+    → MatchOption found (HasRoom self.kept) (LacksRoom self.kept)
+room_in state None found is has opened told = let some = subst HasGroup (sym is) has in absurd cc
+room_in state (Some held) found {place} {has_gate} is has opened told =
+    subst (λ (s : SpendableKept). MatchOption found (HasRoom s.kept) (LacksRoom s.kept)) is
+    (told (kept_begun held place has_gate) opened.gate)
 
 -- ---- its entries
 
@@ -90,7 +119,7 @@ leads_by {c} {old} {new} spellable one = subst (λ (e : Entry). LeadsBy old e ne
 
 module _ {c : Change} {old new : State} {made : Made} (one : IsMadeOf c old new made) (place : Option Place) (has_gate spent : Bool) where
   -- so the group stays one that a store may hold,
-  still_open : {held : OpenGroup} → IsSpellableChange c → IsOpen old place has_gate held → (place_or_first place).next < 2 ^ 61
+  still_open : {held : OpenGroup} → IsSpellableChange c → IsOpen old place has_gate held → HasRoom (kept_begun held place has_gate)
       → IsOpen new place has_gate (with_entry held made.entry)
   still_open {held} spellable was room = record {
     ready = was.ready;
@@ -99,7 +128,8 @@ module _ {c : Change} {old new : State} {made : Made} (one : IsMadeOf c old new 
     room = λ _. room;
   }
 
-  holds_at : (group after : Option OpenGroup) → IsSome (group_seen old group) → (place_or_first place).next < 2 ^ 61
+  holds_at : (group after : Option OpenGroup) → IsSome (group_seen old group)
+      → HasRoom (kept_at (filed_state old group) place has_gate)
       → IfSome group (λ held. after ≡ Some (with_entry held made.entry)) → IsSpellableChange c → IfSome group (IsOpen old place has_gate)
       → IfSome after (IsOpen new place has_gate)
   holds_at None after none room joined spellable was = absurd cc
@@ -107,7 +137,8 @@ module _ {c : Change} {old new : State} {made : Made} (one : IsMadeOf c old new 
       subst (λ g. IfSome g (IsOpen new place has_gate)) (sym joined) (still_open spellable was room)
 
   -- and what is kept of the files stays
-  commits_at : (group after : Option OpenGroup) → IsSome (group_seen old group) → (place_or_first place).next < 2 ^ 61
+  commits_at : (group after : Option OpenGroup) → IsSome (group_seen old group)
+      → HasRoom (kept_at (filed_state old group) place has_gate)
       → IfSome group (λ held. after ≡ Some (with_entry held made.entry))
       → Commits c (seen old group place has_gate spent) made.reply (seen new after place has_gate false)
   commits_at None after none room joined = absurd cc
@@ -129,13 +160,13 @@ module _ {c : Change} {old new : State} {made : Made} (one : IsMadeOf c old new 
       )
 
   module _ {self : SpendableKept} (group after : Option OpenGroup) (is : seen old group place has_gate spent ≡ self)
-      (has : HasGroup self) (room : next_gate self.kept < 2 ^ 61)
+      (has : HasGroup self) (room : HasRoom self.kept)
       (joined : IfSome group (λ held. after ≡ Some (with_entry held made.entry))) where
     some : IsSome (group_seen old group)
     some = subst HasGroup (sym is) has
 
-    room_at : (place_or_first place).next < 2 ^ 61
-    room_at = subst (λ (s : SpendableKept). next_gate s.kept < 2 ^ 61) (sym is) room
+    room_at : HasRoom (kept_at (filed_state old group) place has_gate)
+    room_at = subst (λ (s : SpendableKept). HasRoom s.kept) (sym is) room
 
     pub holds_joined : IsSpellableChange c → IfSome group (IsOpen old place has_gate) → IfSome after (IsOpen new place has_gate)
     holds_joined spellable was = holds_at group after some room_at joined spellable was

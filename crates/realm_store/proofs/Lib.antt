@@ -1,5 +1,7 @@
 -- a record leads to one state, and a payload opens one
 pub mod LedOnce
+-- that a state has one payload
+pub mod Payloads
 -- what a payload without bytes opens
 pub mod EmptyStates
 -- what files without a byte stand for

@@ -23,7 +23,7 @@ use Rattle.realm_pages.specs.declared.error.PagesError.TheVariants.{Disk, Damage
 use Rattle.realm_pages.proofs.Asks.{asks_then}
 use Rattle.realm_files.specs.Rows.{AreRecords, StopsAt}
 use Rattle.realm_files.specs.Damages.{IsNoState, EndsBadly}
-use Rattle.realm_files.specs.Stands.{Files, numbered}
+use Rattle.realm_files.specs.Stands.{Files, generation_at}
 use Rattle.realm_files.specs.Keeping.{KnowsGate}
 use Rattle.realm_files.specs.Syncing.{Synced}
 use Rattle.realm_files.specs.Writing.{with_gate}
@@ -191,11 +191,11 @@ opens_state {snapshot} is same valid = record {
 }
 
 module _ {old new : View} {payload : List ℕ} {start : State} {place : Place} (asks : OnlyAsks old new)
-    (newest : HoldsNewest old.reads place.file (numbered place.generation payload))
-    (gate : place.next ≡ gate_of (numbered place.generation payload)) (opens : Opens payload start) where
+    (newest : HoldsNewest old.reads place.file (generation_at place payload))
+    (gate : place.next ≡ gate_of (generation_at place payload)) (opens : Opens payload start) where
   -- the place is within its file
   pub reaches : place.next ≤ length (old.reads place.file)
-  reaches = omega (arith, gate, holds_reach (numbered place.generation payload) (old.reads place.file) newest.holds)
+  reaches = omega (arith, gate, holds_reach (generation_at place payload) (old.reads place.file) newest.holds)
 
   row_rests : {kept : Kept} → LeadsTo (old.reads place.file) start place kept → RestsAt kept old.reads × KnowsGate kept old.reads
   row_rests {kept} leads =
@@ -229,7 +229,7 @@ module _ {old new : View} {payload : List ℕ} {start : State} {place : Place} (
         let bad = row.damaged d is in
         inr (inr (record {
           file = place.file;
-          generation = numbered place.generation payload;
+          generation = generation_at place payload;
           newest = newest;
           first = start;
           opens = opens;

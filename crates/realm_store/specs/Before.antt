@@ -2,6 +2,7 @@
 use Rattle.std.specs.Prelude.{◌≡◌, length, Option}
 use Rattle.record_codec.specs.declared.record.Record.{Record}
 use Rattle.realm_insert.specs.State.{State, empty_state}
+use Rattle.realm_insert.specs.Snapshots.{payload_of}
 use Rattle.realm_files.specs.Meaning.{Meaning}
 use Rattle.realm_files.specs.Stands.{Files}
 use Rattle.realm_files.specs.Stands as files
@@ -16,7 +17,7 @@ pub record LedBefore (old : State) (r : Record) (new : State) : Type 0 where
 
 -- what payloads and records meant
 abbrev pub meaning_before : Meaning State
-meaning_before = record { empty = empty_state; opens = Opens; leads = LedBefore }
+meaning_before = record { empty = empty_state; payload = payload_of; opens = Opens; leads = LedBefore }
 
 -- files stood for this state then, with the place of the next gate
 abbrev pub StoodBefore : Files → State → Option Place → Type 0

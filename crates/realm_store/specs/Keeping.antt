@@ -5,11 +5,16 @@ use Rattle.record_codec.specs.declared.entry.Entry.{Entry}
 use Rattle.realm_insert.specs.State.{State, empty_state}
 use Rattle.realm_files.specs.Stands.{Files}
 use Rattle.realm_files.specs.Keeping as files
+use Rattle.realm_files.specs.declared.place.Place.{Place}
 use Rattle.realm_store.specs.Stands.{meaning}
 
 -- the state, the place of the next gate, where a file counts, and whether that gate's byte is there
 abbrev pub Kept : Type 0
 Kept = files.Kept State
+
+-- this state, at this place
+abbrev pub kept_at : State → Option Place → Bool → Kept
+kept_at state place has_gate = record { state = state; place = place; has_gate = has_gate }
 
 -- the same place, with this state
 abbrev pub with_state : State → Kept → Kept

@@ -10,17 +10,41 @@ use Rattle.realm_insert.specs.State.{State}
 use Rattle.realm_insert.specs.Next.{Next}
 use Rattle.realm_insert.specs.Refusals.{IsAccepted, IsRefusedBy}
 use Rattle.realm_insert.specs.declared.refusal.Refusal.{Refusal}
-use Rattle.realm_insert.specs.declared.refusal.Refusal.TheVariants.{Full}
+use Rattle.realm_insert.specs.declared.refusal.Refusal.TheVariants.{Full, Generations}
 use Rattle.realm_files.specs.declared.place.Place.{Place}
-use Rattle.realm_files.specs.Writing.{place_or_first, with_gate}
+use Rattle.realm_files.specs.Writing.{place_for, wants_generation, with_gate}
 use Rattle.realm_store.specs.Sound.{IsSound}
+use Rattle.realm_store.specs.Stands.{meaning}
 use Rattle.realm_store.specs.Keeping.{Kept, Group, SpendableKept, without_group}
 use Rattle.realm_store.specs.Leading.{LeadOnBy}
+use Rattle.realm_store.specs.Renewing.{HasLastGeneration}
 use Rattle.realm_store.specs.Replies.{ok_reply}
 
--- the place where the next record's gate stands, or will stand where no file counts yet
+-- ---- the gate behind which a record goes
+
+-- the place where the next record's gate stands, or will stand behind a generation of its own, which keeps this state
 abbrev pub next_gate : Kept → ℕ
-next_gate kept = (place_or_first kept.place).next
+next_gate kept = (place_for meaning kept).next
+
+-- no record more may be written: the place of its gate would be too far
+abbrev pub IsFull : Kept → Type 0
+IsFull kept = 2 ^ 61 ≤ next_gate kept
+
+-- the record would come behind a generation of its own, and there is no greater one
+abbrev pub LacksGeneration : Kept → Type 0
+LacksGeneration kept = (wants_generation kept.place ≡ true) × HasLastGeneration kept
+
+-- a record more may be written
+pub record HasRoom (kept : Kept) : Type 0 where
+  pub gate : next_gate kept < 2 ^ 61
+  pub generation : LacksGeneration kept → ⊥
+
+-- none may be, for this cause: that the file is full comes first
+abbrev pub LacksRoom : Kept → Refusal → Type 0
+LacksRoom kept word =
+    (IsFull kept × (word ≡ Full)) ⊎ ((IsFull kept → ⊥) × LacksGeneration kept × (word ≡ Generations))
+
+-- ---- a change outside a group
 
 -- the entry of a change that these steps settled
 abbrev pub entry_of : Change → List Step → Entry
@@ -30,9 +54,9 @@ entry_of c steps = record { line = change_text c; trace = steps }
 abbrev pub record_of : Change → List Step → ℕ → Record
 record_of c steps number = record { number = number; entries = entry_of c steps ∷ [] }
 
--- the place behind this record, in the same file and generation
+-- the place behind this record, in the file of its gate and in the same generation
 abbrev pub place_behind : Kept → Record → Place
-place_behind kept r = with_gate (place_or_first kept.place) (next_gate kept + 1 + length (record_text r))
+place_behind kept r = with_gate (place_for meaning kept) (next_gate kept + 1 + length (record_text r))
 
 -- the record stands behind the gate that waited, with a gate behind it, and leads to this state
 abbrev pub kept_behind : Kept → Record → State → Kept
@@ -43,8 +67,8 @@ pub record Makes (c : Change) (steps : List Step) (old new : Kept) : Type 0 wher
   pub next : Next old.state c steps new.state
   pub place : new.place ≡ Some (place_behind old (record_of c steps new.state.changes))
   pub has_gate : new.has_gate ≡ true
-  -- its file had room for it
-  pub room : next_gate old < 2 ^ 61
+  -- there was room for it
+  pub room : HasRoom old
 
 -- the change is made by some steps, which leads to a sound state, and gets this reply
 pub record IsMade (c : Change) (old : Kept) (reply : List ℕ) (new : Kept) : Type 0 where
@@ -53,14 +77,9 @@ pub record IsMade (c : Change) (old : Kept) (reply : List ℕ) (new : Kept) : Ty
   pub sound : IsSound new.state
   pub reply_is : reply ≡ ok_reply new.state.changes (length steps) old.state.next_id (new.state.next_id - old.state.next_id)
 
--- no record more may be written: the place of its gate would be too far
-abbrev pub IsFull : Kept → Type 0
-IsFull kept = 2 ^ 61 ≤ next_gate kept
-
--- a cause in the state refuses the change, or it has none and the file is full
+-- a cause in the state refuses the change, or it has none and there is no room for its record
 abbrev pub IsRefusedFor : Change → State → Kept → Refusal → Type 0
-IsRefusedFor c state kept word =
-    IsRefusedBy c state word ⊎ (IsAccepted c state × IsFull kept × (word ≡ Full))
+IsRefusedFor c state kept word = IsRefusedBy c state word ⊎ (IsAccepted c state × LacksRoom kept word)
 
 -- ---- groups
 
@@ -69,8 +88,8 @@ pub record Joins (c : Change) (kept : Kept) (old : Group) (reply : List ℕ) (ne
   pub steps : List Step
   pub next : Next old.state c steps new.state
   pub entries : new.entries ≡ old.entries ++ entry_of c steps ∷ []
-  -- the file has room for its record
-  pub room : next_gate kept < 2 ^ 61
+  -- there is room for the record of the group
+  pub room : HasRoom kept
   pub sound : IsSound new.state
   pub reply_is : reply ≡ ok_reply new.state.changes (length steps) old.state.next_id (new.state.next_id - old.state.next_id)
 

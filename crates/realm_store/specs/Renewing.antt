@@ -3,7 +3,7 @@ use Rattle.std.specs.Prelude.{◌≡◌, ◌≤◌, ◌^◌, ℕ, true, List, So
 use Rattle.outside_world.specs.declared.world.FileName.{FileName}
 use Rattle.realm_pages.specs.Generations.{Generation}
 use Rattle.realm_files.specs.Keeping.{at_gate}
-use Rattle.realm_files.specs.Writing.{generation_of, next_file, next_generation, renewed_place}
+use Rattle.realm_files.specs.Writing.{generation_of, next_file, next_generation, version_now, renewed_place}
 use Rattle.realm_store.specs.Stands.{Opens}
 use Rattle.realm_store.specs.Keeping.{Kept}
 
@@ -23,6 +23,7 @@ pub record IsRenewed (old new : Kept) : Type 0 where
 -- it is the next one, keeps the state, and goes to the file that isn't the newest
 pub record IsNext (kept : Kept) (file : FileName) (g : Generation) : Type 0 where
   pub file_is : file ≡ next_file kept.place
+  pub version : g.version ≡ version_now
   pub number : g.number ≡ next_generation kept.place
   pub opens : Opens g.payload kept.state
 

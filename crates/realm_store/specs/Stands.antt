@@ -4,7 +4,7 @@ use Rattle.outside_world.specs.declared.world.FileName.{FileName}
 use Rattle.record_codec.specs.declared.snapshot.Snapshot.{Snapshot}
 use Rattle.record_codec.specs.Payload.{IsSnapshot, payload}
 use Rattle.realm_insert.specs.State.{State, empty_state}
-use Rattle.realm_insert.specs.Snapshots.{state_of, IsValidState}
+use Rattle.realm_insert.specs.Snapshots.{state_of, payload_of, IsValidState}
 use Rattle.realm_files.specs.Meaning.{Meaning}
 use Rattle.realm_files.specs.Stands.{Files}
 use Rattle.realm_files.specs.Stands as files
@@ -21,7 +21,7 @@ pub record Opens (bytes : List ℕ) (state : State) : Type 0 where
 
 -- what payloads and records mean to a store
 abbrev pub meaning : Meaning State
-meaning = record { empty = empty_state; opens = Opens; leads = Leads }
+meaning = record { empty = empty_state; payload = payload_of; opens = Opens; leads = Leads }
 
 -- files stand for a state, with the place of the next gate; where none counts, for the empty one
 abbrev pub StandsAt : Files → State → Option Place → Type 0

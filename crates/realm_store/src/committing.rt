@@ -1,44 +1,28 @@
-//! What a commit writes. All memory is taken while it is made ready, so want of memory leaves the files as they were.
-ghost use Rattle.std.specs.Prelude.{◌≡◌, ◌<◌, ◌≤◌, ◌^◌, ◌∷◌, [], false, length, Err, IfOk, OnOk};
+//! What a commit writes. All memory is taken while it is made ready, so want of memory leaves the files as they were. The
+//! gate is made ready before the engine changes: a generation of its own keeps the state before.
+ghost use Rattle.std.specs.Prelude.{◌≡◌, ◌<◌, ◌≤◌, ◌^◌, ◌⊎◌, ◌∷◌, [], false, length, Err, IfOk, OnOk, MatchOption};
 ghost use Rattle.line_grammar.specs.Spelling.{change_text};
 ghost use Rattle.line_grammar.specs.Spellable.{IsSpellableChange};
 ghost use Rattle.record_codec.specs.Fitting.{IsChange, IsRecord};
-ghost use Rattle.realm_insert.specs.Refusals.{IsRefusedBy};
+ghost use Rattle.realm_insert.specs.Refusals.{IsAccepted, IsRefusedBy};
 ghost use Rattle.realm_insert.specs.declared.refusal.Refusal.{Refusal as Word};
-ghost use Rattle.realm_files.specs.Writing.{place_or_first};
+ghost use Rattle.realm_store.specs.Keeping.{kept_at};
+ghost use Rattle.realm_store.specs.Making.{HasRoom, IsRefusedFor};
 ghost use Rattle.realm_store.specs.NextGates.{IsGateFor};
-ghost use Rattle.realm_store.specs.ReadyChanges.{IsMadeOf};
+ghost use Rattle.realm_store.specs.ReadyChanges.{IsMadeOf, IsReady};
 
+use crate::gates::{NextGate, gate_for, lack_of};
 use crate::looking::is_sound;
+use crate::renewing::wants_generation;
 use crate::replies::accept;
 use grid_base::{NoMemory, Reply};
 use line_grammar::Change;
-use outside_world::FileName;
 use realm_files::Place;
-use realm_insert::{Applied, ChangeError, Engine};
+use realm_insert::{Applied, ChangeError, Engine, Refusal};
 use realm_journal::{Prepared, prepare};
-use realm_pages::{PreparedPages, prepare_pages};
 use record_codec::{Entries, Entry, Record};
 use std::alloc::Global;
 use std::thread::Threads;
-
-// Where the first record of all stands: in file A, behind a first generation without pages.
-const FIRST: Place = Place {
-    file: FileName::A,
-    generation: 1,
-    next: 4_096,
-};
-
-/// The gate behind which the next record is to be written.
-#[derive(Drop)]
-pub(crate) enum NextGate {
-    /// It comes with a first generation, which is put on file A before.
-    First { pages: PreparedPages },
-    /// Its byte is missing at the end of the newest file, and is added before.
-    Missing { place: Place },
-    /// It is there.
-    Waiting { place: Place },
-}
 
 /// A change that the engine has made: its entry, and the reply to it.
 #[derive(Drop)]
@@ -55,13 +39,93 @@ pub(crate) struct Ready {
     pub(crate) reply: Reply,
 }
 
-/// The place of the next gate, where it stands or will stand.
-pub(crate) fn place_or_first(place: Option<Place>) -> Place
-    ensures { result ≡ place_or_first place }
+/// Makes a change in the engine, where there is room for its record, and takes all the memory that its writing needs.
+pub(crate) fn ready_change<R: Threads + Sync>(
+    rt: &R,
+    alloc: Global,
+    engine: &mut Engine,
+    place: Option<Place>,
+    has_gate: bool,
+    c: &Change,
+    line: &[u8],
+) -> Result<Ready, ChangeError>
+    requires ready { engine.old.spent ≡ false }
+    requires spellable { IsSpellableChange c.now }
+    requires short { length (change_text c.now) ≤ 2 ^ 20 }
+    requires says { line.now ≡ change_text c.now }
+    ensures made { IfOk result (λ ready. IsReady c.now (kept_at engine.old.state place has_gate) engine.new.state ready) }
+    ensures ready { OnOk result (engine.new.spent ≡ false) }
+    ensures refused { (word : Word) → result ≡ Err (ChangeError.Refused word)
+        → IsRefusedFor c.now engine.old.state (kept_at engine.old.state place has_gate) word × (engine.new ≡ engine.old) }
 {
-    match place {
-        None => FIRST,
-        Some(place) => place,
+    let gate = gate_before(rt, alloc, engine, place, has_gate, c)?;
+    let made = make_change(rt, alloc, engine, c, line)?;
+    let ready = make_ready(alloc, gate, engine.changes(), made)?;
+    Ok(ready)
+}
+
+// The gate of a change that is to be made, where there is room for its record. Where that wants a generation of its own, a
+// change that is refused costs no payload.
+fn gate_before<R: Threads + Sync>(
+    rt: &R,
+    alloc: Global,
+    engine: &Engine,
+    place: Option<Place>,
+    has_gate: bool,
+    c: &Change,
+) -> Result<NextGate, ChangeError>
+    requires ready { engine.now.spent ≡ false }
+    requires spellable { IsSpellableChange c.now }
+    ensures gate { IfOk result (λ gate. IsGateFor gate (kept_at engine.now.state place has_gate)) }
+    ensures room { OnOk result (HasRoom (kept_at engine.now.state place has_gate)) }
+    ensures refused { (word : Word) → result ≡ Err (ChangeError.Refused word)
+        → IsRefusedFor c.now engine.now.state (kept_at engine.now.state place has_gate) word }
+{
+    ask_first(rt, engine, place, c)?;
+    let gate = gate_for(alloc, engine, place, has_gate)?;
+    match lack_of(&gate) {
+        None => Ok(gate),
+        Some(lack) => Err(refusal_or(rt, engine, c, lack)),
+    }
+}
+
+// Refuses a change whose record wants a generation of its own, where the engine does.
+fn ask_first<R: Threads + Sync>(
+    rt: &R,
+    engine: &Engine,
+    place: Option<Place>,
+    c: &Change,
+) -> Result<(), ChangeError>
+    requires ready { engine.now.spent ≡ false }
+    requires spellable { IsSpellableChange c.now }
+    ensures { (word : Word) → result ≡ Err (ChangeError.Refused word) → IsRefusedBy c.now engine.now.state word }
+{
+    if !wants_generation(place) {
+        return Ok(());
+    }
+    match engine.refusal(rt, c) {
+        Ok(None) => Ok(()),
+        Ok(Some(word)) => Err(ChangeError::Refused(word)),
+        Err(NoMemory) => Err(ChangeError::NoMemory),
+    }
+}
+
+/// Why a change isn't made: the engine refuses it, or there is this lack.
+pub(crate) fn refusal_or<R: Threads + Sync>(
+    rt: &R,
+    engine: &Engine,
+    c: &Change,
+    lack: Refusal,
+) -> ChangeError
+    requires ready { engine.now.spent ≡ false }
+    requires spellable { IsSpellableChange c.now }
+    ensures { (word : Word) → result ≡ ChangeError.Refused word
+        → IsRefusedBy c.now engine.now.state word ⊎ (IsAccepted c.now engine.now.state × (word ≡ lack)) }
+{
+    match engine.refusal(rt, c) {
+        Ok(Some(word)) => ChangeError::Refused(word),
+        Ok(None) => ChangeError::Refused(lack),
+        Err(NoMemory) => ChangeError::NoMemory,
     }
 }
 
@@ -103,45 +167,21 @@ fn entry_of(alloc: Global, line: &[u8], applied: Applied) -> Result<Entry, NoMem
     })
 }
 
-/// Takes all the memory of a commit: for the record of the change with this number, and what comes before it.
-pub(crate) fn make_ready(
-    alloc: Global,
-    place: Option<Place>,
-    has_gate: bool,
-    number: u64,
-    made: Made,
-) -> Result<Ready, NoMemory>
+// Takes the memory for the record of the change with this number, which goes behind this gate.
+fn make_ready(alloc: Global, gate: NextGate, number: u64, made: Made) -> Result<Ready, NoMemory>
     requires from_one { 0 < number }
     requires change { IsChange made.entry.line }
     requires short { length made.entry.line ≤ 2 ^ 20 }
-    ensures gate { IfOk result (λ ready. IsGateFor ready.gate place has_gate) }
+    ensures gate { IfOk result (λ ready. ready.gate ≡ gate) }
     ensures record { IfOk result (λ ready. (ready.record
         ≡ record { number = number; entries = made.entry ∷ [] }) × IsRecord ready.record) }
     ensures reply { IfOk result (λ ready. ready.reply ≡ made.reply) }
 {
     let Made { entry, reply } = made;
     let record = prepare(alloc, &Record::new(number, Entries::one(alloc, entry)?))?;
-    let gate = gate_for(alloc, place, has_gate)?;
     Ok(Ready {
         gate,
         record,
         reply,
     })
-}
-
-/// The gate of the next record, with the generation that comes before it where there is none.
-pub(crate) fn gate_for(
-    alloc: Global,
-    place: Option<Place>,
-    has_gate: bool,
-) -> Result<NextGate, NoMemory>
-    ensures { IfOk result (λ gate. IsGateFor gate place has_gate) }
-{
-    match place {
-        None => Ok(NextGate::First {
-            pages: prepare_pages(alloc, 1, &[])?,
-        }),
-        Some(place) if has_gate => Ok(NextGate::Waiting { place }),
-        Some(place) => Ok(NextGate::Missing { place }),
-    }
 }

@@ -4,13 +4,15 @@ ghost use Rattle.std.specs.Prelude.{◌≡◌, ◌+◌, ◌<◌, ◌≤◌, ◌^
 ghost use Rattle.record_codec.specs.Fitting.{IsRecord};
 ghost use Rattle.realm_insert.specs.State.{State};
 ghost use Rattle.realm_store.specs.Leading.{LeadOnBy};
+ghost use Rattle.realm_store.specs.Keeping.{Kept, kept_at};
+ghost use Rattle.realm_store.specs.Making.{HasRoom, LacksRoom};
 ghost use Rattle.realm_store.specs.NextGates.{IsGateFor};
 ghost use Rattle.realm_store.specs.Groups.{with_entry};
 
-use crate::committing::{NextGate, gate_for};
+use crate::gates::{NextGate, gate_for, lack_of};
 use grid_base::NoMemory;
 use realm_files::Place;
-use realm_insert::Engine;
+use realm_insert::{Engine, Refusal};
 use realm_journal::{Prepared, prepare};
 use record_codec::{Entries, Entry, Record};
 use std::alloc::Global;
@@ -35,15 +37,26 @@ pub(crate) fn begin_group(
     requires ready { engine.now.spent ≡ false }
     ensures begun { IfOk result (λ held. (held.begun.state ≡ engine.now.state) × (held.begun.spent ≡ false)) }
     ensures entries { IfOk result (λ held. held.entries ≡ []) }
-    ensures gate { IfOk result (λ held. IsGateFor held.gate place has_gate) }
+    ensures gate { IfOk result (λ held. IsGateFor held.gate (kept_at engine.now.state place has_gate)) }
 {
     let begun = engine.copied()?;
-    let gate = gate_for(alloc, place, has_gate)?;
+    let gate = gate_for(alloc, engine, place, has_gate)?;
     Ok(OpenGroup {
         begun,
         entries: Entries::new(alloc),
         gate,
     })
+}
+
+/// Why no change may join the group, where one is open and no record may be written behind its gate.
+pub(crate) fn lack_in(group: &Option<OpenGroup>) -> Option<Refusal>
+    ensures { IfSome group.now (λ held. (kept : Kept) → IsGateFor held.gate kept
+        → MatchOption result (HasRoom kept) (LacksRoom kept)) }
+{
+    match group {
+        Some(held) => lack_of(&held.gate),
+        None => None,
+    }
 }
 
 /// Adds the entry to the group, where one is open.

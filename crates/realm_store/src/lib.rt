@@ -7,6 +7,7 @@
 mod changing;
 mod committing;
 mod error;
+mod gates;
 mod grouping;
 mod laws;
 mod looking;

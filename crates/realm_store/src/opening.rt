@@ -8,7 +8,7 @@ ghost use Rattle.realm_pages.specs.Finding.{HoldsNewest, IsFound};
 ghost use Rattle.realm_pages.specs.declared.damage.Damage.{Damage as Seen};
 ghost use Rattle.realm_pages.specs.declared.damage.Damage.TheVariants.{BadSnapshot};
 ghost use Rattle.realm_pages.specs.declared.error.PagesError.TheVariants.{Damaged};
-ghost use Rattle.realm_files.specs.Stands.{numbered};
+ghost use Rattle.realm_files.specs.Stands.{generation_at};
 ghost use Rattle.realm_store.specs.Stands.{Opens};
 ghost use Rattle.realm_store.specs.Opening.{OpensRow, Opened};
 
@@ -63,6 +63,7 @@ fn open_found<R: Threads + Sync, W: Outside>(
 {
     let Found {
         file,
+        version,
         generation,
         snapshot,
         end: next,
@@ -70,6 +71,7 @@ fn open_found<R: Threads + Sync, W: Outside>(
     let engine = open_snapshot(alloc, file, snapshot)?;
     let place = Place {
         file,
+        version,
         generation,
         next,
     };
@@ -105,8 +107,8 @@ fn open_records<R: Threads + Sync, W: Outside>(
     ensures ready { IfOk result (λ store. store.spent ≡ false) }
     ensures no_group { IfOk result (λ store. store.group ≡ None) }
     ensures told { W.tells world.new → (payload : List ℕ)
-        → HoldsNewest (W.view world.old).reads place.file (numbered place.generation payload)
-        → place.next ≡ gate_of (numbered place.generation payload) → Opens payload engine.state
+        → HoldsNewest (W.view world.old).reads place.file (generation_at place payload)
+        → place.next ≡ gate_of (generation_at place payload) → Opens payload engine.state
         → Opened (W.view world.old) (W.view world.new) result }
     ensures intact { ¬ (IsErrOf result StartError.Disk) → W.failed world.new ≡ false }
     ensures disk_fault { IsErrOf result StartError.Disk

@@ -15,12 +15,11 @@ ghost use Rattle.realm_store.specs.Committing.{IsWritten, IsReplaced};
 ghost use Rattle.realm_store.specs.Renewing.{IsRenewed, HasLastGeneration};
 ghost use Rattle.realm_store.specs.Starting.{Started};
 
-use crate::committing::place_or_first;
 use crate::error::{BeginError, CheckpointError, CommitError, EndError};
 use crate::grouping::{OpenGroup, begin_group, changes_of, prepare_group};
 use crate::looking::is_sound;
 use crate::opening::open_newest;
-use crate::renewing::{generation_of, next_file, prepare_state};
+use crate::renewing::{LAST_GENERATION, generation_of, next_file, next_place, prepare_state};
 use crate::writing::put_next;
 use grid_base::{NoMemory, Reply};
 use line_grammar::{Change, write_change};
@@ -31,12 +30,6 @@ use realm_pages::PagesError as StartError;
 use std::alloc::Global;
 use std::marker::Model;
 use std::thread::Threads;
-
-// No record is begun at this place, 2^61, nor behind it.
-const NO_PLACE: u64 = 2_305_843_009_213_693_952;
-
-// No generation has a greater number than this, 2^63.
-const LAST_GENERATION: u64 = 9_223_372_036_854_775_808;
 
 /// The state, and where its next record will stand. Between two calls the files stand for the state; for that at the begin
 /// of the group, where one is open. It is let go of by one call, as its engine is.
@@ -210,9 +203,6 @@ impl Store {
             × IsWritten (W.view world.old) (W.view world.new) self.old.kept after.kept }
         ensures goes_on { GoesOn ⟦<W as Outside>⟧ world.old world.new }
     {
-        if place_or_first(self.place).next >= NO_PLACE {
-            return Err(self.refuse_full(rt, c));
-        }
         if self.in_group() {
             return self.join(rt, c, line);
         }
@@ -344,11 +334,7 @@ impl Store {
         let generation = generation_of(self.place) + 1;
         let pages = prepare_state(self.alloc, &self.engine, generation)?;
         let next = put_next(world, file, &pages)?;
-        self.place = Some(Place {
-            file,
-            generation,
-            next,
-        });
+        self.place = Some(next_place(self.place, next));
         self.has_gate = true;
         self.spent = false;
         Ok(())

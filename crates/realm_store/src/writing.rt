@@ -1,18 +1,19 @@
 //! Writes to the files: the next generation to the file that isn't the newest, and what has to stand before a record is
-//! written. Where no file counts, that is a first generation without a record, on file A; where the byte of the next gate is
-//! missing at the end of the newest file, it is that byte.
-ghost use Rattle.std.specs.Prelude.{◌≡◌, ◌<◌, ◌^◌, IfOk, OnOk, OnErr, false};
+//! written. Where no file counts, or the newest is of the first version, that is a generation without a record, on the other
+//! file; where the byte of the next gate is missing at the end of the newest file, it is that byte.
+ghost use Rattle.std.specs.Prelude.{◌≡◌, IfOk, OnOk, OnErr, false};
 ghost use Rattle.outside_world.specs.Counts.{Rose};
 ghost use Rattle.outside_world.specs.GoesOn.{GoesOn};
 ghost use Rattle.realm_pages.specs.Generations.{gate_of};
-ghost use Rattle.realm_files.specs.Writing.{place_or_first};
+ghost use Rattle.realm_files.specs.Writing.{place_for};
+ghost use Rattle.realm_store.specs.Stands.{meaning};
 ghost use Rattle.realm_store.specs.Keeping.{Kept, AllRest};
-ghost use Rattle.realm_store.specs.Making.{next_gate};
+ghost use Rattle.realm_store.specs.Making.{HasRoom};
 ghost use Rattle.realm_store.specs.NextGates.{IsGateFor};
 ghost use Rattle.realm_store.specs.Committing.{Readied, Renewed};
 ghost use Rattle.realm_store.specs.Renewing.{IsNext, kept_renewed};
 
-use crate::committing::NextGate;
+use crate::gates::NextGate;
 use outside_world::{FileName, Outside};
 use realm_journal::{JournalError, shut_gate};
 use realm_pages::{PreparedPages, switch_to};
@@ -39,21 +40,21 @@ pub(crate) fn put_next<W: Outside>(
 /// be done.
 pub(crate) fn ready_gate<W: Outside>(world: &mut W, gate: &NextGate) -> Result<(), JournalError>
     requires intact { W.failed world.old ≡ false }
-    requires rest { (kept : Kept) × IsGateFor gate.now kept.place kept.has_gate × (next_gate kept < 2 ^ 61)
+    requires rest { (kept : Kept) × IsGateFor gate.now kept × HasRoom kept
         × (W.tells world.old → AllRest kept (W.view world.old)) }
-    ensures told { W.tells world.new → (kept : Kept) → IsGateFor gate.now kept.place kept.has_gate
-        → AllRest kept (W.view world.old)
-        → Readied (W.view world.old) (W.view world.new) kept (place_or_first kept.place) result }
+    ensures told { W.tells world.new → (kept : Kept) → IsGateFor gate.now kept → AllRest kept (W.view world.old)
+        → Readied (W.view world.old) (W.view world.new) kept (place_for meaning kept) result }
     ensures intact { OnOk result (W.failed world.new ≡ false) }
     ensures disk_fault { OnErr result (Rose (W.disk_faults world.old) (W.disk_faults world.new)) }
     ensures goes_on { GoesOn ⟦<W as Outside>⟧ world.old world.new }
 {
     match gate {
-        NextGate::First { pages } => {
-            put_next(world, FileName::A, pages)?;
+        NextGate::Next { place, pages } => {
+            put_next(world, place.file, pages)?;
             Ok(())
         }
         NextGate::Missing { place } => shut_gate(world, place.file, place.next),
         NextGate::Waiting { .. } => Ok(()),
+        NextGate::Last { .. } => unreachable!(),
     }
 }

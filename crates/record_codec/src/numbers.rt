@@ -1,6 +1,6 @@
 //! Numbers as bytes: the highest byte first.
 ghost use Rattle.std.specs.Prelude.{◌≡◌, ◌+◌, ◌≤◌, ◌++◌, length, take, drop, OnOk};
-ghost use Rattle.std.specs.Int.{w32, w64, to_be_bytes, from_be_bytes};
+ghost use Rattle.std.specs.Int.{w16, w32, w64, to_be_bytes, from_be_bytes};
 
 use byteorder::{BigEndian, ByteOrder};
 use std::alloc::AllocError;
@@ -23,12 +23,28 @@ pub(crate) fn push_eight(out: &mut Vec<u8>, number: u64) -> Result<(), AllocErro
     out.extend_from_slice(&bytes)
 }
 
+/// Writes the number over the two bytes at this place.
+pub(crate) fn put_two(bytes: &mut [u8], at: usize, number: u16)
+    requires { at + 2 ≤ length bytes.old }
+    ensures { bytes.new ≡ take at bytes.old ++ (to_be_bytes w16 number ++ drop 2 (drop at bytes.old)) }
+{
+    BigEndian::write_u16(&mut bytes[at..at + 2], number);
+}
+
 /// Writes the number over the eight bytes at this place.
 pub(crate) fn put_eight(bytes: &mut [u8], at: usize, number: u64)
     requires { at + 8 ≤ length bytes.old }
     ensures { bytes.new ≡ take at bytes.old ++ (to_be_bytes w64 number ++ drop 8 (drop at bytes.old)) }
 {
     BigEndian::write_u64(&mut bytes[at..at + 8], number);
+}
+
+/// The number in two bytes.
+pub(crate) fn number_in_two(bytes: &[u8]) -> u16
+    requires { length bytes.now ≡ 2 }
+    ensures { result ≡ from_be_bytes w16 bytes.now }
+{
+    BigEndian::read_u16(bytes)
 }
 
 /// The number in four bytes.

@@ -15,7 +15,7 @@ use Rattle.rose_sets.specs.declared.group.Group.{Group}
 use Rattle.realm_insert.specs.declared.refusal.Refusal.{Refusal}
 use Rattle.realm_insert.specs.declared.refusal.Refusal.TheVariants.{Range, Shape, Degenerate, NameTaken}
 use Rattle.realm_insert.specs.declared.refusal.Refusal.TheVariants.{NoName, Types, NoId, NoPoint, NoTrace}
-use Rattle.realm_insert.specs.declared.refusal.Refusal.TheVariants.{InUse, Ids, Changes, Full}
+use Rattle.realm_insert.specs.declared.refusal.Refusal.TheVariants.{InUse, Ids, Changes, Full, Generations}
 
 abbrev pub line_feed : List ℕ
 line_feed = 10 ∷ []
@@ -37,6 +37,7 @@ word_of InUse = codes "in-use"
 word_of Ids = codes "ids"
 word_of Changes = codes "changes"
 word_of Full = codes "full"
+word_of Generations = codes "generations"
 
 -- the reply to a command that is refused
 abbrev pub no_reply : Refusal → List ℕ

@@ -33,6 +33,7 @@ fn word(refusal: Refusal) -> &'static str
         Refusal::Ids => "ids",
         Refusal::Changes => "changes",
         Refusal::Full => "full",
+        Refusal::Generations => "generations",
     }
 }
 

@@ -10,7 +10,7 @@ ghost use Rattle.rose_shell.specs.Lines.{longest_line};
 ghost use Rattle.rose_shell.specs.Batches.{OpensNone};
 ghost use Rattle.rose_shell.specs.Loop.{ToldOfChange, ToldOfCheckpoint};
 ghost use Rattle.rose_shell.specs.AtDesk.{AtDesk};
-ghost use Rattle.rose_shell.specs.Replies.{checkpoint_reply, no_generations_reply};
+ghost use Rattle.rose_shell.specs.Replies.{checkpoint_reply};
 ghost use Rattle.rose_shell.specs.Running.{StoreTerms};
 
 use crate::desk::Desk;
@@ -149,7 +149,7 @@ fn told_of_checkpoint(
 {
     match done {
         Ok(()) => Ok(reply),
-        Err(CheckpointError::Generations) => Ok(refuse_checkpoint(alloc)?),
+        Err(CheckpointError::Generations) => Ok(refuse(alloc, Refusal::Generations)?),
         Err(CheckpointError::Disk) => Err(Fault::Disk),
         Err(CheckpointError::NoMemory) => Err(Fault::NoMemory),
     }
@@ -160,13 +160,5 @@ fn accept_checkpoint(alloc: Global) -> Result<Reply, NoMemory>
     ensures { IfOk result (λ reply. reply ≡ checkpoint_reply) }
 {
     let text = format!(in alloc; "ok checkpoint\n")?;
-    Ok(Reply::new(text.into_bytes()))
-}
-
-// The reply where there is no greater generation.
-fn refuse_checkpoint(alloc: Global) -> Result<Reply, NoMemory>
-    ensures { IfOk result (λ reply. reply ≡ no_generations_reply) }
-{
-    let text = format!(in alloc; "no generations\n")?;
     Ok(Reply::new(text.into_bytes()))
 }

@@ -1,8 +1,7 @@
 -- This file shows that each line has an answer.
-use Rattle.std.proofs.Common.{◌≡◌, ℕ, ◌-◌, ◌<◌, ◌^◌, false, List, [], ◌∷◌, ◌++◌, length, Option, Some, None, MatchOption}
+use Rattle.std.proofs.Common.{◌≡◌, ℕ, ◌-◌, false, List, [], ◌∷◌, ◌++◌, length, Option, Some, None, MatchOption}
 use Rattle.std.proofs.Common.{refl, sym, subst, inl, inr}
 use Rattle.grid_base.specs.declared.kinds.Step.{Step}
-use Rattle.grid_base.proofs.Signs.{natural_order}
 use Rattle.line_grammar.specs.Lines.{Says}
 use Rattle.line_grammar.specs.Spellable.{IsSpellableChange}
 use Rattle.line_grammar.specs.declared.command.Change.{Change}
@@ -12,15 +11,15 @@ use Rattle.realm_insert.specs.Next.{Next}
 use Rattle.realm_insert.specs.Snapshots.{IsValidState}
 use Rattle.realm_insert.specs.State.{State}
 use Rattle.realm_insert.specs.declared.refusal.Refusal.{Refusal}
-use Rattle.realm_insert.specs.declared.refusal.Refusal.TheVariants.{Full}
 use Rattle.realm_store.specs.Keeping.{Group, SpendableKept, state_with, present, with_group, without_group}
-use Rattle.realm_store.specs.Making.{next_gate, entry_of, record_of, kept_behind, IsMade, IsRefusedFor, Joins, Commits}
+use Rattle.realm_store.specs.Making.{HasRoom, entry_of, record_of, kept_behind, IsMade, IsRefusedFor, Joins, Commits}
 use Rattle.realm_store.specs.Replies.{ok_reply}
 use Rattle.realm_store.specs.Sound.{IsSound}
 use Rattle.rose_query.specs.Replies.{no_reply}
 use Rattle.rose_shell.specs.Answers.{AnswersChange, StoreAnswers}
 use Rattle.one_reply.specs.Answerable.{IsDrawnOnGrid, HasSomeAnswer}
 use Rattle.one_reply.proofs.OneLine.{one_command}
+use Rattle.one_reply.proofs.Rooms.{room_or_not}
 use Rattle.one_reply.proofs.SomeAnswer.{says_or_not, answered_line}
 use Rattle.some_answer.specs.Answered.{HasFewOriginals, IsAnswered}
 use Rattle.some_answer.proofs.NewState.{new_sound}
@@ -45,7 +44,7 @@ refused c old word ready is = record {
 
 -- what is made is written, or joins the group
 committed : (c : Change) (old : SpendableKept) (steps : List Step) (state : State) (group : Option Group) → old.group ≡ group
-    → Next (state_with old.kept.state group) c steps state → IsSound state → next_gate old.kept < 2 ^ 61 → HasAnswer c old
+    → Next (state_with old.kept.state group) c steps state → IsSound state → HasRoom old.kept → HasAnswer c old
 committed c old steps state None alone next sound room =
     let kept = kept_behind old.kept (record_of c steps state.changes) state in
     let reply = ok_reply state.changes (length steps) old.kept.state.next_id (state.next_id - old.kept.state.next_id) in
@@ -69,15 +68,15 @@ committed c old steps state (Some group) open_group next sound room =
     (refl, (more, refl, joins)) in
     record { reply = reply; new = new; unspent = refl; answers = inr commits }
 
--- a change is refused for a cause in the state, or where the file is full, and else made
+-- a change is refused for a cause in the state, or where there is no room for its record, and else made
 answered : (c : Change) (old : SpendableKept) → old.spent ≡ false → IsSpellableChange c → IsValidState (present old)
     → IsDrawnOnGrid (present old) → HasFewOriginals c (present old) → HasAnswer c old
 answered c old ready spellable valid grid few = elim (some_change c (present old) valid grid) [
   | inl (word, is) ↦ refused c old word ready (inl is)
-  | inr (steps, state, next) ↦ elim (natural_order (2 ^ 61) (next_gate old.kept)) [
-    | inl full ↦ refused c old Full ready (inr (next.accepted, full, refl))
-    | inr room ↦ committed c old steps state old.group refl next
+  | inr (steps, state, next) ↦ elim (room_or_not old.kept) [
+    | inl room ↦ committed c old steps state old.group refl next
         (new_sound c (present old) state steps valid grid next spellable few) room
+    | inr (word, lacks) ↦ refused c old word ready (inr (next.accepted, lacks))
   ]
 ]
 

@@ -1,4 +1,7 @@
 //! What is found again after a crash, and after a fault of each call in turn.
+ghost use Rattle.std.specs.Prelude.{◌≡◌, false};
+ghost use Rattle.outside_world.specs.Memory.{has_failed};
+
 use crate::running::{left, look_at_run, place_byte_by_byte, place_of, run_words, told};
 use grid_base::NoMemory;
 use outside_world::{Leave, MemoryWorld};
@@ -61,7 +64,7 @@ static FIRST: [(u64, u8, [u64; 4]); 13] = [
     (17, 3, [1, 1, 1, 1]),
 ];
 
-// Nothing is given then, and these changes are found.
+// So it is on an empty file.
 fn look_at_first<R: Threads + Sync + Abort>(
     rt: &R,
     alloc: Global,
@@ -70,10 +73,25 @@ fn look_at_first<R: Threads + Sync + Abort>(
     changes: &[u64],
 ) -> Result<(), NoMemory> {
     let mut place = place_of(alloc, "point 3 0\n", b"", &[call])?;
-    let status = run_words(rt, alloc, "run", &mut place.world)?;
+    look_at_fault(rt, alloc, &mut place.world, call, number, changes)
+}
+
+/// A run over one line, in which this call fails, gives nothing and ends with this number, and these changes are found in what each
+/// crash leaves then.
+pub(crate) fn look_at_fault<R: Threads + Sync + Abort>(
+    rt: &R,
+    alloc: Global,
+    world: &mut MemoryWorld,
+    call: u64,
+    number: u8,
+    changes: &[u64],
+) -> Result<(), NoMemory>
+    requires intact { has_failed world.old ≡ false }
+{
+    let status = run_words(rt, alloc, "run", world)?;
     assert_eq!(rt; status.number(), number, "at call {call}");
-    assert!(rt; place.world.given().is_empty(), "at call {call}");
-    look_at_leaves(rt, alloc, &place.world, call, changes)
+    assert!(rt; world.given().is_empty(), "at call {call}");
+    look_at_leaves(rt, alloc, world, call, changes)
 }
 
 #[test]
@@ -100,8 +118,8 @@ static MOMENTS: [(&str, u64, u64, u64); 2] = [
     ),
 ];
 
-// None of the changes is found before the gate is written, all of them from its sync on, and between the two none or all.
-fn look_at_moments<R: Threads + Sync + Abort>(
+// So it is on an empty file.
+fn look_at_first_moments<R: Threads + Sync + Abort>(
     rt: &R,
     alloc: Global,
     lines: &str,
@@ -110,21 +128,31 @@ fn look_at_moments<R: Threads + Sync + Abort>(
     changes: u64,
 ) -> Result<(), NoMemory> {
     let mut place = place_of(alloc, lines, b"", &[])?;
-    let status = run_words(rt, alloc, "run", &mut place.world)?;
+    look_at_moments(rt, alloc, &mut place.world, gate, calls, (0, changes))
+}
+
+/// A run makes so many calls. As many changes as before it are found up to the call that writes the gate of its last record, as many as
+/// after it from the sync of this gate on, and between the two the one or the other.
+pub(crate) fn look_at_moments<R: Threads + Sync + Abort>(
+    rt: &R,
+    alloc: Global,
+    world: &mut MemoryWorld,
+    gate: u64,
+    calls: u64,
+    changes: (u64, u64),
+) -> Result<(), NoMemory>
+    requires intact { has_failed world.old ≡ false }
+{
+    let (before, after) = changes;
+    let status = run_words(rt, alloc, "run", world)?;
     assert_eq!(rt; status.number(), 0);
-    assert_eq!(rt; place.world.calls(), calls, "for {lines:?}");
+    assert_eq!(rt; world.calls(), calls, "to {after} changes");
     for moment in 0..gate {
-        look_at_leaves(rt, alloc, &place.world, moment, &[0; 4])?;
+        look_at_leaves(rt, alloc, world, moment, &[before; 4])?;
     }
-    look_at_leaves(rt, alloc, &place.world, gate, &[0, changes, 0, changes])?;
+    look_at_leaves(rt, alloc, world, gate, &[before, after, before, after])?;
     for moment in gate..calls {
-        look_at_leaves(
-            rt,
-            alloc,
-            &place.world,
-            moment.saturating_add(1),
-            &[changes; 4],
-        )?;
+        look_at_leaves(rt, alloc, world, moment.saturating_add(1), &[after; 4])?;
     }
     Ok(())
 }
@@ -132,7 +160,7 @@ fn look_at_moments<R: Threads + Sync + Abort>(
 #[test]
 fn the_first_commit_stands_from_its_gate_on(rt: HostRuntime) {
     for (lines, gate, calls, changes) in MOMENTS.iter() {
-        let done = look_at_moments(&rt, rt.alloc(), lines, *gate, *calls, *changes);
+        let done = look_at_first_moments(&rt, rt.alloc(), lines, *gate, *calls, *changes);
         assert!(rt; done.is_ok(), "no memory");
     }
 }

@@ -4,6 +4,8 @@
 #![tactic(auto)]
 
 #[cfg(test)]
+mod carrying;
+#[cfg(test)]
 mod crashes;
 #[cfg(test)]
 mod damages;
@@ -16,6 +18,8 @@ mod files;
 mod gates;
 #[cfg(test)]
 mod groups;
+#[cfg(test)]
+mod old_files;
 #[cfg(test)]
 mod running;
 #[cfg(test)]

@@ -316,23 +316,28 @@ fn changes_are_put_one_behind_another(rt: HostRuntime) -> Result<(), Fail> {
     Ok(())
 }
 
-// Heads: the generation, the pages, the length, and whether they may stand together.
-const HEADS: [(u64, u64, u64, bool); 10] = [
-    (1, 0, 0, true),
-    (2, 1, 225, true),
-    (2, 1, 4_054, true),
-    (2, 2, 4_055, true),
-    (9_223_372_036_854_775_808, 0, 0, true),
-    (0, 0, 0, false),
-    (9_223_372_036_854_775_809, 0, 0, false),
-    (1, 1, 0, false),
-    (1, 1, 4_055, false),
-    (1, 2, 4_054, false),
+// Heads: the version, the generation, the pages, the length, and whether they may stand together.
+const HEADS: [(u16, u64, u64, u64, bool); 14] = [
+    (1, 1, 0, 0, true),
+    (2, 1, 0, 0, true),
+    (1, 2, 1, 225, true),
+    (2, 2, 1, 4_054, true),
+    (2, 2, 2, 4_055, true),
+    (2, 9_223_372_036_854_775_808, 0, 0, true),
+    (0, 1, 0, 0, false),
+    (3, 1, 0, 0, false),
+    (256, 1, 0, 0, false),
+    (2, 0, 0, 0, false),
+    (2, 9_223_372_036_854_775_809, 0, 0, false),
+    (2, 1, 1, 0, false),
+    (2, 1, 1, 4_055, false),
+    (1, 1, 2, 4_054, false),
 ];
 
-fn head(generation: u64, pages: u64, length: u64) -> [u8; 4095] {
+fn head(version: u16, generation: u64, pages: u64, length: u64) -> [u8; 4095] {
     let mut bytes = [0; 4095];
-    bytes[..9].copy_from_slice(&[0x52, 0x4f, 0x53, 0x45, 0x52, 0x45, 0x4c, 0x00, 0x01]);
+    bytes[..7].copy_from_slice(&[0x52, 0x4f, 0x53, 0x45, 0x52, 0x45, 0x4c]);
+    bytes[7..9].copy_from_slice(&version.to_be_bytes());
     bytes[9..17].copy_from_slice(&generation.to_be_bytes());
     bytes[17..25].copy_from_slice(&pages.to_be_bytes());
     bytes[25..33].copy_from_slice(&length.to_be_bytes());
@@ -340,14 +345,15 @@ fn head(generation: u64, pages: u64, length: u64) -> [u8; 4095] {
 }
 
 // The first row for which that isn't so, or whose head is written otherwise.
-fn other_head(table: &[(u64, u64, u64, bool)]) -> Option<Header> {
-    for (generation, pages, length, is_head) in table {
+fn other_head(table: &[(u16, u64, u64, u64, bool)]) -> Option<Header> {
+    for (version, generation, pages, length, is_head) in table {
         let header = Header {
+            version: u64::from(*version),
             generation: *generation,
             pages: *pages,
             length: *length,
         };
-        let bytes = head(*generation, *pages, *length);
+        let bytes = head(*version, *generation, *pages, *length);
         let found = decode_header(&bytes);
         if found != is_head.then_some(header) {
             return Some(header);
@@ -364,8 +370,8 @@ fn other_head(table: &[(u64, u64, u64, bool)]) -> Option<Header> {
 #[test]
 fn heads_are_read_and_written(rt: HostRuntime) {
     assert_eq!(rt; other_head(&HEADS), None);
-    let bytes = head(1, 0, 0);
-    for place in [0, 6, 8, 33, 4_094] {
+    let bytes = head(2, 1, 0, 0);
+    for place in [0, 6, 7, 33, 4_094] {
         let mut changed = bytes;
         changed[place] = 2;
         assert!(rt; decode_header(&changed).is_none(), "{place}");

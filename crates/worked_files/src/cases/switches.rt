@@ -149,8 +149,12 @@ fn the_fault_that_decides_is_told(rt: HostRuntime) -> Result<(), Fail> {
         // heads
         (FileName::A, 2, 9_000, 0, ("page A", 0, 0)),
         (FileName::A, 9_000, 1, 0, ("page A", 0, 0)),
-        (FileName::B, 9_000, 9, 3, ("page B", 0, 0)),
         (FileName::B, 4_095, 9_000, 0, ("page B", 0, 0)),
+        // their versions
+        (FileName::B, 9_000, 9, 0, ("page B", 0, 0)),
+        (FileName::B, 9_000, 9, 1, ("B", 2, 2)),
+        (FileName::B, 9_000, 9, 3, ("page B", 0, 0)),
+        (FileName::B, 9_000, 8, 1, ("page B", 0, 0)),
         // generation 1 in both files
         (FileName::B, 9_000, 17, 1, ("twins", 1, 0)),
         // pages
@@ -167,6 +171,25 @@ fn the_fault_that_decides_is_told(rt: HostRuntime) -> Result<(), Fail> {
             "{file:?} cut at {cut}, and byte {at} set to {byte}"
         );
     }
+    Ok(())
+}
+
+// The version of the newest of two files; none where none is found.
+fn version_told(alloc: Global, a: &[u8], b: &[u8]) -> Result<Option<u64>, Fail> {
+    let mut world = world_on(alloc, a, b, &[])?;
+    match newest(alloc, &mut world) {
+        Ok(Some(found)) => Ok(Some(found.version)),
+        _ => Ok(None),
+    }
+}
+
+#[test]
+fn version_2_is_written_and_version_1_is_read_too(rt: HostRuntime) -> Result<(), Fail> {
+    let (a, mut b) = two_files(rt.alloc())?;
+    assert_eq!(rt; b.get(9), Some(&2));
+    assert_eq!(rt; version_told(rt.alloc(), &a, &b)?, Some(2));
+    change(&mut b, 9_000, 9, 1);
+    assert_eq!(rt; version_told(rt.alloc(), &a, &b)?, Some(1));
     Ok(())
 }
 

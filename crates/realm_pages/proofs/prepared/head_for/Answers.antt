@@ -1,4 +1,4 @@
-use Rattle.std.proofs.Common.{ℕ, ◌<◌, ◌^◌, length, arith, ap, sym, subst}
+use Rattle.std.proofs.Common.{inr, ℕ, ◌<◌, ◌^◌, length, arith, refl, ap, sym, subst}
 use Rattle.record_codec.specs.declared.header.Header.{Header}
 use Rattle.record_codec.specs.Heads.{IsHeader}
 use Rattle.realm_pages.proofs.Counting.{is_head}
@@ -9,5 +9,5 @@ pub returns-clause-is_header : goal.returns-clause-is_header
 returns-clause-is_header c =
     let size = length c.args.payload.now in
     let small : size < 2 ^ 63 = omega arith in
-    let of_pages : ℕ → Header = λ n. record { generation = c.args.generation; pages = n; length = size } in
-    subst IsHeader (sym (ap of_pages c.pages_for.ensures)) (is_head c.args.generation size c.requires small)
+    let of_pages : ℕ → Header = λ n. record { version = 2; generation = c.args.generation; pages = n; length = size } in
+    subst IsHeader (sym (ap of_pages c.pages_for.ensures)) (is_head 2 c.args.generation size (inr refl) c.requires small)

@@ -7,7 +7,7 @@ use Rattle.realm_pages.proofs.prepared.prepare_pages.Goals as goal
 -- the text is that of the generation
 pub invariant_of-result : goal.invariant_of-result
 invariant_of-result c =
-    let g : Generation = record { number = c.args.generation; payload = c.args.payload.now } in
+    let g : Generation = record { version = 2; number = c.args.generation; payload = c.args.payload.now } in
     let head = c.head_for-head.ensures.head in
     of_generation _ g (subst IsHeader head c.head_for-head.ensures.is_header) head
     (text_is g c.in_ok-block.ensures head)
@@ -15,6 +15,6 @@ invariant_of-result c =
 -- which is read from it
 pub returns : goal.returns
 returns c =
-    let g : Generation = record { number = c.args.generation; payload = c.args.payload.now } in
+    let g : Generation = record { version = 2; number = c.args.generation; payload = c.args.payload.now } in
     let head = c.head_for-head.ensures.head in
     generation_is _ g head (text_is g c.in_ok-block.ensures head)

@@ -7,6 +7,6 @@ pub returns-clause-told : goal.returns-clause-told
 returns-clause-told g c = λ t kept rest next.
     let one = c.switch_to.ensures in
     let told = one.told t in
-    renewed_by meaning kept rest next.file_is next.number next.opens (λ f. g.met.W.Outside.reads_an_image c.switch_to.new.world f t)
+    renewed_by meaning kept rest next.file_is next.version next.number next.opens (λ f. g.met.W.Outside.reads_an_image c.switch_to.new.world f t)
     (λ a may. g.met.W.Outside.counts_now c.switch_to.new.world _ a t told.writes.takes.later may)
     (λ a left. g.met.W.Outside.only_now c.args.world.now a (one.goes_on.tells t) left) told (one.newest t)

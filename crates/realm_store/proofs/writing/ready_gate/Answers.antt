@@ -1,23 +1,25 @@
-use Rattle.std.proofs.Common.{arith}
-use Rattle.realm_store.proofs.ReadyGates.{first_next, first_cut, first_readied, missing_within, missing_next, missing_readied, waiting_readied}
+use Rattle.std.proofs.Common.{arith, ap}
+use Rattle.realm_files.specs.declared.place.Place.{Place}
+use Rattle.realm_store.proofs.ReadyGates.{own_next, own_cut, own_readied, missing_place, missing_within, missing_readied}
+use Rattle.realm_store.proofs.ReadyGates.{waiting_readied, last_has_room}
 use Rattle.realm_store.proofs.writing.ready_gate.Goals as goal
 
--- the first generation isn't whole yet,
-pub returns-in_err-put_next-in-First-clause-told : goal.returns-in_err-put_next-in-First-clause-told
-returns-in_err-put_next-in-First-clause-told g c = λ t kept waits rest.
-    let one = c.in_err-put_next-in-First.ensures.told t kept rest (first_next kept waits c.in-First.is rest.rests) in
-    first_cut kept waits c.from_residual.result c.from_residual.ensures.0 c.in-First.is one
+-- the generation isn't whole yet,
+pub returns-in_err-put_next-in-Next-clause-told : goal.returns-in_err-put_next-in-Next-clause-told
+returns-in_err-put_next-in-Next-clause-told g c = λ t kept waits rest.
+    own_cut kept waits c.from_residual.result c.from_residual.ensures.0 c.in-Next.is
+    (c.in_err-put_next-in-Next.ensures.told t kept rest (own_next kept waits c.in-Next.is))
 
 -- or the gate stands behind it
-pub returns-in_ok-put_next-in-First-clause-told : goal.returns-in_ok-put_next-in-First-clause-told
-returns-in_ok-put_next-in-First-clause-told g c = λ t kept waits rest.
-    first_readied kept waits c.in-First.is (c.in_ok-put_next-in-First.ensures.told t kept rest (first_next kept waits c.in-First.is rest.rests))
+pub returns-in_ok-put_next-in-Next-clause-told : goal.returns-in_ok-put_next-in-Next-clause-told
+returns-in_ok-put_next-in-Next-clause-told g c = λ t kept waits rest.
+    own_readied kept waits c.in-Next.is (c.in_ok-put_next-in-Next.ensures.told t kept rest (own_next kept waits c.in-Next.is))
 
 -- the gate that is missing is within its file or at the end, and not too far
 pub shut_gate-requires-clause-room : goal.shut_gate-requires-clause-room
 shut_gate-requires-clause-room g c =
     let (kept, waits, room, rest) = c.requires.rest in
-    omega (arith, missing_next kept waits c.in-Missing.is, room)
+    omega (arith, ap (λ (p : Place). p.next) (missing_place kept waits c.in-Missing.is), room.gate)
 
 pub shut_gate-requires-clause-within : goal.shut_gate-requires-clause-within
 shut_gate-requires-clause-within g c = λ t.
@@ -33,3 +35,9 @@ returns-in-Missing-clause-told g c = λ t kept waits rest.
 -- nothing was to be done
 pub returns-in-Waiting-clause-told : goal.returns-in-Waiting-clause-told
 returns-in-Waiting-clause-told g c = λ t kept waits rest. waiting_readied kept waits c.in-Waiting.is rest
+
+-- there is room
+pub unreachable-requires : goal.unreachable-requires
+unreachable-requires g c =
+    let (kept, waits, room, rest) = c.requires.rest in
+    last_has_room kept waits c.in-Last.is room

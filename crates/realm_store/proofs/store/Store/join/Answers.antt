@@ -1,33 +1,35 @@
-use Rattle.std.proofs.Common.{◌≡◌, ◌∙◌, ap, subst, Err}
-use Rattle.realm_insert.specs.Refusals.{IsRefusedBy}
-use Rattle.realm_insert.specs.declared.refusal.Refusal.{Refusal as Word}
-use Rattle.realm_store.specs.Keeping.{SpendableKept, present}
-use Rattle.realm_store.proofs.Groups.{at_present, same_store, holds_joined, commits_joined}
+use Rattle.std.proofs.Common.{◌≡◌, inl, ◌∙◌, ap, subst}
+use Rattle.std.specs.Prelude.{MatchOption}
+use Rattle.realm_store.specs.declared.error.CommitError.TheVariants.{Refused}
+use Rattle.realm_store.specs.Keeping.{SpendableKept}
+use Rattle.realm_store.specs.Making.{HasRoom, LacksRoom}
+use Rattle.realm_store.proofs.Groups.{room_in}
 use Rattle.realm_store.proofs.store.Store.join.Goals as goal
 
--- its entry leads on from those of the group
-pub invariant_of-self-in-Ok : goal.invariant_of-self-in-Ok
-invariant_of-self-in-Ok g c = λ _.
+-- the gate of the group has no room,
+pub refuse-requires-clause-lacks : goal.refuse-requires-clause-lacks
+refuse-requires-clause-lacks g c = λ lifetimes lives.
     let unspent = ap (λ (s : SpendableKept). s.spent) c.self.view_is ∙ c.requires.ready in
-    record {
-      ready = c.in-Ok.ensures.ready;
-      is_open = holds_joined c.in-Ok.ensures.made _ _ _ c.self.inside.group c.join_group.new.group c.self.view_is c.requires.in_group
-          c.requires.room c.in_ok-join_group-in-Ok.ensures.joined c.requires.spellable (c.self.invariant unspent).is_open;
-    }
+    let kept = c.args.self.now.kept in
+    subst (λ f. MatchOption f (HasRoom kept) (LacksRoom kept)) c.in-Some.is
+    (room_in c.self.inside.engine.state c.self.inside.group _ c.self.view_is c.requires.in_group (c.self.invariant unspent).is_open
+    c.lack_in.ensures)
 
--- the change joins it
-pub returns-in_ok-join_group-in-Ok-clause-made : goal.returns-in_ok-join_group-in-Ok-clause-made
-returns-in_ok-join_group-in-Ok-clause-made g c =
-    commits_joined c.in-Ok.ensures.made _ _ _ c.self.inside.group c.join_group.new.group c.self.view_is c.requires.in_group c.requires.room
-    c.in_ok-join_group-in-Ok.ensures.joined
+pub returns-in-Some-clause-refused : goal.returns-in-Some-clause-refused
+returns-in-Some-clause-refused g c = λ word same.
+    let is : c.refuse.result ≡ Refused word = cc in
+    c.refuse.ensures.refused word is
 
--- the engine refuses the change, and is as it was
-pub returns-in-Err-Refused-clause-refused : goal.returns-in-Err-Refused-clause-refused
-returns-in-Err-Refused-clause-refused g c = λ word same.
-    let (why, stays) = c.in-Err-Refused.ensures.refused c.in-Err-Refused.word (ap Err c.in-Err-Refused.field-0-is) in
-    let is : c.in-Err-Refused.word ≡ word = cc in
-    let here = subst (λ s. IsRefusedBy c.args.c.now s c.in-Err-Refused.word)
-    (at_present c.self.inside.engine.state c.self.inside.group c.self.view_is) why in (
-      subst (λ (w : Word). IsRefusedBy c.args.c.now (present c.args.self.now) w) is here,
-      same_store c.self.inside.group stays c.self.view_is c.requires.ready,
-    )
+-- or it has, for each change
+pub add-requires-clause-room : goal.add-requires-clause-room
+add-requires-clause-room g c = λ lifetimes lives.
+    let unspent = ap (λ (s : SpendableKept). s.spent) c.self.view_is ∙ c.requires.ready in
+    let kept = c.args.self.now.kept in
+    subst (λ f. MatchOption f (HasRoom kept) (LacksRoom kept)) c.in-None.is
+    (room_in c.self.inside.engine.state c.self.inside.group _ c.self.view_is c.requires.in_group (c.self.invariant unspent).is_open
+    c.lack_in.ensures)
+
+pub returns-in-None-clause-refused : goal.returns-in-None-clause-refused
+returns-in-None-clause-refused g c = λ word same.
+    let (refused, stays) = c.add.ensures.refused word same in
+    (inl refused, stays)
