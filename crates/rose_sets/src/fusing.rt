@@ -17,7 +17,7 @@ use r_faces::{distinct, places_in};
 use rose_values::Geometry;
 use std::alloc::Global;
 
-/// The different keys ascending, each with the sum of the values that have it, which are all of one kind.
+/// One group a key, by rising keys, with the sum of the values that have this key, which are all of one kind.
 /// Each value has the key at its own place, and the segments of all values are those of one realm.
 pub fn fusion(alloc: Global, list: &[Geometry], keys: &[u64]) -> Result<Vec<Group>, SetError>
     requires noded { AreNoded (all_segments list.now) }
