@@ -16,3 +16,5 @@ pub mod PointsAndRegions
 pub mod OuterWays
 -- sides that are odd for one border and outer for another
 pub mod OpenSides
+-- what the boxes of two values tell
+pub mod BoxedValues

@@ -119,7 +119,7 @@ module _ (A B : List GridSegment) (h : AreBorders A B) (t : GridSegment) (there 
 -- ---- ways in the outer class
 module _ (A B : List GridSegment) (h : AreBorders A B) (up : AreSegmentsAscending B) (closed : AreClosedOff A B) where
   -- they meet no segment of B: it would have an odd side there
-  never_met : (m : Place) (t : GridSegment) → IsFree A m → IsOuter A m → Contains B t → Holds t m → ⊥
+  pub never_met : (m : Place) (t : GridSegment) → IsFree A m → IsOuter A m → Contains B t → Holds t m → ⊥
   never_met m t free outer there held =
       elim (one_is (left_answer B t) (right_answer B t) true (own_by_sides B t ∙ once t B up there)) [
         | inl e ↦

@@ -38,18 +38,19 @@ not_is told same = not_told (told_by told same)
 pub not_held : {P : Type 0} {a : Bool} → IsTrue a ↔ P → a ≡ false → P → ⊥
 not_held told e p = true≢false (sym (told.1 p) ∙ e)
 
--- of neither, where the first doesn't hold
-pub neither_told : {P Q S : Type 0} {b : Bool} → (P → ⊥) → IsTrue b ↔ Q → S ↔ (P ⊎ Q) → IsTrue (not b) ↔ (S → ⊥)
-neither_told none second split = (
-  λ e s. elim (split.0 s) [ inl p ↦ none p | inr q ↦ (not_told second).0 e q ],
-  λ not_s. (not_told second).1 (λ q. not_s (split.1 (inr q))),
-)
+-- what never holds, and is told so
+pub never : {P : Type 0} → (P → ⊥) → IsTrue false ↔ P
+never none = (λ e. absurd (true≢false (sym e)), λ p. absurd (none p))
 
--- of the other one, where the first doesn't hold
-pub other_told : {P Q S : Type 0} {b : Bool} → (P → ⊥) → IsTrue b ↔ Q → S ↔ (P ⊎ Q) → IsTrue b ↔ S
-other_told none second split = (
-  λ e. split.1 (inr (second.0 e)),
-  λ s. elim (split.0 s) [ inl p ↦ absurd (none p) | inr q ↦ second.1 q ],
+-- what holds, and is told so
+pub always : {P : Type 0} → P → IsTrue true ↔ P
+always p = (λ e. p, λ q. refl)
+
+-- of neither, where the second doesn't hold
+pub neither_told : {P Q S : Type 0} {b : Bool} → (Q → ⊥) → IsTrue b ↔ P → S ↔ (P ⊎ Q) → IsTrue (not b) ↔ (S → ⊥)
+neither_told none first split = (
+  λ e s. elim (split.0 s) [ inl p ↦ (not_told first).0 e p | inr q ↦ none q ],
+  λ not_s. (not_told first).1 (λ p. not_s (split.1 (inl p))),
 )
 
 -- of both, where the first holds

@@ -5,6 +5,7 @@ mod answering;
 mod enclosing;
 mod laws;
 mod members;
+mod of_boxes;
 mod of_lines;
 mod of_points;
 mod of_regions;

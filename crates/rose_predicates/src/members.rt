@@ -6,6 +6,7 @@ ghost use Rattle.rose_values.specs.Areas.{IsOnSome};
 ghost use Rattle.rose_values.specs.Border.{ArePointsAscending, AreSegmentsAscending};
 ghost use Rattle.rose_values.specs.Operators.{HasEnds};
 
+use crate::of_boxes::lie_apart;
 use grid_base::{NoMemory, Point, Segment};
 use rose_overlay::{ascending_points, ends, has_point, has_segment, lesser_ends_first};
 use std::alloc::Global;
@@ -39,6 +40,9 @@ pub(crate) fn share_segment(a: &[Segment], b: &[Segment]) -> bool
     requires { AreSegmentsAscending b.now }
     ensures { IsTrue result ↔ Any (Contains b.now) a.now }
 {
+    if lie_apart(a, b) {
+        return false;
+    }
     a.iter().any(|s| has_segment(b, s))
 }
 
@@ -48,6 +52,9 @@ pub(crate) fn share_vertex(alloc: Global, a: &[Segment], b: &[Segment]) -> Resul
     ensures { IfOk result (λ answer. IsTrue answer
         ↔ ((q : Place) × IsOnSome a.now q × IsOnSome b.now q)) }
 {
+    if lie_apart(a, b) {
+        return Ok(false);
+    }
     lesser_ends_first(a);
     lesser_ends_first(b);
     let first = vertices(alloc, a)?;

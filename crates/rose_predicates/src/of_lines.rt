@@ -12,6 +12,7 @@ ghost use Rattle.rose_predicates.specs.declared.answering.HoldsError.TheVariants
 
 use crate::answering::HoldsError;
 use crate::members::{all_segments_in, share_segment, share_vertex};
+use crate::of_boxes::{lie_beside, reaches_out};
 use grid_base::{NoMemory, Segment};
 use rose_overlay::{ascending_segments, lesser_ends_first, within};
 use rose_values::Pred;
@@ -77,6 +78,9 @@ fn are_inside(alloc: Global, lines: &[Segment], border: &[Segment]) -> Result<bo
     requires border { IsBorder border.now }
     ensures { IfOk result (λ answer. IsTrue answer ↔ IsInside (L lines.now) (R border.now)) }
 {
+    if reaches_out(lines, border) {
+        return Ok(false);
+    }
     let lying = lying_in(alloc, lines, border)?;
     Ok(all_segments_in(lines, &lying))
 }
@@ -87,6 +91,9 @@ fn reach_into(alloc: Global, lines: &[Segment], border: &[Segment]) -> Result<bo
     requires border { IsBorder border.now }
     ensures { IfOk result (λ answer. IsTrue answer ↔ ReachesInto (L lines.now) (R border.now)) }
 {
+    if lie_beside(lines, border) {
+        return Ok(false);
+    }
     lesser_ends_first(lines);
     lesser_ends_first(border);
     let lying = lying_in(alloc, lines, border)?;
@@ -101,9 +108,12 @@ fn are_outside(alloc: Global, lines: &[Segment], border: &[Segment]) -> Result<b
 {
     lesser_ends_first(lines);
     lesser_ends_first(border);
-    let reaching = reach_into(alloc, lines, border)?;
     let touching = share_vertex(alloc, lines, border)?;
-    Ok(!reaching && !touching)
+    if touching {
+        return Ok(false);
+    }
+    let reaching = reach_into(alloc, lines, border)?;
+    Ok(!reaching)
 }
 
 // Whether the lines touch the region and don't reach into it.
@@ -115,9 +125,12 @@ fn meet(alloc: Global, lines: &[Segment], border: &[Segment]) -> Result<bool, No
 {
     lesser_ends_first(lines);
     lesser_ends_first(border);
-    let reaching = reach_into(alloc, lines, border)?;
     let touching = share_vertex(alloc, lines, border)?;
-    Ok(!reaching && touching)
+    if !touching {
+        return Ok(false);
+    }
+    let reaching = reach_into(alloc, lines, border)?;
+    Ok(!reaching)
 }
 
 // Whether each place of the lines is on the border: each segment is one of it.

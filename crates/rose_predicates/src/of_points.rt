@@ -2,7 +2,7 @@
 ghost use Rattle.std.specs.Prelude.{◌≡◌, ◌⊎◌, ◌↔◌, List, IfOk, IsTrue, All, Any, Contains, Err, false};
 ghost use Rattle.grid_base.specs.declared.kinds.Kind.TheVariants.{Points, Lines, Regions};
 ghost use Rattle.grid_base.specs.Segment.{GridSegment};
-ghost use Rattle.grid_base.specs.Border.{AreNoded};
+ghost use Rattle.grid_base.specs.Border.{AreNoded, IsEvenBorder};
 ghost use Rattle.grid_base.specs.Odd.{Odd};
 ghost use Rattle.grid_base.specs.Plane.{as_place};
 ghost use Rattle.grid_base.specs.SideOf.{as_rational};
@@ -15,6 +15,7 @@ ghost use Rattle.rose_predicates.specs.declared.answering.HoldsError.TheVariants
 
 use crate::answering::HoldsError;
 use crate::members::{all_points_in, share_point, vertices};
+use crate::of_boxes::{all_are_off, one_is_off};
 use grid_base::{NoMemory, Point, Segment};
 use plane_sweep::odd_points;
 use rose_overlay::{has_point, lesser_ends_first};
@@ -73,6 +74,9 @@ fn are_on(alloc: Global, points: &[Point], lines: &[Segment]) -> Result<bool, No
     requires outside { AreOutside points.now lines.now }
     ensures { IfOk result (λ answer. IsTrue answer ↔ IsInside (P points.now) (L lines.now)) }
 {
+    if one_is_off(points, lines) {
+        return Ok(false);
+    }
     lesser_ends_first(lines);
     let vertices = vertices(alloc, lines)?;
     Ok(all_points_in(points, &vertices))
@@ -83,6 +87,9 @@ fn are_off(alloc: Global, points: &[Point], lines: &[Segment]) -> Result<bool, N
     requires outside { AreOutside points.now lines.now }
     ensures { IfOk result (λ answer. IsTrue answer ↔ ¬ ShareAPoint (P points.now) (L lines.now)) }
 {
+    if all_are_off(points, lines) {
+        return Ok(true);
+    }
     lesser_ends_first(lines);
     let vertices = vertices(alloc, lines)?;
     Ok(!share_point(points, &vertices))
@@ -95,6 +102,7 @@ pub(crate) fn of_points_and_region(
     border: &[Segment],
 ) -> Result<bool, HoldsError>
     requires noded { AreNoded border.now }
+    requires even { IsEvenBorder border.now }
     requires outside { AreOutside points.now border.now }
     ensures holds { IfOk result (λ answer. IsTrue answer ↔ IsTrueOf pred (P points.now) (R border.now)) }
     ensures wrong_types { (result ≡ Err WrongTypes) ↔ (takes_kinds pred Points Regions ≡ false) }
@@ -110,9 +118,13 @@ pub(crate) fn of_points_and_region(
 // Whether each of the points is one of the region.
 fn are_inside(alloc: Global, points: &[Point], border: &[Segment]) -> Result<bool, NoMemory>
     requires noded { AreNoded border.now }
+    requires even { IsEvenBorder border.now }
     requires outside { AreOutside points.now border.now }
     ensures { IfOk result (λ answer. IsTrue answer ↔ IsInside (P points.now) (R border.now)) }
 {
+    if one_is_off(points, border) {
+        return Ok(false);
+    }
     lesser_ends_first(border);
     let vertices = vertices(alloc, border)?;
     let odd = odd_points(alloc, border, points)?;
@@ -122,9 +134,13 @@ fn are_inside(alloc: Global, points: &[Point], border: &[Segment]) -> Result<boo
 // Whether none of the points is one of the region.
 fn are_outside(alloc: Global, points: &[Point], border: &[Segment]) -> Result<bool, NoMemory>
     requires noded { AreNoded border.now }
+    requires even { IsEvenBorder border.now }
     requires outside { AreOutside points.now border.now }
     ensures { IfOk result (λ answer. IsTrue answer ↔ ¬ ShareAPoint (P points.now) (R border.now)) }
 {
+    if all_are_off(points, border) {
+        return Ok(true);
+    }
     lesser_ends_first(border);
     let vertices = vertices(alloc, border)?;
     let odd = odd_points(alloc, border, points)?;

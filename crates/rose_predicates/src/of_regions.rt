@@ -1,5 +1,6 @@
 //! Two regions. What an operator makes of them is empty exactly where it has no place, so areas are compared
-//! by what intersection and minus make, and borders by their segments and ends.
+//! by what intersection and minus make, and borders by their segments and ends. Boxes, common segments and
+//! common ends are found at less cost than what an operator makes, and are asked first.
 ghost use Rattle.std.specs.Prelude.{◌≡◌, ◌↔◌, ◌++◌, IfOk, IsTrue, Err, false};
 ghost use Rattle.grid_base.specs.Border.{AreNoded};
 ghost use Rattle.grid_base.specs.declared.kinds.Kind.TheVariants.{Regions};
@@ -13,6 +14,7 @@ ghost use Rattle.rose_predicates.specs.declared.answering.HoldsError.TheVariants
 use crate::answering::HoldsError;
 use crate::enclosing::is_shut_in;
 use crate::members::{share_segment, share_vertex};
+use crate::of_boxes::{lie_beside, reaches_out};
 use grid_base::{NoMemory, Segment};
 use rose_overlay::{combination, lesser_ends_first};
 use rose_values::{Op, Pred};
@@ -59,13 +61,17 @@ fn are_equal(a: &[Segment], b: &[Segment]) -> bool
     a == b
 }
 
-// Whether each point of the first is one of the second: minus makes nothing of them.
+// Whether each point of the first is one of the second: minus makes nothing of them. It makes something where
+// the first reaches out of the box of the second.
 fn is_inside(alloc: Global, a: &[Segment], b: &[Segment]) -> Result<bool, NoMemory>
     requires noded { AreNoded (a.now ++ b.now) }
     requires first { IsBorder a.now }
     requires second { IsBorder b.now }
     ensures { IfOk result (λ answer. IsTrue answer ↔ IsInside (R a.now) (R b.now)) }
 {
+    if reaches_out(a, b) {
+        return Ok(false);
+    }
     lesser_ends_first(a);
     lesser_ends_first(b);
     let outside = combination(alloc, Op::Minus, a, b)?;
@@ -80,8 +86,10 @@ fn is_edge_inside(alloc: Global, a: &[Segment], b: &[Segment]) -> Result<bool, N
     ensures { IfOk result (λ answer. IsTrue answer
         ↔ (IsInside (R a.now) (R b.now) × ¬ ShareASegment (R a.now) (R b.now))) }
 {
-    let inside = is_inside(alloc, a, b)?;
-    Ok(inside && !share_segment(a, b))
+    if share_segment(a, b) {
+        return Ok(false);
+    }
+    Ok(is_inside(alloc, a, b)?)
 }
 
 // The same, and no point is on both borders.
@@ -92,18 +100,24 @@ fn is_vertex_inside(alloc: Global, a: &[Segment], b: &[Segment]) -> Result<bool,
     ensures { IfOk result (λ answer. IsTrue answer
         ↔ (IsInside (R a.now) (R b.now) × ¬ ShareABorderPoint (R a.now) (R b.now))) }
 {
-    let inside = is_inside(alloc, a, b)?;
     let touching = share_vertex(alloc, a, b)?;
-    Ok(inside && !touching)
+    if touching {
+        return Ok(false);
+    }
+    Ok(is_inside(alloc, a, b)?)
 }
 
-// Whether some point is interior to both: intersection makes something of them.
+// Whether some point is interior to both: intersection makes something of them. It makes nothing where their
+// boxes lie beside each other.
 fn areas_meet(alloc: Global, a: &[Segment], b: &[Segment]) -> Result<bool, NoMemory>
     requires noded { AreNoded (a.now ++ b.now) }
     requires first { IsBorder a.now }
     requires second { IsBorder b.now }
     ensures { IfOk result (λ answer. IsTrue answer ↔ AreasMeet (R a.now) (R b.now)) }
 {
+    if lie_beside(a, b) {
+        return Ok(false);
+    }
     lesser_ends_first(a);
     lesser_ends_first(b);
     let common = combination(alloc, Op::Intersection, a, b)?;
@@ -117,8 +131,11 @@ fn are_edge_disjoint(alloc: Global, a: &[Segment], b: &[Segment]) -> Result<bool
     requires second { IsBorder b.now }
     ensures { IfOk result (λ answer. IsTrue answer ↔ AreEdgeDisjoint (R a.now) (R b.now)) }
 {
+    if share_segment(a, b) {
+        return Ok(false);
+    }
     let meeting = areas_meet(alloc, a, b)?;
-    Ok(!meeting && !share_segment(a, b))
+    Ok(!meeting)
 }
 
 // Whether no point is a point of both: none is interior to both, and none on both borders.
@@ -130,9 +147,12 @@ fn are_disjoint(alloc: Global, a: &[Segment], b: &[Segment]) -> Result<bool, NoM
 {
     lesser_ends_first(a);
     lesser_ends_first(b);
-    let meeting = areas_meet(alloc, a, b)?;
     let touching = share_vertex(alloc, a, b)?;
-    Ok(!meeting && !touching)
+    if touching {
+        return Ok(false);
+    }
+    let meeting = areas_meet(alloc, a, b)?;
+    Ok(!meeting)
 }
 
 // Whether they touch, in points alone.
@@ -145,9 +165,11 @@ fn are_meeting(alloc: Global, a: &[Segment], b: &[Segment]) -> Result<bool, NoMe
 {
     lesser_ends_first(a);
     lesser_ends_first(b);
-    let apart = are_edge_disjoint(alloc, a, b)?;
     let touching = share_vertex(alloc, a, b)?;
-    Ok(apart && touching)
+    if !touching {
+        return Ok(false);
+    }
+    Ok(are_edge_disjoint(alloc, a, b)?)
 }
 
 // Whether they touch along a segment, with no point interior to both.
@@ -158,11 +180,15 @@ fn are_adjacent(alloc: Global, a: &[Segment], b: &[Segment]) -> Result<bool, NoM
     ensures { IfOk result (λ answer. IsTrue answer
         ↔ ((¬ AreasMeet (R a.now) (R b.now)) × ShareASegment (R a.now) (R b.now))) }
 {
+    if !share_segment(a, b) {
+        return Ok(false);
+    }
     let meeting = areas_meet(alloc, a, b)?;
-    Ok(!meeting && share_segment(a, b))
+    Ok(!meeting)
 }
 
-// Whether the areas don't meet, and the first encloses that of the second.
+// Whether the areas don't meet, and the first encloses that of the second: no part of it then reaches out of
+// the box of the first.
 fn encloses(alloc: Global, a: &[Segment], b: &[Segment]) -> Result<bool, NoMemory>
     requires noded { AreNoded (a.now ++ b.now) }
     requires first { IsBorder a.now }
@@ -170,7 +196,12 @@ fn encloses(alloc: Global, a: &[Segment], b: &[Segment]) -> Result<bool, NoMemor
     ensures { IfOk result (λ answer. IsTrue answer
         ↔ ((¬ AreasMeet (R a.now) (R b.now)) × IsShutIn (R a.now) (R b.now))) }
 {
+    if reaches_out(b, a) {
+        return Ok(false);
+    }
     let meeting = areas_meet(alloc, a, b)?;
-    let shut_in = is_shut_in(alloc, a, b)?;
-    Ok(!meeting && shut_in)
+    if meeting {
+        return Ok(false);
+    }
+    Ok(is_shut_in(alloc, a, b)?)
 }

@@ -2,7 +2,6 @@
 //! two lists overlap, and values gathered by keys. Begin at `sum`.
 #![tactic(auto)]
 
-mod boxes;
 mod common;
 mod decomposing;
 mod error;

@@ -114,13 +114,41 @@ const WIDE_RING: Row = Row::R(&[
     [6, 0, 6, 6],
 ]);
 
+const BESIDE: Row = Row::R(&[[6, 2, 6, 4], [6, 2, 8, 2], [6, 4, 8, 4], [8, 2, 8, 4]]);
+
+const ABOVE: Row = Row::R(&[[2, 6, 2, 8], [2, 6, 4, 6], [2, 8, 4, 8], [4, 6, 4, 8]]);
+
+const UPPER: Row = Row::R(&[[2, 4, 2, 6], [2, 4, 4, 4], [2, 6, 4, 6], [4, 4, 4, 6]]);
+
+const DIAMOND: Row = Row::R(&[[0, 2, 2, 0], [0, 2, 2, 4], [2, 0, 4, 2], [2, 4, 4, 2]]);
+
+const HOOK: Row = Row::R(&[
+    [0, 0, 0, 8],
+    [0, 0, 8, 0],
+    [0, 8, 2, 8],
+    [2, 2, 2, 8],
+    [2, 2, 8, 2],
+    [8, 0, 8, 2],
+]);
+
+const SMALL_AND_FAR: Row = Row::R(&[
+    [2, 2, 2, 4],
+    [2, 2, 4, 2],
+    [2, 4, 4, 4],
+    [4, 2, 4, 4],
+    [8, 8, 8, 9],
+    [8, 8, 9, 8],
+    [8, 9, 9, 9],
+    [9, 8, 9, 9],
+]);
+
 const NOTHING: Row = Row::R(&[]);
 
 const BEND: Row = Row::L(&[[0, 0, 2, 2], [2, 2, 5, 2]]);
 
 const RISING: Row = Row::L(&[[0, 0, 2, 2], [2, 2, 4, 4]]);
 
-static PAIRS: [(Row, Row, &str); 38] = [
+static PAIRS: [(Row, Row, &str); 66] = [
     // squares beside one another and in one another, with common sides and corners, rings, and nothing
     (SMALL, SMALL, "11000001000-1"),
     (SMALL, LARGE, "01110001000-0"),
@@ -135,6 +163,57 @@ static PAIRS: [(Row, Row, &str); 38] = [
     (SMALL, NOTHING, "00001110001-0"),
     (NOTHING, SMALL, "01111110000-0"),
     (NOTHING, NOTHING, "11111110001-0"),
+    // boxes apart in columns alone, and in rows alone
+    (SMALL, BESIDE, "00001110000-0"),
+    (BESIDE, SMALL, "00001110000-0"),
+    (SMALL, ABOVE, "00001110000-0"),
+    (ABOVE, SMALL, "00001110000-0"),
+    (FAR, SMALL, "00001110000-0"),
+    // boxes that touch in a side: along a segment, at a common vertex, and where the regions don't touch
+    (RIGHT, SMALL, "00001000010-1"),
+    (SMALL, UPPER, "00001000010-1"),
+    (UPPER, SMALL, "00001000010-1"),
+    (
+        DIAMOND,
+        Row::R(&[[4, 2, 6, 0], [4, 2, 6, 4], [6, 0, 8, 2], [6, 4, 8, 2]]),
+        "00001100100-0",
+    ),
+    (
+        DIAMOND,
+        Row::R(&[[4, 3, 6, 1], [4, 3, 6, 5], [6, 1, 8, 3], [6, 5, 8, 3]]),
+        "00001110000-0",
+    ),
+    (
+        DIAMOND,
+        Row::R(&[[0, 6, 2, 4], [0, 6, 2, 8], [2, 4, 4, 6], [2, 8, 4, 6]]),
+        "00001100100-0",
+    ),
+    (
+        DIAMOND,
+        Row::R(&[[1, 6, 3, 4], [1, 6, 3, 8], [3, 4, 5, 6], [3, 8, 5, 6]]),
+        "00001110000-0",
+    ),
+    // boxes that touch in a corner, with the regions and without
+    (CORNER, SMALL, "00001100100-0"),
+    (
+        DIAMOND,
+        Row::R(&[[4, 6, 6, 4], [4, 6, 6, 8], [6, 4, 8, 6], [6, 8, 8, 6]]),
+        "00001110000-0",
+    ),
+    // one in the box of the other, and partly in it, without meeting; and some of it shut in
+    (CORNER, HOOK, "00001110000-0"),
+    (HOOK, CORNER, "00001110000-0"),
+    (
+        HOOK,
+        Row::R(&[[4, 4, 4, 9], [4, 4, 9, 4], [4, 9, 9, 9], [9, 4, 9, 9]]),
+        "00001110000-0",
+    ),
+    (WIDE_RING, SMALL_AND_FAR, "00001110000-0"),
+    (SMALL_AND_FAR, SMALL, "00000001000-1"),
+    (SMALL, SMALL_AND_FAR, "01000001000-1"),
+    // nothing, and what is far from it
+    (NOTHING, FAR, "01111110000-0"),
+    (FAR, NOTHING, "00001110001-0"),
     // lines on the border, to a corner from outside and from inside, within, through, and none
     (Row::L(&[[2, 2, 2, 4]]), SMALL, "-1----001--11"),
     (Row::L(&[[4, 4, 6, 6]]), SMALL, "-0----001--00"),
@@ -148,6 +227,13 @@ static PAIRS: [(Row, Row, &str); 38] = [
     (Row::L(&[[7, 7, 8, 9]]), SMALL, "-0----100--00"),
     (Row::L(&[]), SMALL, "-1----100--10"),
     (Row::L(&[[7, 7, 8, 9]]), NOTHING, "-0----100--00"),
+    (Row::L(&[]), NOTHING, "-1----100--10"),
+    // lines whose box is apart, touches a side with the region and without, and lies in that of the region
+    (Row::L(&[[2, 6, 4, 6]]), SMALL, "-0----100--00"),
+    (Row::L(&[[4, 2, 4, 5]]), DIAMOND, "-0----001--00"),
+    (Row::L(&[[4, 3, 6, 3]]), DIAMOND, "-0----100--00"),
+    (Row::L(&[[0, 0, 1, 0]]), DIAMOND, "-0----100--00"),
+    (Row::L(&[[1, 2, 3, 2]]), DIAMOND, "-1----010--00"),
     // points at a corner, in a region, and outside
     (Row::P(&[[2, 2]]), SMALL, "-1----0----1-"),
     (Row::P(&[[2, 2], [3, 3]]), SMALL, "-1----0----0-"),

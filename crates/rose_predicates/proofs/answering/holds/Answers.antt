@@ -1,5 +1,5 @@
 use Rattle.std.proofs.Common.{sym, subst}
-use Rattle.grid_base.specs.Border.{AreNoded}
+use Rattle.grid_base.specs.Border.{AreNoded, IsEvenBorder}
 use Rattle.rose_values.specs.Border.{IsBorder}
 use Rattle.rose_predicates.proofs.answering.holds.Goals as goal
 
@@ -8,6 +8,11 @@ pub of_points_and_region-requires-clause-noded : goal.of_points_and_region-requi
 of_points_and_region-requires-clause-noded c =
     let e = c.segments-in-P-R.ensures in
     subst AreNoded (sym e.segments) e.noded
+
+pub of_points_and_region-requires-clause-even : goal.of_points_and_region-requires-clause-even
+of_points_and_region-requires-clause-even c =
+    let e = c.segments-in-P-R.ensures in
+    subst IsEvenBorder (sym e.segments) e.even
 
 pub of_lines_and_region-requires-clause-border : goal.of_lines_and_region-requires-clause-border
 of_lines_and_region-requires-clause-border c =

@@ -1,6 +1,10 @@
 use Rattle.rose_predicates.proofs.PointSets.{share_ends}
-use Rattle.rose_predicates.proofs.Truths.{told_by}
+use Rattle.rose_predicates.proofs.Truths.{never, told_by}
 use Rattle.rose_predicates.proofs.members.share_vertex.Goals as goal
+
+-- boxes apart have no common place
+pub returns-then-lie_apart : goal.returns-then-lie_apart
+returns-then-lie_apart c = never (λ both. c.lie_apart.ensures.places c.if-lie_apart.true both.0 both.1 both.2)
 
 -- a common place is an end of both
 pub returns : goal.returns

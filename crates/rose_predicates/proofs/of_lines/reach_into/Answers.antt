@@ -1,6 +1,10 @@
 use Rattle.rose_predicates.proofs.LinesAndRegions.{laid, reach_told}
-use Rattle.rose_predicates.proofs.Truths.{not_told, told_by}
+use Rattle.rose_predicates.proofs.Truths.{never, not_told, told_by}
 use Rattle.rose_predicates.proofs.of_lines.reach_into.Goals as goal
+
+-- nothing of what is in one box is strictly inside another beside it
+pub returns-then-lie_beside : goal.returns-then-lie_beside
+returns-then-lie_beside c = never (c.lie_beside.ensures.lines c.if-lie_beside.true c.requires.border.even)
 
 -- a segment lies in the region that isn't one of its border
 pub returns : goal.returns

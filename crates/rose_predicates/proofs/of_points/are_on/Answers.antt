@@ -1,6 +1,10 @@
 use Rattle.rose_predicates.proofs.PointSets.{points_on}
-use Rattle.rose_predicates.proofs.Truths.{told_by}
+use Rattle.rose_predicates.proofs.Truths.{never, told_by}
 use Rattle.rose_predicates.proofs.of_points.are_on.Goals as goal
+
+-- a point off the box is none of these
+pub returns-then-one_is_off : goal.returns-then-one_is_off
+returns-then-one_is_off c = never (c.one_is_off.ensures.lines c.if-one_is_off.true)
 
 -- the points that are on the lines are ends
 pub returns : goal.returns

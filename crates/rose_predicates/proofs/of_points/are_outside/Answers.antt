@@ -1,6 +1,10 @@
 use Rattle.rose_predicates.proofs.PointsAndRegions.{points_touch_region}
-use Rattle.rose_predicates.proofs.Truths.{not_is}
+use Rattle.rose_predicates.proofs.Truths.{always, not_is}
 use Rattle.rose_predicates.proofs.of_points.are_outside.Goals as goal
+
+-- points off the box are none of these
+pub returns-then-all_are_off : goal.returns-then-all_are_off
+returns-then-all_are_off c = always (c.all_are_off.ensures.region c.if-all_are_off.true c.requires.even)
 
 -- the points of the region among them are ends of its border or odd
 pub returns : goal.returns

@@ -3,8 +3,13 @@ use Rattle.grid_base.specs.Segment.{GridSegment}
 use Rattle.rose_values.specs.declared.operators.Op.TheVariants.{Intersection}
 use Rattle.rose_predicates.proofs.RegionSets.{areas_meet, filled_made}
 use Rattle.rose_predicates.proofs.RegionSides.{borders_of}
-use Rattle.rose_predicates.proofs.Truths.{same_told, told_by}
+use Rattle.rose_predicates.proofs.Truths.{never, same_told, told_by}
 use Rattle.rose_predicates.proofs.of_regions.areas_meet.Goals as goal
+
+-- boxes beside each other have no inner place in common
+pub returns-then-lie_beside : goal.returns-then-lie_beside
+returns-then-lie_beside c =
+    never (c.lie_beside.ensures.regions c.if-lie_beside.true c.requires.first.even c.requires.second.even)
 
 -- what is made by intersection isn't empty where it has a place
 pub returns : goal.returns

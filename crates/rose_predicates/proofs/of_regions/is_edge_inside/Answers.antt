@@ -1,7 +1,13 @@
-use Rattle.rose_predicates.proofs.Truths.{not_is, some_told, with_held}
+use Rattle.rose_predicates.proofs.Truths.{first_held, never, not_held, some_told}
 use Rattle.rose_predicates.proofs.of_regions.is_edge_inside.Goals as goal
 
--- inside, and no segment is common
-pub returns-then-inside : goal.returns-then-inside
-returns-then-inside c =
-    with_held (c.in_ok-inside.ensures.0 c.if-inside.true) (not_is c.share_segment.ensures (some_told _ c.args.a.now))
+-- a segment is common
+pub returns-then-share_segment : goal.returns-then-share_segment
+returns-then-share_segment c =
+    never (λ both. both.1 ((some_told _ c.args.a.now).0 (c.share_segment.ensures.0 c.if-share_segment.true)))
+
+-- none is
+pub returns : goal.returns
+returns c =
+    first_held (λ shared. not_held c.share_segment.ensures c.if-share_segment.false ((some_told _ c.args.a.now).1 shared))
+    c.in_ok-is_inside.ensures

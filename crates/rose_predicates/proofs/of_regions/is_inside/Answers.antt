@@ -3,8 +3,12 @@ use Rattle.grid_base.specs.Segment.{GridSegment}
 use Rattle.rose_values.specs.declared.operators.Op.TheVariants.{Minus}
 use Rattle.rose_predicates.proofs.RegionSets.{empty_made, inside_told}
 use Rattle.rose_predicates.proofs.RegionSides.{borders_of}
-use Rattle.rose_predicates.proofs.Truths.{same_told, told_by}
+use Rattle.rose_predicates.proofs.Truths.{never, same_told, told_by}
 use Rattle.rose_predicates.proofs.of_regions.is_inside.Goals as goal
+
+-- what reaches out of the box isn't inside
+pub returns-then-reaches_out : goal.returns-then-reaches_out
+returns-then-reaches_out c = never (c.reaches_out.ensures.regions c.if-reaches_out.true c.requires.second.even)
 
 -- what is made by minus is empty where it has no place, and then the first is inside
 pub returns : goal.returns

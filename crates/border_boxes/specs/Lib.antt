@@ -1,0 +1,2 @@
+-- the least box that holds a border, and how boxes and places lie to one another
+pub mod Boxes
