@@ -8,6 +8,7 @@ ghost use Rattle.outside_world.specs.declared.world.FileName.{FileName};
 ghost use Rattle.process_world.specs.Opened.{IsOpen, letter};
 ghost use Rattle.process_world.specs.Untold.{untold};
 
+use crate::locking::{HeldFile, TryLock};
 use crate::real_file::{read_from, size_of, sync_of, write_to};
 use outside_world::{Failed, FileName, Outside};
 use std::io::Read;
@@ -35,20 +36,27 @@ fn name_of(file: FileName) -> &'static str
 }
 
 /// Standard input, standard output and the two files, with counts of their faults, and whether there was one. A
-/// file is opened at its first use, and made where it is missing.
+/// file is opened at its first use, made where it is missing, and held from then on: a file that another program
+/// holds can't be opened.
 #[derive(Drop)]
-pub struct FileWorld<R: Files + Input + Print + Drop> {
+pub struct FileWorld<R: Files + Input + Print + Drop>
+where
+    <R as Files>::File: TryLock,
+{
     rt: R,
     input: <R as Input>::Reader,
-    a: Option<<R as Files>::File>,
-    b: Option<<R as Files>::File>,
+    a: Option<HeldFile<<R as Files>::File>>,
+    b: Option<HeldFile<<R as Files>::File>>,
     source_faults: u64,
     sink_faults: u64,
     disk_faults: u64,
     failed: bool,
 }
 
-impl<R: Files + Input + Print + Drop> FileWorld<R> {
+impl<R: Files + Input + Print + Drop> FileWorld<R>
+where
+    <R as Files>::File: TryLock,
+{
     /// The world of this runtime. Nothing is read before the first take, and no file is opened before its
     /// first use.
     pub fn new(rt: R) -> FileWorld<R>
@@ -79,7 +87,7 @@ impl<R: Files + Input + Print + Drop> FileWorld<R> {
 
 impl<R: Files + Input + Print + Drop> Outside for FileWorld<R>
 where
-    <R as Files>::File: FileExt,
+    <R as Files>::File: FileExt + TryLock,
 {
     ghost tells = { λ _. ⊥ };
 

@@ -3,8 +3,10 @@
 #![tactic(auto)]
 
 mod file_world;
+mod locking;
 mod real_file;
 mod words;
 
 pub use file_world::{FileWorld, letter_of};
+pub use locking::{HeldFile, TryLock};
 pub use words::{WordsError, words_of};

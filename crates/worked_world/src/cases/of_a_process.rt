@@ -1,11 +1,13 @@
 //! The real world over pipes and over files, and words that aren't text.
+ghost use Rattle.std.specs.Prelude.{Some};
+
 use outside_world::{Failed, FileName, Outside};
-use process_world::{FileWorld, WordsError, letter_of, words_of};
+use process_world::{FileWorld, TryLock, WordsError, letter_of, words_of};
 use std::alloc::Allocator;
 use std::cell::Cell;
 use std::env::FillError;
 use std::fmt::Display;
-use std::fs::{Metadata, OpenFile, OpenOptions, remove_file};
+use std::fs::{Metadata, OpenFile, OpenOptions, TryLockError, remove_file};
 use std::io;
 use std::io::{BufRead, ErrorKind, Lines, Read, Seek, SeekFrom, Write};
 use std::os::unix::fs::FileExt;
@@ -43,11 +45,12 @@ impl BufRead for Source {
     }
 }
 
-// How far the first call on a file has come: the file was opened, then the folder, then this was synced.
+// How far the first call on a file has come: the file was opened, and locked, then the folder was opened, and synced.
 #[derive(Clone, Copy, PartialEq, Eq)]
 enum Stage {
     Begun,
     FileOpened,
+    FileLocked,
     FolderOpened,
     FolderSynced,
 }
@@ -66,6 +69,8 @@ const TEXT: &[u8] = b"abcdefg";
 #[derive(Drop)]
 struct Fake<'a> {
     is_folder: bool,
+    is_free: bool,
+    is_held: bool,
     stage: &'a Cell<Stage>,
 }
 
@@ -104,6 +109,19 @@ impl<'a> FileExt for Fake<'a> {
     }
 }
 
+impl<'a> TryLock for Fake<'a> {
+    ghost is_held = { λ file. Some file.is_held };
+
+    fn try_lock(&mut self) -> Result<(), TryLockError> {
+        if !self.is_free {
+            return Err(TryLockError::WouldBlock);
+        }
+        advance(self.stage, Stage::FileOpened, Stage::FileLocked);
+        self.is_held = true;
+        Ok(())
+    }
+}
+
 impl<'a> OpenFile for Fake<'a> {
     fn metadata(&self) -> io::Result<Metadata> {
         no_file()
@@ -126,12 +144,13 @@ impl<'a> OpenFile for Fake<'a> {
 }
 
 // A runtime with this source, a sink that takes so many bytes a call or fails, and a folder in which just the
-// file of this name can be opened or made.
+// file of this name can be opened or made, and can be locked where it is free.
 #[derive(Drop)]
 struct Pipes<'a> {
     source: Source,
     most: Option<usize>,
     name: &'static str,
+    is_free: bool,
     stage: &'a Cell<Stage>,
 }
 
@@ -176,6 +195,8 @@ impl<'a> Pipes<'a> {
     fn opened(&self, is_folder: bool) -> Fake<'a> {
         Fake {
             is_folder,
+            is_free: self.is_free,
+            is_held: false,
             stage: self.stage,
         }
     }
@@ -192,7 +213,7 @@ impl<'a> Files for Pipes<'a> {
 
     fn open_file(&self, _how: &OpenOptions, path: &str) -> io::Result<Fake<'a>> {
         if path == "." {
-            advance(self.stage, Stage::FileOpened, Stage::FolderOpened);
+            advance(self.stage, Stage::FileLocked, Stage::FolderOpened);
             return Ok(self.opened(true));
         }
         if path == self.name {
@@ -288,6 +309,7 @@ fn a_give_answers_what_was_written(rt: HostRuntime) {
             source: Source(None),
             most: *written,
             name: "",
+            is_free: true,
             stage: &stage,
         });
         let given = world.give(b"abc").ok();
@@ -295,16 +317,18 @@ fn a_give_answers_what_was_written(rt: HostRuntime) {
     }
 }
 
-// A world with this source, and a folder with the file of this name.
+// A world with this source, and a folder with the file of this name, which is free or not.
 fn world_of<'a>(
     given: Option<usize>,
     name: &'static str,
+    is_free: bool,
     stage: &'a Cell<Stage>,
 ) -> FileWorld<Pipes<'a>> {
     FileWorld::new(Pipes {
         source: Source(given),
         most: None,
         name,
+        is_free,
         stage,
     })
 }
@@ -325,10 +349,10 @@ fn takes(world: &mut FileWorld<Pipes<'_>>, wanted: Option<&[u8]>) -> bool {
 #[test]
 fn a_take_answers_what_was_read(rt: HostRuntime) {
     let stage = Cell::new(Stage::Begun);
-    let mut world = world_of(Some(0), "", &stage);
+    let mut world = world_of(Some(0), "", true, &stage);
     assert!(rt; takes(&mut world, Some(b"realm\n")));
     assert!(rt; takes(&mut world, Some(b"")));
-    assert!(rt; takes(&mut world_of(None, "", &stage), None));
+    assert!(rt; takes(&mut world_of(None, "", true, &stage), None));
 }
 
 // A call on a file.
@@ -340,10 +364,10 @@ enum Call {
     Sync,
 }
 
-// How far the call comes in a folder that has a file of this name alone, and whether it succeeds.
-fn outcome(call: Call, file: FileName, name: &'static str) -> (Stage, bool) {
+// How far the call comes in a folder that has a file of this name alone, free or not, and whether it succeeds.
+fn outcome(call: Call, file: FileName, name: &'static str, is_free: bool) -> (Stage, bool) {
     let stage = Cell::new(Stage::Begun);
-    let mut world = world_of(None, name, &stage);
+    let mut world = world_of(None, name, is_free, &stage);
     if world.has_failed() {
         return (Stage::Begun, false);
     }
@@ -372,13 +396,14 @@ static NAMES: [(FileName, &str, [&str; 3]); 2] = [
 ];
 
 #[test]
-fn a_file_is_opened_by_its_name_and_then_the_folder_is_synced(rt: HostRuntime) {
+fn a_file_is_opened_by_its_name_and_locked_and_then_the_folder_is_synced(rt: HostRuntime) {
     for (file, name, others) in NAMES.iter() {
         for (call, succeeds) in CALLS.iter() {
-            assert!(rt; outcome(*call, *file, name) == (Stage::FolderSynced, *succeeds));
+            assert!(rt; outcome(*call, *file, name, true) == (Stage::FolderSynced, *succeeds));
+            assert!(rt; outcome(*call, *file, name, false) == (Stage::FileOpened, false));
             for other in others.iter() {
                 assert!(rt;
-                    outcome(*call, *file, other) == (Stage::Begun, false),
+                    outcome(*call, *file, other, true) == (Stage::Begun, false),
                     "at {other}"
                 );
             }
@@ -398,7 +423,7 @@ static READS: [(u64, usize, &[u8]); 4] = [
 fn a_read_goes_on_to_the_end_of_the_file(rt: HostRuntime) -> Result<(), Fail> {
     for (at, room, wanted) in READS.iter() {
         let stage = Cell::new(Stage::Begun);
-        let mut world = world_of(None, "realm.a", &stage);
+        let mut world = world_of(None, "realm.a", true, &stage);
         assert!(rt; !world.has_failed());
         let mut buf = [0; 8];
         let room = buf.len().min(*room);
@@ -451,6 +476,37 @@ fn two_files_keep_what_is_written(rt: HostRuntime) -> Result<(), Fail> {
     }
     clear(&rt);
     Ok(())
+}
+
+// Whether a new world can open this file of the folder that the test runs in.
+fn opens(rt: &HostRuntime, file: FileName) -> Result<bool, Fail> {
+    let copy: HostRuntime = rt.clone()?;
+    let mut world = FileWorld::new(copy);
+    Ok(world.size(file).is_ok())
+}
+
+#[test]
+fn a_file_that_one_world_has_open_is_shut_to_others(rt: HostRuntime) -> Result<(), Fail> {
+    clear(&rt);
+    for file in [FileName::A, FileName::B] {
+        let copy: HostRuntime = rt.clone()?;
+        let mut first = FileWorld::new(copy);
+        first.write_at(file, 0, b"abcd")?;
+        assert!(rt; !opens(&rt, file)? && !opens(&rt, file)?);
+        assert!(rt; opens(&rt, other_than(file))?);
+        assert!(rt; first.size(file)? == 4);
+        drop(first);
+        assert!(rt; opens(&rt, file)?);
+    }
+    clear(&rt);
+    Ok(())
+}
+
+fn other_than(file: FileName) -> FileName {
+    match file {
+        FileName::A => FileName::B,
+        FileName::B => FileName::A,
+    }
 }
 
 fn clear<R: Files>(rt: &R) {
