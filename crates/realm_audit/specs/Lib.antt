@@ -1,0 +1,44 @@
+-- the lines of a certificate, and their texts
+pub mod Items
+-- when a line holds, and where it leads
+pub mod Audits
+-- the verdict on a text
+pub mod Verdicts
+-- lines that close a change, and lines that count
+pub mod Facts
+-- when a step may be taken
+pub mod Mending
+-- drawings with valid chains
+pub mod Chains
+-- straight originals
+pub mod Straight
+-- drawings with one original more or less
+pub mod Changed
+-- originals by their ids
+pub mod Ids
+-- lists that lead from end to end
+pub mod Courses
+-- paths in the place of pieces
+pub mod Redraws
+-- what stands for one link
+pub mod Stretches
+-- originals in a map
+pub mod ById
+-- where shares stand
+pub mod Shelves
+-- ranges of shares
+pub mod Ranges
+-- lists of shares that change
+pub mod ShareChanges
+-- pieces and points in violations
+pub mod Clashes
+-- what a kept drawing is like
+pub mod Kept
+-- tokens and numbers
+pub mod Tokens
+-- items from words and numbers
+pub mod Readings
+-- what comes of a line
+pub mod Outcomes
+-- how far an auditor has come
+pub mod Progresses

@@ -1,0 +1,33 @@
+//! A second checker of what a drawing went through. A certificate is a text of lines: how the drawing was at first, and
+//! then each change with its steps. An auditor reads it line by line and keeps a drawing of its own.
+//! Begin at `Auditor`, then read when a line holds in `specs/Audits.antt`. Nothing here touches a file.
+#![tactic(auto)]
+
+mod audit;
+mod auditor;
+mod board;
+mod bounds;
+mod chains;
+mod courses;
+mod explicit;
+mod fresh;
+mod item;
+mod laws;
+mod links;
+mod mending;
+mod numbers;
+mod originals;
+mod phase;
+mod reading;
+mod redrawing;
+mod shares;
+mod shelves;
+mod verdict;
+mod words;
+mod writing;
+
+pub use auditor::Auditor;
+pub use item::Item;
+pub use laws::{hearing_is_judged, run_is_counted, run_settles, run_stands};
+pub use verdict::Verdict;
+pub use writing::certificate_line;
