@@ -4,11 +4,12 @@
 #
 # A scene NAME.txt has its replies in NAME.out. In a page a block marked `input` has lines, one marked `words` a command
 # line, and the block marked `reply` behind it what they are answered. An `input killed` is killed by SIGKILL once its
-# replies have come, while it waits for more lines. Each scene, and each block of the reference, runs in an empty folder
-# of its own; the blocks of the tutorial run one after another in one folder. In VALUES and LINES each row of a table
-# has a line and its reply, and the block of the README marked `session` has the scene `first` with its replies. What
-# EMBEDDING shows is compared with the crate that it is about, whose output is compared by the gate. The words of `gen`, and
-# such as are no command, run in an empty folder, which has to be empty then.
+# replies have come, while it waits for more lines. Each scene, and each block of a page, runs in an empty folder of its
+# own, but for the blocks of the tutorial, which run one after another in one folder. So do those of BRINGING-IN, where a
+# block marked `script` has lines for the shell; what the companion scripts write there is compared with what stands here.
+# In VALUES and LINES each row of a table has a line and its reply, and the block of the README marked `session` has the
+# scene `first` with its replies. What EMBEDDING shows is compared with the crate that it is about, whose output is compared
+# by the gate. The words of `gen`, and such as are no command, run in an empty folder, which has to be empty then.
 set -u
 
 [ $# -eq 1 ] && [ -x "$1" ] || { echo "usage: compare.sh ROSE" >&2; exit 2; }
@@ -53,12 +54,13 @@ run_killed() {
     rm -f feed
 }
 
-# blocks PAGE FOLDER: the blocks of a page, as FOLDER/NUMBER.kind, .lines and .reply
+# blocks PAGE FOLDER: the blocks of a page, as FOLDER/NUMBER.kind, .lines and .reply, which is empty where none is shown
 blocks() {
     awk -v folder="$2" '
-        /^```(input|words)/ { number++; name = sprintf("%s/%03d", folder, number); print substr($0, 4) > (name ".kind")
-                              file = name ".lines"; printf "" > file; inside = 1; next }
-        /^```reply/         { file = name ".reply"; printf "" > file; inside = 1; next }
+        /^```(input|words|script)/ {
+            number++; name = sprintf("%s/%03d", folder, number); print substr($0, 4) > (name ".kind")
+            printf "" > (name ".reply"); file = name ".lines"; printf "" > file; inside = 1; next }
+        /^```reply/         { file = name ".reply"; inside = 1; next }
         /^```/              { inside = 0; next }
         inside              { print > file }' "$1"
 }
@@ -75,6 +77,7 @@ page() {
         case $(cat "$kind") in
             input) run "$at.given" run < "$at.lines" ;;
             "input killed") run_killed "$at.lines" "$at.given" "$at.reply" ;;
+            script) PATH=$work/bin:$here:$PATH bash "$at.lines" > "$at.given" ;;
             words) read -ra words < "$at.lines" && run "$at.given" "${words[@]:1}" < /dev/null ;;
         esac
         judge "docs/$name.md, block $(basename "$at")" "$at.reply" "$at.given"
@@ -122,6 +125,11 @@ untouched() {
     judge "the folder that the words '$*' ran in" /dev/null "$work/left"
 }
 
+# kept NAME: a file that the blocks of BRINGING-IN wrote, against the one of this folder
+kept() {
+    judge "examples/$1" "$here/$1" "$work/BRINGING-IN/room/$1"
+}
+
 for scene in "$here"/*.txt; do
     name=$(basename "$scene" .txt)
     mkdir "$work/scene" && cd "$work/scene" || exit 2
@@ -131,6 +139,16 @@ for scene in "$here"/*.txt; do
 done
 page TUTORIAL 1
 page REFERENCE 0
+page VALUES 0
+export PYTHONDONTWRITEBYTECODE=1
+mkdir "$work/bin" && ln -s "$rose" "$work/bin/rose"
+mkdir -p "$work/BRINGING-IN/room" && cp "$here"/*.geojson "$work/BRINGING-IN/room"
+page BRINGING-IN 1
+kept meadow.txt
+kept meadow.names
+kept meadow.svg
+"$here/bring_in.py" --rose "$rose" --origin -5 -5 --scale 100 "$here/lots.wkt" > "$work/given"
+judge "examples/lots.txt" "$here/lots.txt" "$work/given"
 grep -E '^(regions|lines|points) ' "$here/values.txt" > "$work/lines"
 grep '^ok ' "$here/values.out" > "$work/reply"
 rows VALUES '^(eval|ask|num|faces|sum|decompose|overlay|fusion) '
