@@ -1,4 +1,5 @@
-//! Laws of boxes, for crates above: functions with nothing to do, whose contracts are the laws.
+//! Laws of boxes: functions with nothing to do, whose contracts are the laws. Proofs of crates above use the lemmas behind
+//! them.
 ghost use Rattle.std.specs.Prelude.{◌<◌, List};
 ghost use Rattle.grid_base.specs.Segment.{GridSegment};
 ghost use Rattle.grid_base.specs.Point.{GridPoint};

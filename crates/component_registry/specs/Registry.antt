@@ -76,8 +76,8 @@ pub record AddsOwner (old new : Holdings) (s : GridSegment) (id k : ℕ) : Type 
   pub uses : (p : GridPoint) → uses_of new p ≡ uses_of old p + times_end p s
   pub others : (t : GridSegment) → t ≢ s → map.get new t ≡ map.get old t
 
--- in the new registry id doesn't own s, which keeps its key as long as it has an owner, its ends
--- are used once less, and the other pieces are as they were
+-- in the new registry id doesn't own s, whose key stays where others own it, its ends are used once
+-- less, and the other pieces are as they were
 pub record DropsOwner (old new : Holdings) (s : GridSegment) (id : ℕ) : Type 0 where
   pub owners : (x : ℕ) → Owns new s x ↔ (Owns old s x × (x ≢ id))
   pub key_stays : IfSome (key_of new s) (λ kept. key_of old s ≡ Some kept)

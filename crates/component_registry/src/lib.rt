@@ -1,5 +1,5 @@
-//! Who owns each piece of a drawing: many originals may share a piece, which has one key as long as
-//! it has an owner. Begin at `Registry`. Only `add`, `copied`, `pieces` and `vertices` take memory.
+//! Who owns each piece of a drawing: many originals may share a piece, and it has one key until the
+//! last of them drops it. Begin at `Registry`. Only `add`, `copied`, `pieces` and `vertices` take memory.
 #![tactic(auto)]
 
 mod ends;

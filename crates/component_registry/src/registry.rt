@@ -68,8 +68,8 @@ impl Registry {
         })
     }
 
-    /// Makes `id` an owner of `piece`, and answers the key of the piece. A piece keeps its key as long
-    /// as it has an owner.
+    /// Makes `id` an owner of `piece`, and answers the key of the piece, which stays until the
+    /// last owner drops it.
     pub fn add(&mut self, piece: Segment, id: u32) -> Result<usize, NoMemory>
         requires new_owner { ¬ Owns self.old piece id }
         ensures ok { IfOk result (AddsOwner self.old self.new piece id) }

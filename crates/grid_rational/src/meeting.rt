@@ -16,7 +16,7 @@ use grid_base::{Point, Segment, crosses};
 pub enum Meet {
     /// They cross, and this is their meet point.
     At(Point),
-    /// They cross at the centre of a cell as its two diagonals, so there is no meet point. `cell`
+    /// They cross as the two diagonals of a cell, at its centre, so there is no meet point. `cell`
     /// is the lower left corner of the cell. `falling_first` says that the first segment is the
     /// falling one; else it is the second.
     Corner { cell: Point, falling_first: bool },
@@ -41,9 +41,9 @@ pub fn crossing(s: &Segment, t: &Segment) -> Option<Crossing>
 }
 
 /// How `s` and `t` meet. Where they cross, the meet point is their crossing with each coordinate
-/// rounded, halves up. But where they cross at the centre of a cell and exactly one of them is
-/// diagonal, it is the corner of the cell on that one with the greater x; and where both are
-/// diagonal, there is none. Segments that only touch or overlap are apart.
+/// rounded, halves up. At the centre of a cell it isn't rounded where a segment is diagonal: where one
+/// alone is, the meet point is that one's corner of the cell with the greater x, and where both are,
+/// there is none. Segments that only touch or overlap are apart.
 pub fn meet_point(s: &Segment, t: &Segment) -> Meet
     ensures meeting { IsMeeting s.now t.now result }
     ensures at { (m : GridPoint) → (result ≡ Meet.At m) ↔ MeetPoint s.now t.now m }
@@ -61,7 +61,7 @@ pub fn meet_point(s: &Segment, t: &Segment) -> Meet
     }
 }
 
-// How `s` and `t` meet where they cross at the centre of a cell, `place`.
+// How `s` and `t` meet at `place`, where they cross, and which is the centre of a cell.
 fn meeting_at_centre(s: &Segment, t: &Segment, place: &RationalPlace) -> Meet
     requires cross { Cross s.now t.now }
     requires place { place.now ≡ crossing_of s.now t.now }

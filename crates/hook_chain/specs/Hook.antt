@@ -1,6 +1,6 @@
 -- The hook of a piece at a point: the way of a rubber band along the piece that is pulled to the point,
--- with the grid points as nails. The list and its conditions are this project's own, after the redrawing of
--- Daniel H. Greene and F. Frances Yao, "Finite-Resolution Computational Geometry" (1986).
+-- with the grid points as nails. The redrawing follows Daniel H. Greene and F. Frances Yao, "Finite-Resolution
+-- Computational Geometry" (1986); this list and what is asked of it are this project's own.
 use Rattle.std.specs.Prelude.{◌≡◌, ◌≢◌, ◌⊎◌, ◌<◌, nat_lt, MatchBool, List, [], ◌∷◌, ◌++◌}
 use Rattle.std.specs.List.{AllByRecursion}
 use Rattle.grid_base.specs.Point.{GridPoint, IsFromTo}

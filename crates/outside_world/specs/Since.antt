@@ -18,8 +18,8 @@ pub record TakesNone (old new : View) : Type 0 where
 abbrev pub LeavesOnly : View → View → (Moment → Type 0) → Type 0
 LeavesOnly old new these = OnlyAdds old.moment old.left_since new.left_since these
 
--- a moment of a run that writes one file: nothing was given, the other file is as a crash could leave it
--- before, and this one is as it may be meanwhile
+-- a moment of a run that writes one file: nothing was given, the other file is such as a crash could have
+-- left before, and this one is as it may be meanwhile
 pub record IsWriting (old : View) (file : FileName) (may_be : List ℕ → Type 0) (m : Moment) : Type 0 where
   pub given : m.given ≡ old.given
   pub others : (f : FileName) → f ≢ file → old.image f (m.files f)

@@ -54,8 +54,8 @@ pub trait Outside {
     /// Whether a call has failed: then no call is made any more.
     ghost failed: { Self → Bool };
 
-    /// Fills a prefix of the buffer with the next bytes of the input. 0 for a buffer with room means that the
-    /// input is over.
+    /// Reads what comes next of the input into the front of the buffer. Where the buffer has room, 0 means that
+    /// the input is over.
     fn take(&mut self, buf: &mut [u8]) -> Result<usize, Failed>
         requires intact { failed self.old ≡ false }
         ensures within { IfOk result (λ n. n ≤ length buf.old) }

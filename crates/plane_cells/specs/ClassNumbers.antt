@@ -27,9 +27,8 @@ abbrev pub IsBySome : List GridSegment → Place → Type 0
 IsBySome border q =
     (i : ℕ) × (d : Side) × (p : Place) × LiesBeside border i d p × AreInOneClass border q p
 
--- each side of each segment has the number of its class: two sides have one number exactly where they are in
--- one class of the border, and the number is 0 exactly where they are in the outer one; each side has a place
--- beside it, and each class but the outer one a side
+-- each side of each segment has the number of its class of the border: no two classes share a number, and 0
+-- belongs to the outer class; each side has a place beside it, and each class but the outer one a side
 pub record AreClassNumbers (border : List GridSegment) (numbers : List SideClasses) : Type 0 where
   pub one_each : length numbers ≡ length border
   pub some : (i : ℕ) (d : Side) → i < length border → d ≢ On → (q : Place) × LiesBeside border i d q

@@ -14,8 +14,8 @@ use grid_base::{NoMemory, Segment, Sides};
 use segment_lists::each_is_on_grid;
 use std::alloc::Global;
 
-/// For each segment of the list, in order, whether what lies beside it on its left, and on its right, is in
-/// the outer class of the border. Segments of the list may be segments of the border; both may be in any
+/// One answer a segment of the list, in its order: whether what lies beside it on its left, and on its right,
+/// is in the outer class of the border. Segments of the list may be segments of the border; both may be in any
 /// order, and a segment that the list has twice has the same answer both times.
 pub fn outer_sides(
     alloc: Global,

@@ -1,6 +1,6 @@
 -- turned and reversed cycles
 pub mod Turnings
--- lists in order
+-- lists compared point by point
 pub mod ListOrders
 -- the numbers of the classes of faces
 pub mod OddNumbers

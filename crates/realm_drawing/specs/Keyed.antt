@@ -21,7 +21,7 @@ empty_drawing = record { drawing = record { points = []; originals = [] }; keys 
 abbrev pub HasKey : KeyedDrawing → GridSegment → ℕ → Type 0
 HasKey d s k = Contains d.keys (keyed s k)
 
--- a piece that is there before and after keeps its key
+-- what is a piece before and after has one key in both
 abbrev pub KeepsKeys : KeyedDrawing → KeyedDrawing → Type 0
 KeepsKeys old new = (s : GridSegment) (k j : ℕ) → HasKey old s k → HasKey new s j → j ≡ k
 

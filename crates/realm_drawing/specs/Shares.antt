@@ -14,7 +14,7 @@ share_of s x = record { piece = s; id = x }
 abbrev pub Held : Holdings → Share → Type 0
 Held r y = Owns r y.piece y.id
 
--- a piece that is there before and after keeps its key
+-- what is a piece before and after has one key in both
 abbrev pub KeepsKeys : Holdings → Holdings → Type 0
 KeepsKeys old new =
     (s : GridSegment) (k j : ℕ) → key_of old s ≡ Some k → key_of new s ≡ Some j → j ≡ k

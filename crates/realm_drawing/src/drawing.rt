@@ -94,7 +94,7 @@ impl Drawing {
         self.explicit.put(p)
     }
 
-    /// Makes `p` no longer explicit, and says whether it was. It stays a point where a chain has it.
+    /// Makes `p` no longer explicit, and says whether it was. A vertex of a chain is a point all the same.
     pub fn take_point(&mut self, p: &Point) -> bool
         ensures was { IsTrue result ↔ Contains self.old.drawing.points p.now }
         ensures taken { TakesPoint self.old self.new p.now }
@@ -300,7 +300,7 @@ impl Drawing {
         self.explicit.has(p)
     }
 
-    /// The key of `piece`; none where it is no piece. A piece keeps its key as long as it is one.
+    /// The key of `piece`, the same until the piece is gone; none where it is no piece.
     pub fn key(&self, piece: &Segment) -> Option<usize>
         ensures key { (k : ℕ) → (result ≡ Some k) ↔ HasKey self.now piece.now k }
         ensures piece { IsSome result ↔ IsPiece self.now.drawing piece.now }
@@ -317,7 +317,7 @@ impl Drawing {
         self.registry.piece(key)
     }
 
-    /// The explicit points in the bounding box of `s`, ascending.
+    /// Which explicit points are in the box of `s`, rim included, ascending.
     pub fn explicit_in(&self, s: &Segment) -> Result<Vec<Point>, NoMemory>
         ensures exact { IfOk result (λ v. (p : GridPoint)
             → Contains v.items p ↔ (Contains self.now.drawing.points p × InBox s.now.a s.now.b p)) }

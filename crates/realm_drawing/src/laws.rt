@@ -10,7 +10,7 @@ ghost use Rattle.realm_drawing.specs.Chains.{AllValid, IsChainFor};
 ghost use Rattle.realm_drawing.specs.OneChain.{HaveOneChain};
 ghost use Rattle.realm_drawing.specs.Measure.{links_of, most_links_of, NoChainShorter};
 
-/// A step is permitted only at a violation, and leads to one drawing.
+/// Where a step is permitted the drawing has a violation, and the step leads to one drawing.
 pub fn step_mends()
     ensures only_there { (d e : Drawing) (step : Step) → Permitted d step e → HasViolation d }
     ensures one { (d e f : Drawing) (step : Step) → Permitted d step e → Permitted d step f → e ≡ f }

@@ -6,7 +6,8 @@ use Rattle.realm_files.specs.Stands.{Files, StandsAt, ReachesTo}
 use Rattle.realm_files.specs.declared.place.Place.{Place}
 
 -- The state, the place of the next gate, where a file counts, and whether that gate's byte is there. Where it
--- isn't, a crash while it is written may leave an open gate behind the last record, of which nothing is said.
+-- isn't, a crash while it is added to a file of version 2 may leave an open gate behind the last record, of which
+-- nothing is said.
 pub record Kept (S : Type 0) : Type 0 where
   pub state : S
   pub place : Option Place

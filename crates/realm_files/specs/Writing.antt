@@ -22,7 +22,7 @@ abbrev pub other_file : FileName → FileName
 other_file A = B
 other_file B = A
 
--- the file that isn't the newest; file A where none counts
+-- the other one than the newest; file A where none counts
 abbrev pub next_file : Option Place → FileName
 next_file None = A
 next_file (Some place) = other_file place.file

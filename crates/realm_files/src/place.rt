@@ -1,7 +1,7 @@
 //! Where the next record will stand.
 use outside_world::FileName;
 
-/// The newest file, the version of its format, the number of its generation, and the place of its next gate.
+/// The newest file, its version and generation by number, and where its next gate stands.
 #[derive(Clone, Copy, Debug, PartialEq, Eq)]
 pub struct Place {
     pub file: FileName,

@@ -10,7 +10,7 @@ use Rattle.realm_journal.specs.declared.error.JournalError.{JournalError}
 abbrev pub IsShut : View → FileName → ℕ → Type 0
 IsShut v file at = (c : List ℕ) → v.image file c → HasClosedAt at c
 
--- up to the gate the file is as a crash could leave it before, and the gate is there: closed, or open with the
+-- up to the gate the file is such as a crash could have left before, and the gate is there: closed, or open with the
 -- text whole behind it
 pub record IsPart (old : View) (file : FileName) (at : ℕ) (text c : List ℕ) : Type 0 where
   pub was : List ℕ

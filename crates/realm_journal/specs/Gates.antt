@@ -25,6 +25,6 @@ IsClosedAt at file = slice_index_or file at 0 ≢ open_gate
 abbrev pub HasClosedAt : ℕ → List ℕ → Type 0
 HasClosedAt at file = (at < length file) × IsClosedAt at file
 
--- the gate is open, and behind it stand these bytes whole, and then a closed gate within the file
+-- the gate is open, these bytes stand whole behind it, and then comes a closed gate that the file has
 abbrev pub IsWholeAt : ℕ → List ℕ → List ℕ → Type 0
 IsWholeAt at text file = (rest : List ℕ) × (drop at file ≡ open_gate ∷ (text ++ closed_gate ∷ rest))

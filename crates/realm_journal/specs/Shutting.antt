@@ -11,7 +11,7 @@ use Rattle.realm_journal.specs.declared.error.JournalError.{JournalError}
 abbrev pub NeedsShutting : ℕ → List ℕ → Type 0
 NeedsShutting at file = (length file ≡ at) ⊎ IsOpenAt at file
 
--- up to the gate the file is as a crash could leave it before, and the gate is closed or the last byte
+-- up to the gate the file is such as a crash could have left before, and the gate is closed or the last byte
 pub record IsBarred (old : View) (file : FileName) (at : ℕ) (c : List ℕ) : Type 0 where
   pub was : List ℕ
   pub could : old.image file was

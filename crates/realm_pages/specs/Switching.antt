@@ -10,7 +10,7 @@ use Rattle.realm_pages.specs.Damages.{IsNewest}
 use Rattle.realm_pages.specs.Finding.{HoldsNewest}
 use Rattle.realm_journal.specs.declared.error.JournalError.{JournalError as SwitchError}
 
--- the file is as a crash could leave it before, or it doesn't count, or it holds the generation and no record
+-- the file is such as a crash could have left before, or it doesn't count, or it holds the generation and no record
 abbrev pub IsSwitching : View → FileName → Generation → List ℕ → Type 0
 IsSwitching old file g c = old.image file c ⊎ ((Counts c → ⊥) ⊎ HoldsAlone c g)
 
@@ -24,8 +24,7 @@ pub record Switched (old new : View) (file : FileName) (g : Generation)
 
 -- ---- the newest of the two files meanwhile
 
--- In whatever a crash may leave each file that counts has a head with a lesser generation, and this file isn't
--- the newest.
+-- Whatever a crash leaves, a file that counts has a head with a lesser generation, and this file isn't the newest.
 pub record MayTake (v : View) (file : FileName) (g : Generation) : Type 0 where
   pub older : (f : FileName) (c : List ℕ) → v.image f c → Counts c
       → (h : Header) × HasHead c h × (h.generation < g.number)

@@ -15,7 +15,7 @@ pub record LedBefore (old : State) (r : Record) (new : State) : Type 0 where
   pub one : length r.entries ≡ 1
   pub leads : Leads old r new
 
--- what payloads and records meant
+-- what payloads and records meant, and more: they are read by the present grid, which is wider
 abbrev pub meaning_before : Meaning State
 meaning_before = record { empty = empty_state; payload = payload_of; opens = Opens; leads = LedBefore }
 

@@ -64,8 +64,8 @@ pub(crate) fn ready_change<R: Threads + Sync>(
     Ok(ready)
 }
 
-// The gate of a change that is to be made, where there is room for its record. Where that wants a generation of its own, a
-// change that is refused costs no payload.
+// The gate of a change outside a group, where there is room for its record. Where that wants a generation of its own, a
+// change that the engine refuses costs no payload; at the last generation any other costs one, and is refused.
 fn gate_before<R: Threads + Sync>(
     rt: &R,
     alloc: Global,

@@ -1,6 +1,6 @@
-//! Writes to the files: the next generation to the file that isn't the newest, and what has to stand before a record is
-//! written. Where no file counts, or the newest is of the first version, that is a generation without a record, on the other
-//! file; where the byte of the next gate is missing at the end of the newest file, it is that byte.
+//! Writes to the files: the next generation to the file beside the newest, and what has to stand before a record is written.
+//! That is a generation without a record, on file A where no file counts, and on the other file where the newest is of the
+//! first version; or the byte of the next gate, where it is missing at the end of the newest file.
 ghost use Rattle.std.specs.Prelude.{◌≡◌, IfOk, OnOk, OnErr, false};
 ghost use Rattle.outside_world.specs.Counts.{Rose};
 ghost use Rattle.outside_world.specs.GoesOn.{GoesOn};

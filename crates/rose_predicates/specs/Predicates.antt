@@ -57,12 +57,12 @@ ShareABorderPoint a b = (q : Place) × IsOnSome (segments_of a) q × IsOnSome (s
 abbrev pub AreasMeet : Geometry → Geometry → Type 0
 AreasMeet a b = (q : Place) × IsInteriorTo a q × IsInteriorTo b q
 
--- some point of the first is interior to the second
+-- the second has a point of the first in its interior
 abbrev pub ReachesInto : Geometry → Geometry → Type 0
 ReachesInto a b = (q : Place) × IsPointOf a q × IsInteriorTo b q
 
 -- ---- predicates that more than one row needs
--- each point of the first is a point of the second
+-- the second has every point of the first
 abbrev pub IsInside : Geometry → Geometry → Type 0
 IsInside a b = (q : Place) → IsPointOf a q → IsPointOf b q
 

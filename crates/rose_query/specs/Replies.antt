@@ -132,7 +132,7 @@ pair_lines pair =
 abbrev pub pairs_reply : List Pair → List ℕ
 pairs_reply pairs = set_reply pair_lines pairs
 
--- a key, and the sum of the values that have it
+-- a key, and the sum of its values
 abbrev pub group_lines : Group → List ℕ
 group_lines group = codes "key " ++ (decimal group.key ++ (line_feed ++ value_reply group.g))
 

@@ -110,7 +110,7 @@ names_of entries = map (λ entry. entry.0) entries
 abbrev pub keys_of : List (List ℕ × ℕ) → List ℕ
 keys_of entries = map (λ entry. entry.1) entries
 
--- the reply lists the different keys, each with the sum of the values that have it
+-- the reply lists the different keys, and for each the sum of its values
 pub record ShowsFusion (entries : List (List ℕ × ℕ)) (state : State) (reply : List ℕ) : Type 0 where
   pub values : List Geometry
   pub are_present : ArePresentValues state (names_of entries) values

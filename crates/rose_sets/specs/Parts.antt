@@ -23,7 +23,7 @@ pub record AreConnectedParts (lines : List GridSegment) (parts : List Geometry) 
   pub in_order : AreInOrder blocks
   pub as_lines : parts ≡ map (λ block. L block) blocks
 
--- the region is cut into its faces, in their order, each as the region of its own border
+-- one part a face, in the order of the faces: the region that has the border of the face
 pub record AreFaceRegions (border : List GridSegment) (parts : List Geometry) : Type 0 where
   pub faces : List Face
   pub borders : List (List GridSegment)

@@ -1,5 +1,5 @@
-//! The faces of a region, each as the region of its own border. The segments of the border are put into
-//! parts by the class on their odd side, and each face finds its part by a segment of its outer cycle.
+//! One region for each face of a region. The segments of the border are put into parts by the class on
+//! their odd side, and each face finds its part by a segment of its outer cycle.
 ghost use Rattle.std.specs.Prelude.{◌≡◌, ◌≢◌, ℕ, ◌<◌, [], ◌∷◌, map};
 ghost use Rattle.std.specs.Prelude.{IfOk, All, AllPairs, Contains};
 ghost use Rattle.std.specs.Prelude.{length, slice_index, slice_index_or};
@@ -29,7 +29,7 @@ struct Rims {
     lists: Vec<Vec<Segment>>,
 }
 
-// The faces in their order, each as the region of its own border.
+// One region a face, in the order of the faces.
 pub(crate) fn regions_of_faces(
     alloc: Global,
     region: &RegionsValue,

@@ -17,8 +17,8 @@ use r_faces::{distinct, places_in};
 use rose_values::Geometry;
 use std::alloc::Global;
 
-/// One group a key, by rising keys, with the sum of the values that have this key, which are all of one kind.
-/// Each value has the key at its own place, and the segments of all values are those of one realm.
+/// One group a key, by rising keys, with the sum of its values. All values are of one kind. Each has the key at
+/// its own place, and the segments of all values are those of one realm.
 pub fn fusion(alloc: Global, list: &[Geometry], keys: &[u64]) -> Result<Vec<Group>, SetError>
     requires noded { AreNoded (all_segments list.now) }
     requires one_each { length keys.now ≡ length list.now }

@@ -11,7 +11,7 @@ ghost use Rattle.side_parity.specs.Middle.{middle, differ};
 
 use grid_base::{Segment, Sides};
 
-/// Whether the places just left and just right of `s` are odd for the border, seen from the lesser end of `s`.
+/// Whether what lies beside `s` is odd for the border, on its left and on its right, seen from its lesser end.
 /// Each is the same along all of `s`, which needn't be in the border. One call goes once over the border.
 pub fn sides(border: &[Segment], s: &Segment) -> Sides
     requires noded { AreNoded (s.now ∷ border.now) }

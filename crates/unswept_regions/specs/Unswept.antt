@@ -24,7 +24,7 @@ IsOffChain p chain = AllLinks (λ v w. IsOn (record { a = v; b = w }) p → ⊥)
 abbrev pub IsOddAt : List GridSegment → GridPoint → Type 0
 IsOddAt segments p = Odd segments (as_place (as_rational p))
 
--- p is odd for the border exactly where it is odd for the parts as they were given, each straight from end to end
+-- the border, and the parts as they were given, each straight from end to end, agree on whether p is odd
 abbrev pub IsOddAsGiven : List Original → List GridSegment → GridPoint → Type 0
 IsOddAsGiven parts border p = IsOddAt border p ↔ IsOddAt (map along parts) p
 

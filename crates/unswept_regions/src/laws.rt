@@ -10,8 +10,8 @@ use realm_drawing::Drawing;
 use rose_values::{Geometry, RegionsValue};
 use value_table::{IdList, Parts, Value};
 
-/// A region has swept across no grid point, however often its parts were redrawn: a point that is on no link of
-/// their chains is odd for its present border exactly where it is odd for the parts as they were given.
+/// A region has swept across no grid point, however often its parts were redrawn: of a point that is on no link of
+/// their chains the present border and the parts as they were given say alike whether it is odd.
 pub fn no_region_sweeps(drawing: &Drawing, value: &Value, geometry: &Geometry)
     requires parts { HasParts drawing.now.drawing value.now.kind value.now.parts }
     requires geometry { IsGeometryOf drawing.now.drawing value.now geometry.now }

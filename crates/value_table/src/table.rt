@@ -142,7 +142,7 @@ impl Table {
         self.values.len()
     }
 
-    /// The name at place `k` from 0, in the order of definition; none past the last.
+    /// Of the names, in the order of definition, the one behind `k` others; none past the last.
     pub fn name_at(&self, k: usize) -> Option<&str>
         ensures { option_copied result ≡ slice_get (keys_of self.now) k }
     {

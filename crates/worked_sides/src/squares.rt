@@ -1,5 +1,5 @@
-//! A hundred nested squares: square i goes from (i, i) to (400 - i, 400 - i). Beside a side of square i lie the
-//! inside of i + 1 squares and that of i.
+//! A hundred nested squares: (i, i) and (400 - i, 400 - i) are corners of square i. Beside a side of square i lie
+//! the inside of i + 1 squares and that of i.
 use grid_base::{Point, Segment, Sides};
 use rose_overlay::ascending_segments;
 use rose_values::RegionsValue;
