@@ -1,5 +1,5 @@
 -- This file shows what holds where a change is closed, and that changes and steps are counted.
-use Rattle.std.proofs.Common.{◌≡◌, ◌⊎◌, ℕ, ◌+◌, ◌<◌, ◌≤◌, ◌^◌, Bool, true, false, IsTrue, cond, List, [], ◌∷◌, length, map}
+use Rattle.std.proofs.Common.{◌≡◌, ◌⊎◌, ℕ, ◌+◌, ◌≤◌, ◌^◌, min, Bool, IsTrue, cond, List, [], ◌∷◌, map}
 use Rattle.std.proofs.Common.{refl, sym, ap, subst, ◌∙◌, inl, inr, arith}
 use Rattle.std.specs.List.{count_by}
 use Rattle.std.proofs.lemmas.List.Sums.{sum_by-cons}
@@ -7,7 +7,7 @@ use Rattle.grid_base.specs.Drawing.{HasViolation, IsDrawnRealm}
 use Rattle.grid_base.specs.declared.kinds.Step.{Step}
 use Rattle.grid_base.proofs.RealmLaw.{drawn_realm_by}
 use Rattle.hook_chain.specs.Steps.{Settles}
-use Rattle.realm_audit.specs.Audits.{Audit, first_audit, next_count, TakesPoints, LineHolds, Runs}
+use Rattle.realm_audit.specs.Audits.{Audit, first_audit, TakesPoints, LineHolds, Runs}
 use Rattle.realm_audit.specs.Facts.{IsClosing, is_change, is_step}
 use Rattle.realm_audit.specs.declared.item.Item.{Item}
 use Rattle.realm_audit.specs.declared.item.Item.TheVariants.{Point, Unpoint, Original, Change, Remove, Segment, End}
@@ -19,14 +19,12 @@ use Rattle.realm_audit.specs.declared.phase.Phase.TheVariants.{Opening, Placing,
 -- there is no violation there, and the drawing stays
 pub closing_settled : (old new : Audit) (item : Item) → IsClosing item → LineHolds old item new
     → (HasViolation old.drawing → ⊥) × (old.drawing ≡ new.drawing)
-closing_settled old new (Point p) closing held = absurd closing
-closing_settled old new (Unpoint p) closing held = absurd closing
-closing_settled old new (Original id chain) closing held = absurd closing
-closing_settled old new Change closing held = (held.1, sym (ap (λ (a : Audit). a.drawing) held.2))
-closing_settled old new (Remove id) closing held = absurd closing
-closing_settled old new (Segment id p q) closing held = absurd closing
-closing_settled old new (items.Step step) closing held = absurd closing
-closing_settled old new End closing held = (held.1, sym (ap (λ (a : Audit). a.drawing) held.2))
+closing_settled old new item (inl change) held =
+    let begins = subst (λ (i : Item). LineHolds old i new) change held in
+    (begins.1, sym (ap (λ (a : Audit). a.drawing) begins.2))
+closing_settled old new item (inr end) held =
+    let ends = subst (λ (i : Item). LineHolds old i new) end held in
+    (ends.1, sym (ap (λ (a : Audit). a.drawing) ends.2))
 
 pub closing_realm : (old new : Audit) (item : Item) → IsClosing item → LineHolds old item new → IsDrawnRealm new.drawing
 closing_realm old new item closing held =
@@ -67,76 +65,60 @@ steps_come_last old between new step item taken held = by_item item held
     by_item (Point p) held = absurd (no_more_points between.phase stepping held.0)
     by_item (Unpoint p) held = absurd (not_placing between.phase stepping held.0)
     by_item (Original id chain) held = absurd (not_opening between.phase stepping held.0)
-    by_item Change held = inl tt
+    by_item Change held = inl (inl refl)
     by_item (Remove id) held = absurd (not_placing between.phase stepping held.0)
     by_item (Segment id p q) held = absurd (not_placing between.phase stepping held.0)
     by_item (items.Step other) held = inr refl
-    by_item End held = inl tt
+    by_item End held = inl (inr refl)
 
 -- ---- counts
 count_is : {X : Type 0} (p : X → Bool) (x : X) (xs : List X) → count_by p (x ∷ xs) ≡ cond (p x) 1 0 + count_by p xs
 count_is p x xs = sum_by-cons (λ y. cond (p y) 1 0) x xs
 
--- below 2^63 a count goes on by one
-next_is : (n : ℕ) → n < 2 ^ 63 → next_count n ≡ n + 1
-next_is n below = omega (arith, below)
+-- so many, up to 2^63
+abbrev up_to : ℕ → ℕ
+up_to n = min n (2 ^ 63)
 
--- one line counts as a change or not
-line_counts : (old new : Audit) (item : Item) → old.changes < 2 ^ 63 → LineHolds old item new
-    → new.changes ≡ old.changes + cond (is_change item) 1 0
-line_counts old new (Point p) below held = ap (λ (a : Audit). a.changes) held.4 ∙ omega arith
-line_counts old new (Unpoint p) below held = ap (λ (a : Audit). a.changes) held.4 ∙ omega arith
-line_counts old new (Original id chain) below held = ap (λ (a : Audit). a.changes) held.4 ∙ omega arith
-line_counts old new Change below held = ap (λ (a : Audit). a.changes) held.2 ∙ next_is old.changes below
-line_counts old new (Remove id) below held = ap (λ (a : Audit). a.changes) held.2 ∙ omega arith
-line_counts old new (Segment id p q) below held = ap (λ (a : Audit). a.changes) held.3 ∙ omega arith
-line_counts old new (items.Step step) below held = ap (λ (a : Audit). a.changes) held.3 ∙ omega arith
-line_counts old new End below held = ap (λ (a : Audit). a.changes) held.2 ∙ omega arith
+-- the count of an audit goes on by one where the test of an item holds
+abbrev GoesOn : (Audit → ℕ) → (Item → Bool) → Type 0
+GoesOn count test =
+    (old new : Audit) (item : Item) → count old ≤ 2 ^ 63 → LineHolds old item new
+    → count new ≡ up_to (count old + cond (test item) 1 0)
 
-run_counts : (old new : Audit) (list : List Item) → old.changes + length list < 2 ^ 63 → Runs old list new
-    → new.changes ≡ old.changes + count_by is_change list
-run_counts old new [] below run = ap (λ (a : Audit). a.changes) (sym run) ∙ omega arith
-run_counts old new (item ∷ list) below (between, held, rest) =
-    let first = line_counts old between item (omega (arith, below)) held in
-    let one : cond (is_change item) 1 0 ≤ 1 = at_most (is_change item) in
-    let later = run_counts between new list (omega (arith, below, first, one)) rest in
-    omega (arith, first, later, count_is is_change item list)
-  where
-    at_most : (b : Bool) → cond b 1 0 ≤ 1
-    at_most true = omega arith
-    at_most false = omega arith
+run_counts : (count : Audit → ℕ) (test : Item → Bool) → GoesOn count test → (old new : Audit) (list : List Item)
+    → count old ≤ 2 ^ 63 → Runs old list new → count new ≡ up_to (count old + count_by test list)
+run_counts count test goes old new [] within run = ap count (sym run) ∙ omega (arith, within)
+run_counts count test goes old new (item ∷ list) within (between, held, rest) =
+    let first = goes old between item within held in
+    let later = run_counts count test goes between new list (omega (arith, first)) rest in
+    omega (arith, first, later, count_is test item list)
 
-pub run_counts_changes : (list : List Item) (audit : Audit) → Runs first_audit list audit → length list < 2 ^ 63
-    → audit.changes ≡ count_by is_change list
-run_counts_changes list audit run few =
-    let counted = run_counts first_audit audit list (omega (arith, few)) run in omega (arith, counted)
+line_counts_changes : GoesOn (λ a. a.changes) is_change
+line_counts_changes old new (Point p) within held = ap (λ (a : Audit). a.changes) held.4 ∙ omega (arith, within)
+line_counts_changes old new (Unpoint p) within held = ap (λ (a : Audit). a.changes) held.4 ∙ omega (arith, within)
+line_counts_changes old new (Original id chain) within held = ap (λ (a : Audit). a.changes) held.4 ∙ omega (arith, within)
+line_counts_changes old new Change within held = ap (λ (a : Audit). a.changes) held.2
+line_counts_changes old new (Remove id) within held = ap (λ (a : Audit). a.changes) held.2 ∙ omega (arith, within)
+line_counts_changes old new (Segment id p q) within held = ap (λ (a : Audit). a.changes) held.3 ∙ omega (arith, within)
+line_counts_changes old new (items.Step step) within held = ap (λ (a : Audit). a.changes) held.3 ∙ omega (arith, within)
+line_counts_changes old new End within held = ap (λ (a : Audit). a.changes) held.2 ∙ omega (arith, within)
 
--- and as a step or not
-line_counts_steps : (old new : Audit) (item : Item) → old.steps < 2 ^ 63 → LineHolds old item new
-    → new.steps ≡ old.steps + cond (is_step item) 1 0
-line_counts_steps old new (Point p) below held = ap (λ (a : Audit). a.steps) held.4 ∙ omega arith
-line_counts_steps old new (Unpoint p) below held = ap (λ (a : Audit). a.steps) held.4 ∙ omega arith
-line_counts_steps old new (Original id chain) below held = ap (λ (a : Audit). a.steps) held.4 ∙ omega arith
-line_counts_steps old new Change below held = ap (λ (a : Audit). a.steps) held.2 ∙ omega arith
-line_counts_steps old new (Remove id) below held = ap (λ (a : Audit). a.steps) held.2 ∙ omega arith
-line_counts_steps old new (Segment id p q) below held = ap (λ (a : Audit). a.steps) held.3 ∙ omega arith
-line_counts_steps old new (items.Step step) below held = ap (λ (a : Audit). a.steps) held.3 ∙ next_is old.steps below
-line_counts_steps old new End below held = ap (λ (a : Audit). a.steps) held.2 ∙ omega arith
+pub run_counts_changes : (list : List Item) (audit : Audit) → Runs first_audit list audit
+    → audit.changes ≡ min (count_by is_change list) (2 ^ 63)
+run_counts_changes list audit run =
+    run_counts (λ a. a.changes) is_change line_counts_changes first_audit audit list (omega arith) run ∙ omega arith
 
-run_counts_all_steps : (old new : Audit) (list : List Item) → old.steps + length list < 2 ^ 63 → Runs old list new
-    → new.steps ≡ old.steps + count_by is_step list
-run_counts_all_steps old new [] below run = ap (λ (a : Audit). a.steps) (sym run) ∙ omega arith
-run_counts_all_steps old new (item ∷ list) below (between, held, rest) =
-    let first = line_counts_steps old between item (omega (arith, below)) held in
-    let one : cond (is_step item) 1 0 ≤ 1 = at_most (is_step item) in
-    let later = run_counts_all_steps between new list (omega (arith, below, first, one)) rest in
-    omega (arith, first, later, count_is is_step item list)
-  where
-    at_most : (b : Bool) → cond b 1 0 ≤ 1
-    at_most true = omega arith
-    at_most false = omega arith
+line_counts_steps : GoesOn (λ a. a.steps) is_step
+line_counts_steps old new (Point p) within held = ap (λ (a : Audit). a.steps) held.4 ∙ omega (arith, within)
+line_counts_steps old new (Unpoint p) within held = ap (λ (a : Audit). a.steps) held.4 ∙ omega (arith, within)
+line_counts_steps old new (Original id chain) within held = ap (λ (a : Audit). a.steps) held.4 ∙ omega (arith, within)
+line_counts_steps old new Change within held = ap (λ (a : Audit). a.steps) held.2 ∙ omega (arith, within)
+line_counts_steps old new (Remove id) within held = ap (λ (a : Audit). a.steps) held.2 ∙ omega (arith, within)
+line_counts_steps old new (Segment id p q) within held = ap (λ (a : Audit). a.steps) held.3 ∙ omega (arith, within)
+line_counts_steps old new (items.Step step) within held = ap (λ (a : Audit). a.steps) held.3
+line_counts_steps old new End within held = ap (λ (a : Audit). a.steps) held.2 ∙ omega (arith, within)
 
-pub run_counts_steps : (list : List Item) (audit : Audit) → Runs first_audit list audit → length list < 2 ^ 63
-    → audit.steps ≡ count_by is_step list
-run_counts_steps list audit run few =
-    let counted = run_counts_all_steps first_audit audit list (omega (arith, few)) run in omega (arith, counted)
+pub run_counts_steps : (list : List Item) (audit : Audit) → Runs first_audit list audit
+    → audit.steps ≡ min (count_by is_step list) (2 ^ 63)
+run_counts_steps list audit run =
+    run_counts (λ a. a.steps) is_step line_counts_steps first_audit audit list (omega arith) run ∙ omega arith

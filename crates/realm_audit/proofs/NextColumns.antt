@@ -1,4 +1,4 @@
--- This file shows that the first share behind a column's border tells the next column in which pieces stand.
+-- This file shows that the first share behind a column's fence tells the next column in which pieces stand.
 use Rattle.std.proofs.Common.{◌≡◌, ℕ, ◌+◌, ◌≤◌, List, All, false}
 use Rattle.std.proofs.Common.{sym, ap, ◌∙◌, inl, inr, arith}
 use Rattle.std.specs.Ordering.{is_gt}
@@ -12,22 +12,22 @@ use Rattle.realm_audit.specs.Ranges.{share_cmp, LiesBetween, NoneBetween, IsFirs
 use Rattle.realm_audit.proofs.ShareOrder.{less_by_row, less_by_column, up_to, less_up_to, in_order}
 use Rattle.realm_audit.proofs.ShareOrder.{same_shelf, shelf_not_behind, less_not_greater}
 
--- the share is a border of a column: it comes before all that stand there
-pub record IsBorder (y : Share) (level column row : ℕ) : Type 0 where
+-- the share is a fence of a column: it comes before all that stand there
+pub record IsFence (y : Share) (level column row : ℕ) : Type 0 where
   pub level_is : y.shelf.level ≡ level
   pub column_is : y.shelf.column ≡ column
   pub row_is : y.shelf.row ≡ row
 
-pub border_is : (y : Share) (level column row : ℕ) → y.shelf.level ≡ level → y.shelf.column ≡ column → y.shelf.row ≡ row
-    → IsBorder y level column row
-border_is y level column row at_level at_column at_row =
+pub fence_is : (y : Share) (level column row : ℕ) → y.shelf.level ≡ level → y.shelf.column ≡ column → y.shelf.row ≡ row
+    → IsFence y level column row
+fence_is y level column row at_level at_column at_row =
     record { level_is = at_level; column_is = at_column; row_is = at_row }
 
--- the border of the first column isn't behind that of the one after the last
-pub borders_in_order : (from to : Share) (level first last : ℕ) → IsBorder from level first 0
-    → IsBorder to level (last + 1) 0 → from.piece ≡ to.piece → from.id ≡ to.id → first ≤ last + 1
+-- the fence of the first column isn't behind that of the one after the last
+pub fences_in_order : (from to : Share) (level first last : ℕ) → IsFence from level first 0
+    → IsFence to level (last + 1) 0 → from.piece ≡ to.piece → from.id ≡ to.id → first ≤ last + 1
     → is_gt (share_cmp from to) ≡ false
-borders_in_order from to level first last at_from at_to pieces ids forward =
+fences_in_order from to level first last at_from at_to pieces ids forward =
     let levels = at_from.level_is ∙ sym at_to.level_is in
     elim (cases_lt first (last + 1)) [
       | inl before ↦ less_not_greater (share_cmp from to)
@@ -39,8 +39,8 @@ borders_in_order from to level first last at_from at_to pieces ids forward =
           (omega (arith, ids))
     ]
 
--- a share that stands in the columns lies between their borders
-pub lies_between : (from to : Share) (level first last : ℕ) → IsBorder from level first 0 → IsBorder to level (last + 1) 0
+-- a share that stands in the columns lies between their fences
+pub lies_between : (from to : Share) (level first last : ℕ) → IsFence from level first 0 → IsFence to level (last + 1) 0
     → (s : GridSegment) (x : ℕ) → StandsIn level first last s
     → LiesBetween from to (share_of s x)
 lies_between from to level first last at_from at_to s x stands = (
@@ -57,9 +57,9 @@ lies_between from to level first last at_from at_to s x stands = (
       less_by_column (share_of s x) to (stands.level_is ∙ sym at_to.level_is) (omega (arith, at_to.column_is, to_last))),
 )
 
--- where nothing lies between the borders none stands in the columns
-pub none_stands : (keys : List Share) (from to : Share) (level first last : ℕ) → IsBorder from level first 0
-    → IsBorder to level (last + 1) 0 → NoneBetween keys from to
+-- where nothing lies between the fences none stands in the columns
+pub none_stands : (keys : List Share) (from to : Share) (level first last : ℕ) → IsFence from level first 0
+    → IsFence to level (last + 1) 0 → NoneBetween keys from to
     → (s : GridSegment) (x : ℕ) → HasShare keys s x → StandsIn level first last s → ⊥
 none_stands keys from to level first last at_from at_to none s x has stands =
     none (share_of s x) (lies_between from to level first last at_from at_to s x stands) has
@@ -71,7 +71,7 @@ pub record TellsColumn (keys : List Share) (level first last : ℕ) (column : �
   pub least : (s : GridSegment) (x : ℕ) → HasShare keys s x → StandsIn level first last s → column ≤ column_of s
 
 pub first_tells : (keys : List Share) (from to : Share) (level first last : ℕ) (y : Share)
-    → All IsShelved keys → IsBorder from level first 0 → IsBorder to level (last + 1) 0
+    → All IsShelved keys → IsFence from level first 0 → IsFence to level (last + 1) 0
     → IsFirstBetween keys from to y → TellsColumn keys level first last y.shelf.column
 first_tells keys from to level first last y shelved at_from at_to is =
     let behind_from = is.between.0 in

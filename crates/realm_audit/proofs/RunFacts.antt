@@ -1,6 +1,7 @@
 -- This file shows that all chains are valid, whatever lines were heard.
 use Rattle.std.proofs.Common.{List, [], ◌∷◌, All, sym, subst}
 use Rattle.std.proofs.lemmas.List.Elements.{All-filter, All-push, All-nil}
+use Rattle.grid_base.specs.Point.{IsBefore}
 use Rattle.grid_base.specs.Segment.{GridSegment}
 use Rattle.grid_base.specs.declared.original.Original.{Original as AnOriginal}
 use Rattle.hook_chain.specs.Chains.{RunsFrom}
@@ -50,8 +51,9 @@ pub run_is_valid : (list : List Item) (audit : Audit) → Runs first_audit list 
 run_is_valid list audit run = run_keeps first_audit audit list (All-nil HasValidChain) run
 
 pub run_leads : (list : List Item) (audit : Audit) → Runs first_audit list audit
-    → All (λ o. RunsFrom o.a o.b o.chain) audit.drawing.originals
-run_leads list audit run = λ k o within. (run_is_valid list audit run k o within).leads
+    → All (λ o. IsBefore o.a o.b × RunsFrom o.a o.b o.chain) audit.drawing.originals
+run_leads list audit run =
+    λ k o within. let valid = run_is_valid list audit run k o within in (valid.ends, valid.leads)
 
 pub run_in_envelope : (list : List Item) (audit : Audit) → Runs first_audit list audit
     → All (λ o. StaysInEnvelope (along o) o.chain) audit.drawing.originals

@@ -1,20 +1,12 @@
 -- Which lines close a change, and which count.
-use Rattle.std.specs.Prelude.{ℕ, Bool, true, false, List, [], ◌∷◌}
-use Rattle.realm_audit.specs.Items.{IsTextOf}
+use Rattle.std.specs.Prelude.{◌≡◌, ◌⊎◌, Bool, true, false}
 use Rattle.realm_audit.specs.declared.item.Item.{Item}
 use Rattle.realm_audit.specs.declared.item.Item.TheVariants.{Point, Unpoint, Original, Change, Remove, Segment, End}
 use Rattle.realm_audit.specs.declared.item.Item.TheVariants as items
 
 -- the line ends what was drawn before it: it begins a change, or ends the certificate
 abbrev pub IsClosing : Item → Type 0
-IsClosing (Point p) = ⊥
-IsClosing (Unpoint p) = ⊥
-IsClosing (Original id chain) = ⊥
-IsClosing Change = Unit {0}
-IsClosing (Remove id) = ⊥
-IsClosing (Segment id p q) = ⊥
-IsClosing (items.Step step) = ⊥
-IsClosing End = Unit {0}
+IsClosing item = (item ≡ Change) ⊎ (item ≡ End)
 
 -- whether the line begins a change
 abbrev pub is_change : Item → Bool
@@ -37,10 +29,3 @@ is_step (Remove id) = false
 is_step (Segment id p q) = false
 is_step (items.Step step) = true
 is_step End = false
-
--- the texts are those of the items, one by one
-abbrev pub ReadsAll : List (List ℕ) → List Item → Type 0
-ReadsAll [] [] = Unit {0}
-ReadsAll [] (item ∷ list) = ⊥
-ReadsAll (text ∷ texts) [] = ⊥
-ReadsAll (text ∷ texts) (item ∷ list) = IsTextOf text item × ReadsAll texts list

@@ -6,7 +6,9 @@ pub mod Audits
 pub mod Verdicts
 -- lines that close a change, and lines that count
 pub mod Facts
--- when a step may be taken
+-- what the items of a sound text tell
+pub mod SoundLists
+-- what a step asks, and what it puts in the place of its pieces
 pub mod Mending
 -- drawings with valid chains
 pub mod Chains

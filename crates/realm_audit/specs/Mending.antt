@@ -1,4 +1,4 @@
--- When a step may be taken, and what it puts in the place of its pieces.
+-- What a step asks, and what it puts in the place of its pieces.
 use Rattle.std.specs.Prelude.{◌<◌, IsTrue}
 use Rattle.grid_base.specs.Segment.{IsSegmentBefore, is_diagonal}
 use Rattle.grid_base.specs.Crossing.{Inside, Cross}
@@ -10,10 +10,6 @@ use Rattle.grid_base.specs.declared.kinds.Step.TheVariants.{Split, Meet, Corner}
 use Rattle.hook_chain.specs.Steps.{Permitted}
 use Rattle.realm_audit.specs.Redraws.{AreRedrawings, redrawn_drawing}
 use Rattle.realm_audit.specs.declared.redrawing.Redrawings.{Redrawings}
-
--- the step may be taken in d
-abbrev pub IsPermitted : Drawing → Step → Type 0
-IsPermitted d step = (new : Drawing) × Permitted d step new
 
 -- what a step asks of its point and its pieces by themselves
 abbrev pub IsMending : Step → Type 0

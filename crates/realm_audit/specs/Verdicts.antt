@@ -1,5 +1,5 @@
 -- The verdict on a text: sound where no line fails and the last is `end`.
-use Rattle.std.specs.Prelude.{◌≡◌, ◌≢◌, ◌⊎◌, ℕ, Bool, IsTrue, IsFalse, List, [], ◌∷◌, ◌++◌}
+use Rattle.std.specs.Prelude.{◌≡◌, ◌≢◌, ◌⊎◌, ℕ, ◌^◌, min, Bool, IsTrue, IsFalse, List, [], ◌∷◌, ◌++◌, length}
 use Rattle.realm_audit.specs.Audits.{Audit, first_audit, next_count, Accepts}
 use Rattle.realm_audit.specs.declared.phase.Phase.TheVariants.{Ended}
 use Rattle.realm_audit.specs.declared.verdict.Verdict.{Verdict}
@@ -11,13 +11,8 @@ AllAccepted old [] new = old ≡ new
 AllAccepted old (text ∷ texts) new = (between : Audit) × Accepts old text between × AllAccepted between texts new
 
 -- how many lines there are, counted up to 2^63
-abbrev pub count_from : ℕ → List (List ℕ) → ℕ
-count_from n [] = n
-count_from n (text ∷ texts) = count_from (next_count n) texts
-
--- so many, from the first on
 abbrev pub line_count : List (List ℕ) → ℕ
-line_count texts = count_from 0 texts
+line_count texts = min (length texts) (2 ^ 63)
 
 -- the line behind the texts of `before` is the first that fails
 pub record FailsBehind (before : List (List ℕ)) (text : List ℕ) : Type 0 where
@@ -68,6 +63,12 @@ Hears (Failing n) text held Exhausted = ⊥
 Hears Exhausted text held (Heard m next) = ⊥
 Hears Exhausted text held (Failing m) = ⊥
 Hears Exhausted text held Exhausted = IsFalse held
+
+-- no line holds any more: one has failed, or memory ran out
+abbrev pub IsOver : Hearing → Type 0
+IsOver (Heard n audit) = ⊥
+IsOver (Failing n) = Unit {0}
+IsOver Exhausted = Unit {0}
 
 -- the verdict on what was heard
 abbrev pub Judges : Hearing → Verdict → Type 0

@@ -1,8 +1,8 @@
 //! The auditor, which hears a certificate line by line.
-ghost use Rattle.std.specs.Prelude.{◌≡◌, ◌≢◌, ◌↔◌, ◌++◌, ◌∷◌, [], ℕ, List, IsTrue, IfOk, OnOk, OnErr, ◌≤◌, ◌^◌};
+ghost use Rattle.std.specs.Prelude.{◌≡◌, ◌≢◌, ◌↔◌, ◌++◌, ◌∷◌, [], ℕ, List, Ok, false, IsTrue, IfOk, OnOk, OnErr, ◌≤◌, ◌^◌};
 ghost use Rattle.realm_audit.specs.Progresses.{hearing_of, IsSoundProgress};
 ghost use Rattle.realm_audit.specs.Audits.{first_audit};
-ghost use Rattle.realm_audit.specs.Verdicts.{Hears, Judges};
+ghost use Rattle.realm_audit.specs.Verdicts.{Hears, IsOver, Judges};
 ghost use Rattle.realm_audit.specs.Verdicts.Hearing.{Heard, Exhausted};
 
 use crate::audit::{Audit, next_count};
@@ -57,6 +57,7 @@ impl Auditor {
     pub fn line(&mut self, text: &[u8]) -> Result<bool, NoMemory>
         ensures hears { IfOk result (λ held. Hears self.old text.now held self.new) }
         ensures going { OnOk result (self.old ≢ Exhausted → self.new ≢ Exhausted) }
+        ensures behind { IsOver self.old → (result ≡ Ok false) × (self.new ≡ self.old) }
         ensures spent { OnErr result (self.new ≡ Exhausted) }
     {
         match mem::replace(&mut self.progress, Progress::Spent) {

@@ -113,18 +113,18 @@ pub(crate) fn is_vertex(shares: &Shares, p: &Point) -> Result<bool, NoMemory>
     ensures { IfOk result (λ yes. IsTrue yes ↔ ((u : GridSegment) × IsOwned shares.now u × IsEnd p.now u)) }
 {
     let near = shares.around(&bounds_at(p))?;
-    Ok(ends_some(p, near.as_slice()))
+    Ok(is_end_of_some(p, near.as_slice()))
 }
 
 // Whether `p` is an end of one of the list.
-fn ends_some(p: &Point, list: &[Segment]) -> bool
+fn is_end_of_some(p: &Point, list: &[Segment]) -> bool
     ensures { IsTrue result ↔ Any (IsEnd p.now) list.now }
 {
-    list.iter().any(|u| ends(p, u))
+    list.iter().any(|u| is_end(p, u))
 }
 
 // Whether `p` is an end of `u`.
-fn ends(p: &Point, u: &Segment) -> bool
+fn is_end(p: &Point, u: &Segment) -> bool
     ensures { IsTrue result ↔ IsEnd p.now u.now }
 {
     *p == u.a() || *p == u.b()

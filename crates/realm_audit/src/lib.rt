@@ -28,6 +28,8 @@ mod writing;
 
 pub use auditor::Auditor;
 pub use item::Item;
-pub use laws::{hearing_is_judged, run_is_counted, run_settles, run_stands};
+pub use laws::{
+    hearing_is_judged, one_verdict, run_is_counted, run_settles, run_stands, sound_text,
+};
 pub use verdict::Verdict;
 pub use writing::certificate_line;

@@ -160,7 +160,7 @@ impl Shares {
             (λ n. (first ≤ n) × (n ≤ last) × ((s : GridSegment) (x : ℕ) → HasShare self.now s x
             → StandsIn level first last s → n ≤ column_of s)) }
     {
-        let share = self.first_between(border(level, first, 0), border(level, last + 1, 0))?;
+        let share = self.first_between(fence(level, first, 0), fence(level, last + 1, 0))?;
         Some(share.shelf.column)
     }
 
@@ -200,8 +200,8 @@ impl Shares {
             (ListsReached self.now bounds.now (StandsAt level column) list.old.items list.new.items) }
     {
         let low = bounds.low.saturating_sub(cell_side(level));
-        let from = border(level, column, low.min(bounds.high));
-        let to = border(level, column, bounds.high + 2);
+        let from = fence(level, column, low.min(bounds.high));
+        let to = fence(level, column, bounds.high + 2);
         let found = self.pieces_between(from, to)?;
         list.extend_from_slice(found.as_slice())?;
         Ok(())
@@ -209,7 +209,7 @@ impl Shares {
 }
 
 // A share that isn't kept, but stands between those of the rows before `row` and those of the rows behind it.
-fn border(level: u32, column: u32, row: u32) -> Share
+fn fence(level: u32, column: u32, row: u32) -> Share
     ensures level { result.shelf.level ≡ level }
     ensures column { result.shelf.column ≡ column }
     ensures row { result.shelf.row ≡ row }

@@ -5,6 +5,6 @@
 pub enum Verdict {
     /// No line fails, and the last one ends the certificate. How many changes it has, and how many steps, each up to 2^63.
     Sound { changes: u64, steps: u64 },
-    /// The number, from 1, of the first line that fails, or one more than there are lines where the end is missing.
+    /// Which line fails first, counted from 1; where none does and the end is missing, the one behind the last.
     Unsound { line: u64 },
 }

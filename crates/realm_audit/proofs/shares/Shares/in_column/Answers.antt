@@ -3,12 +3,12 @@ use Rattle.grid_base.specs.Segment.{GridSegment}
 use Rattle.realm_audit.proofs.Searches.{column_is_listed}
 use Rattle.realm_audit.proofs.shares.Shares.in_column.Goals as goal
 
--- the borders are those of the rows in which what reaches the bounds has its lowest row
+-- the fences are those of the rows in which what reaches the bounds has its lowest row
 pub returns : goal.returns
 returns c =
     let b = c.args.bounds.now in
-    let from = c.border-from in
-    let to = c.border-to in
+    let from = c.fence-from in
+    let to = c.fence-to in
     let lower = c.saturating_sub-low.ensures ∙ ap (λ (side : ℕ). b.low - side) c.cell_side.ensures.side in
     let row = from.ensures.row ∙ c.min.ensures ∙ ap (λ (n : ℕ). min n b.high) lower in
     let found = c.as_slice.ensures.value ∙ c.in_ok-found.ensures.pieces in

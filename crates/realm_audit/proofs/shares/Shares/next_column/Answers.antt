@@ -1,35 +1,35 @@
 use Rattle.std.proofs.Common.{◌+◌, ◌∙◌, sym}
-use Rattle.realm_audit.proofs.NextColumns.{border_is, borders_in_order, none_stands, first_tells}
+use Rattle.realm_audit.proofs.NextColumns.{fence_is, fences_in_order, none_stands, first_tells}
 use Rattle.realm_audit.proofs.shares.Shares.next_column.Goals as goal
 
--- the border of the first column isn't behind that of the one after the last
+-- the fence of the first column isn't behind that of the one after the last
 pub first_between-requires : goal.first_between-requires
 first_between-requires c =
-    let from = c.border.ensures in
-    let to = c.border-2.ensures in
+    let from = c.fence.ensures in
+    let to = c.fence-2.ensures in
     record {
-      forward = borders_in_order c.border.result c.border-2.result c.args.level c.args.first c.args.last
-          (border_is c.border.result c.args.level c.args.first 0 from.level from.column from.row)
-          (border_is c.border-2.result c.args.level (c.args.last + 1) 0 to.level to.column to.row)
+      forward = fences_in_order c.fence.result c.fence-2.result c.args.level c.args.first c.args.last
+          (fence_is c.fence.result c.args.level c.args.first 0 from.level from.column from.row)
+          (fence_is c.fence-2.result c.args.level (c.args.last + 1) 0 to.level to.column to.row)
           (from.piece ∙ sym to.piece) (from.id ∙ sym to.id) c.requires.forward;
     }
 
 -- nothing lies between them
 pub returns-in_err-share-clause-next : goal.returns-in_err-share-clause-next
 returns-in_err-share-clause-next c =
-    let from = c.border.ensures in
-    let to = c.border-2.ensures in
-    rw c.from_residual.ensures (none_stands c.args.self.now c.border.result c.border-2.result c.args.level c.args.first c.args.last
-    (border_is c.border.result c.args.level c.args.first 0 from.level from.column from.row)
-    (border_is c.border-2.result c.args.level (c.args.last + 1) 0 to.level to.column to.row) c.in_err-share.ensures.first)
+    let from = c.fence.ensures in
+    let to = c.fence-2.ensures in
+    rw c.from_residual.ensures (none_stands c.args.self.now c.fence.result c.fence-2.result c.args.level c.args.first c.args.last
+    (fence_is c.fence.result c.args.level c.args.first 0 from.level from.column from.row)
+    (fence_is c.fence-2.result c.args.level (c.args.last + 1) 0 to.level to.column to.row) c.in_err-share.ensures.first)
 
 -- the first share that does stands in the next column
 pub returns-clause-next : goal.returns-clause-next
 returns-clause-next c =
-    let from = c.border.ensures in
-    let to = c.border-2.ensures in
-    let tells = first_tells c.args.self.now c.border.result c.border-2.result c.args.level c.args.first c.args.last
+    let from = c.fence.ensures in
+    let to = c.fence-2.ensures in
+    let tells = first_tells c.args.self.now c.fence.result c.fence-2.result c.args.level c.args.first c.args.last
     c.in_ok-share.share c.first_between.ensures.shelved
-    (border_is c.border.result c.args.level c.args.first 0 from.level from.column from.row)
-    (border_is c.border-2.result c.args.level (c.args.last + 1) 0 to.level to.column to.row) c.in_ok-share.ensures.first in
+    (fence_is c.fence.result c.args.level c.args.first 0 from.level from.column from.row)
+    (fence_is c.fence-2.result c.args.level (c.args.last + 1) 0 to.level to.column to.row) c.in_ok-share.ensures.first in
     (tells.from_first, tells.to_last, tells.least)
