@@ -18,23 +18,27 @@ use Rattle.command_words.proofs.Steps.{IsUnnamed, at, fails_as_rest, given, leve
 -- ---- the first word
 
 abbrev names : Names
-names = (codes "run", []) ∷ (codes "check", []) ∷ (codes "gen", []) ∷ []
+names = (codes "run", []) ∷ (codes "check", []) ∷ (codes "gen", []) ∷ (codes "audit", []) ∷ []
 
 abbrev IsNamedOrNot : Text → Type 0
-IsNamedOrNot word = (word ≡ codes "run") ⊎ ((word ≡ codes "check") ⊎ ((word ≡ codes "gen") ⊎ IsUnnamed names word))
+IsNamedOrNot word =
+    (word ≡ codes "run") ⊎ ((word ≡ codes "check") ⊎ ((word ≡ codes "gen") ⊎ ((word ≡ codes "audit") ⊎ IsUnnamed names word)))
 
--- a word is one of the three names, or the parser knows it by none
+-- a word is one of the four names, or the parser knows it by none
 named_or_not : (word : Text) → IsNamedOrNot word
-named_or_not word = go (bytes_eq (codes "run") word) (bytes_eq (codes "check") word) (bytes_eq (codes "gen") word) refl refl refl
+named_or_not word =
+    go (bytes_eq (codes "run") word) (bytes_eq (codes "check") word) (bytes_eq (codes "gen") word) (bytes_eq (codes "audit") word)
+    refl refl refl refl
   where
-    go : (run check gen : Bool) → bytes_eq (codes "run") word ≡ run → bytes_eq (codes "check") word ≡ check
-        → bytes_eq (codes "gen") word ≡ gen → IsNamedOrNot word
-    go true check gen r c g = inl (sym ((bytes_eq-Decides (codes "run") word).0 r))
-    go false true gen r c g = inr (inl (sym ((bytes_eq-Decides (codes "check") word).0 c)))
-    go false false true r c g = inr (inr (inl (sym ((bytes_eq-Decides (codes "gen") word).0 g))))
-    go false false false r c g = inr (inr (inr (rw (r, c, g) refl)))
+    go : (run check gen audit : Bool) → bytes_eq (codes "run") word ≡ run → bytes_eq (codes "check") word ≡ check
+        → bytes_eq (codes "gen") word ≡ gen → bytes_eq (codes "audit") word ≡ audit → IsNamedOrNot word
+    go true check gen audit r c g a = inl (sym ((bytes_eq-Decides (codes "run") word).0 r))
+    go false true gen audit r c g a = inr (inl (sym ((bytes_eq-Decides (codes "check") word).0 c)))
+    go false false true audit r c g a = inr (inr (inl (sym ((bytes_eq-Decides (codes "gen") word).0 g))))
+    go false false false true r c g a = inr (inr (inr (inl (sym ((bytes_eq-Decides (codes "audit") word).0 a)))))
+    go false false false false r c g a = inr (inr (inr (inr (rw (r, c, g, a) refl))))
 
--- ---- the levels of the three commands
+-- ---- the levels of the four commands
 
 -- a command as the parser builds it
 abbrev leaf : Text → List Rule → Shape
@@ -127,6 +131,10 @@ check_told : told (subcommand_of commands (codes "check" ∷ [])) ≡ Some (code
 unfolding clap_on_literals
 check_told = refl
 
+audit_told : told (subcommand_of commands (codes "audit" ∷ [])) ≡ Some (codes "audit" ∷ [])
+unfolding clap_on_literals
+audit_told = refl
+
 -- the parser goes down to `gen`, and has there a row for each number
 gen_told : (lines start : Text) → IsNoFlag lines → IsNoFlag start
     → told (subcommand_of commands (codes "gen" ∷ lines ∷ start ∷ [])) ≡ Some (codes "gen" ∷ lines ∷ start ∷ [])
@@ -141,6 +149,10 @@ run_passes = refl
 pub check_passes : fault_of commands (codes "check" ∷ []) ≡ []
 unfolding clap_on_literals
 check_passes = refl
+
+pub audit_passes : fault_of commands (codes "audit" ∷ []) ≡ []
+unfolding clap_on_literals
+audit_passes = refl
 
 -- at the name the level above is done, and fails as the one below
 pub gen_passes : (lines start : Text) → IsNoFlag lines → IsNoFlag start → fault_of commands (codes "gen" ∷ lines ∷ start ∷ []) ≡ []
@@ -167,7 +179,10 @@ told_again (word ∷ rest) plain none =
           let plain_both = subst (All IsNoFlag) both behind in
           let plain_start = All-head IsNoFlag start [] (All-tail IsNoFlag lines (start ∷ []) plain_both) in
           inr (rw (is, both) (gen_told lines start (All-head IsNoFlag lines (start ∷ []) plain_both) plain_start))
-      | inr (inr (inr unnamed)) ↦
+      | inr (inr (inr (inl is))) ↦
+          let alone = no_more (codes "audit") rest behind (behind_passes (codes "audit") rest refl (passes_as (codes "audit") is)) in
+          inr (rw (is, alone) audit_told)
+      | inr (inr (inr (inr unnamed))) ↦
           let parts = level_parts top names (word ∷ rest) _ _ none in
           absurd (stray_word_fails names nothing_held 1 word (All-head IsNoFlag word rest plain) unnamed top rest refl parts.words_pass)
     ]

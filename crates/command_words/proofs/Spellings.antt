@@ -15,8 +15,8 @@ use Rattle.command_words.specs.Written.{IsAllowed, IsNoCommand, words_of}
 use Rattle.command_words.specs.Parsing.{IsNoFlag, IsSpelled, commands, texts_of, told}
 use Rattle.command_words.specs.declared.parsing.Spelling.{Spelling}
 use Rattle.command_words.specs.declared.word.Word.{Word}
-use Rattle.command_words.specs.declared.word.Word.TheVariants.{Run, Check, Gen}
-use Rattle.command_words.proofs.Levels.{check_passes, gen_passes, run_passes, told_again}
+use Rattle.command_words.specs.declared.word.Word.TheVariants.{Run, Check, Gen, Audit}
+use Rattle.command_words.proofs.Levels.{audit_passes, check_passes, gen_passes, run_passes, told_again}
 
 -- ---- the words of a command
 
@@ -46,6 +46,7 @@ command_has_no_flag (Gen lines start) allowed =
     let start_alone = alone_is_no_flag (decimal start) (number_is_no_flag start (omega arith)) in
     All-cons IsNoFlag (codes "gen") (decimal lines ∷ decimal start ∷ []) (omega arith, λ e. omega (arith, e))
     (All-cons IsNoFlag (decimal lines) (decimal start ∷ []) (number_is_no_flag lines (omega arith)) start_alone)
+command_has_no_flag Audit allowed = alone_is_no_flag (codes "audit") (omega arith, λ e. omega (arith, e))
 
 -- the parser refuses no command
 command_passes : (word : Word) → IsAllowed word → fault_of commands (words_of word) ≡ []
@@ -53,11 +54,13 @@ command_passes Run allowed = run_passes
 command_passes Check allowed = check_passes
 command_passes (Gen lines start) allowed =
     gen_passes (decimal lines) (decimal start) (number_is_no_flag lines (omega arith)) (number_is_no_flag start (omega arith))
+command_passes Audit allowed = audit_passes
 
 no_words : IsNoCommand []
 no_words Run is = let e = is.0 in cc
 no_words Check is = let e = is.0 in cc
 no_words (Gen lines start) is = let e = is.0 in cc
+no_words Audit is = let e = is.0 in cc
 
 -- ---- what the parser's clauses say of the commands
 

@@ -18,6 +18,7 @@ abbrev pub texts_of : Spelling → List (List ℕ)
 texts_of spelling.Run = codes "run" ∷ []
 texts_of spelling.Check = codes "check" ∷ []
 texts_of (spelling.Gen lines start) = codes "gen" ∷ lines.now ∷ start.now ∷ []
+texts_of spelling.Audit = codes "audit" ∷ []
 
 -- what is found spells the words, and nothing is found only where they are no command
 abbrev pub IsSpelled : List (List ℕ) → Option Spelling → Type 0
@@ -45,10 +46,11 @@ abbrev pub generate : App
 generate = with_rule (with_rule (new_app (codes "gen")) (needed (codes "N")))
     (needed (codes "START"))
 
--- the program with its three commands
+-- the program with its four commands
 abbrev pub commands : App
-commands = with_subcommand (with_subcommand (with_subcommand program
-    (new_app (codes "run")).top) (new_app (codes "check")).top) generate.top
+commands = with_subcommand (with_subcommand (with_subcommand (with_subcommand program
+    (new_app (codes "run")).top) (new_app (codes "check")).top) generate.top)
+    (new_app (codes "audit")).top
 
 -- ---- what its matches tell
 
@@ -62,7 +64,8 @@ numbers_told rows = option_and_then (λ lines.
 abbrev pub told_by : Text → List Row → Option (List Text)
 told_by name rows = if bytes_eq name (codes "run") then Some (codes "run" ∷ [])
     else (if bytes_eq name (codes "check") then Some (codes "check" ∷ [])
-    else numbers_told rows)
+    else (if bytes_eq name (codes "audit") then Some (codes "audit" ∷ [])
+    else numbers_told rows))
 
 -- the words of the command that was met
 abbrev pub told : Option (Text × List Row) → Option (List Text)

@@ -16,6 +16,7 @@ pub(crate) enum Spelling<'a> {
     Run,
     Check,
     Gen { lines: &'a str, start: &'a str },
+    Audit,
 }
 
 /// The command that these words spell; none only where they are no command. The parser would take `--` for the end of
@@ -46,13 +47,15 @@ fn rose<'a>(alloc: Global) -> Result<Command<'a>, AllocError>
     let run = Command::new(alloc, "run");
     let check = Command::new(alloc, "check");
     let generate = Command::new(alloc, "gen").arg(lines)?.arg(start)?;
+    let audit = Command::new(alloc, "audit");
     Command::new(alloc, "rose")
         .no_binary_name(true)
         .disable_help_flag(true)
         .disable_help_subcommand(true)
         .subcommand(run)?
         .subcommand(check)?
-        .subcommand(generate)
+        .subcommand(generate)?
+        .subcommand(audit)
 }
 
 // The command that the parser met.
@@ -64,6 +67,8 @@ fn spelling_of<'a>(matches: &ArgMatches<'a>) -> Option<Spelling<'a>>
         Some(Spelling::Run)
     } else if name == "check" {
         Some(Spelling::Check)
+    } else if name == "audit" {
+        Some(Spelling::Audit)
     } else {
         gen_spelling(matches)
     }

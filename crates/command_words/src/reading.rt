@@ -57,6 +57,7 @@ fn word_of(spelling: Spelling<'_>) -> Option<Word>
         Spelling::Run => Some(Word::Run),
         Spelling::Check => Some(Word::Check),
         Spelling::Gen { lines, start } => with_numbers(lines, start),
+        Spelling::Audit => Some(Word::Audit),
     }
 }
 

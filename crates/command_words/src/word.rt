@@ -9,4 +9,6 @@ pub enum Word {
     Check,
     /// Make a map of so many lines that nobody wrote, from a number on.
     Gen { lines: u64, start: u64 },
+    /// Judge the input as a certificate.
+    Audit,
 }

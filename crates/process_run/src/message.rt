@@ -23,7 +23,9 @@ pub fn line_of(status: Status) -> Option<Line>
 {
     match status {
         Status::Done => None,
-        Status::Usage => Some(Line::Plain("usage: rose run | rose check | rose gen N START")),
+        Status::Usage => Some(Line::Plain(
+            "usage: rose run | rose check | rose gen N START | rose audit",
+        )),
         Status::SourceFault => Some(Line::Plain("source fault")),
         Status::SinkFault => Some(Line::Plain("sink fault")),
         Status::DiskFault => Some(Line::Plain("disk fault")),

@@ -46,5 +46,9 @@ mod Syncs
 mod Unstarted
 -- lines that are given after nothing but questions of the files
 mod Tellings
+-- a certificate comes, some bytes and some lines at a time
+mod Certificates
+-- the input is taken for an audit, and its reply given
+mod Audits
 -- each run goes on from what a crash of the one before has left
 mod Chains

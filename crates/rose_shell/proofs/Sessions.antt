@@ -1,5 +1,5 @@
 -- This file shows that each turn of a session is one step, so each state on the way is sound, its commits are counted, no file
--- is touched within a group, and each crash leaves the state after a prefix of the commits.
+-- is touched within a group, and each crash leaves what a prefix of the commits made.
 use Rattle.std.proofs.Common.{◌≡◌, ◌⊎◌, inl, inr, nat_lt, ℕ, ◌<◌, Bool, true, false, MatchBool, List, [], ◌∷◌, ◌++◌, length, All}
 use Rattle.std.proofs.Common.{sym, ap, subst, arith}
 use Rattle.std.specs.Prelude.{◌≢◌}
@@ -120,7 +120,7 @@ moment_stands start files (turn ∷ turns) given m run has (inr (inl (sent, unse
 moment_stands start files (turn ∷ turns) given m run has (inr (inr later)) =
     inr (inr (moment_stands turn.after turn.files turns (given ++ turn.reply) m run.1 (turn_gate start turn run.0 has) later))
 
--- and each crash leaves the state after a prefix of the commits
+-- and each crash leaves what a prefix of the commits made
 run_prefix : (old new : View) (start : SpendableKept) (turns : List (Turn SpendableKept)) → IsRun StoreTerms start turns
     → LeavesOnly old new (IsMoment StoreTerms.same StoreTerms.stands start old.reads turns old.given) → start.kept.has_gate ≡ true
     → LeavesOnly old new (IsCrashOf start turns old.given)

@@ -4,13 +4,14 @@ use Rattle.std.proofs.lemmas.List.{append-nil}
 use Rattle.outside_world.specs.View.{View}
 use Rattle.outside_world.proofs.Moments.{only_nothing, only_wider, only_then, none_taken, none_taken_then}
 use Rattle.command_words.specs.declared.word.Word.{Word}
-use Rattle.command_words.specs.declared.word.Word.TheVariants.{Run, Check, Gen}
+use Rattle.command_words.specs.declared.word.Word.TheVariants.{Run, Check, Gen, Audit}
 use Rattle.realm_journal.specs.Reading.{OnlyAsks}
 use Rattle.rose_shell.specs.declared.status.Status.{Status}
 use Rattle.rose_shell.specs.declared.status.Status.TheVariants.{NoMemory}
 use Rattle.rose_shell.specs.Giving.{GaveSome}
 use Rattle.rose_shell.specs.Running.{IsNotBegun}
 use Rattle.rose_shell.specs.Telling.{GivesLines, HasDone}
+use Rattle.rose_shell.proofs.Audits.{audited_none}
 
 -- nothing was asked
 pub none_asked : {v : View} → OnlyAsks v v
@@ -29,6 +30,7 @@ pub none_done : (v : View) (command : Word) → HasDone command v v NoMemory
 none_done v Run = inl none_begun
 none_done v Check = inl none_begun
 none_done v (Gen count start) = inl (refl, none_asked)
+none_done v Audit = audited_none
 
 module _ {old mid new : View} (asks : OnlyAsks old mid) where
   some_behind : {lines unsent : List ℕ} → GaveSome mid new lines unsent → GaveSome old new lines unsent

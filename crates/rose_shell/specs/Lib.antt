@@ -28,6 +28,10 @@ pub mod Loop
 pub mod Running
 -- the store's answer to a command, at the desk
 pub mod AtDesk
+-- what is promised of the word `audit`
+pub mod Auditing
+-- a certificate while it comes
+pub mod Certificates
 -- what is promised of each command
 pub mod Telling
 -- runs one after another

@@ -34,13 +34,14 @@ module _ {S T : Type 0} (state_of : S → T) (is_commit : S → Turn S → Bool)
       MatchBool (is_commit start turn) (0 < length turn.reply) (state_of turn.after ≡ state_of start)
       × IsCounted turn.after turns
 
-  -- the files stand for the state after the first k commits, or after one more
+  -- the files stand for the state that k commits lead to, or that one more leads to
   abbrev pub StandsAround : (T → Files → Type 0) → S → List (Turn S) → ℕ
       → Files → Type 0
   StandsAround stands_for start turns k files =
       stands_for (state_after start turns k) files ⊎ stands_for (state_after start turns (suc k)) files
 
-  -- a moment at which k replies to commits had begun, counted from where these bytes had been given
+  -- the files of a moment stand around the commits whose replies had begun by then, where the run began when these
+  -- bytes had been given
   abbrev pub IsPrefixMoment : (T → Files → Type 0) → S → List (Turn S) → List ℕ → Moment
       → Type 0
   IsPrefixMoment stands_for start turns given m =

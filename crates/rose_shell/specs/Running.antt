@@ -46,7 +46,7 @@ IsWritingLine s line =
 
 -- What the store goes by at the desk. Outside a group a change and a checkpoint write, in one only its commit does. The files
 -- rest at what is kept, or at its next gate once that is there. Where the byte of this gate is missing, nothing is said of them
--- in a crash, until a commit has added it.
+-- in a crash, until a commit has added it, or put a generation on the other file.
 abbrev pub StoreTerms : Terms SpendableKept
 StoreTerms = record {
   answers = StoreAnswers;

@@ -1,14 +1,15 @@
 -- What is done with a command. `check` and `gen` give a few lines, take none and write no file.
-use Rattle.std.specs.Prelude.{◌≡◌, ◌⊎◌, ◌≤◌, ◌^◌, ℕ, List, [], length}
+use Rattle.std.specs.Prelude.{◌≡◌, ◌≢◌, ◌⊎◌, ◌≤◌, ◌^◌, ℕ, List, [], length}
 use Rattle.outside_world.specs.View.{View, AllStable}
 use Rattle.command_words.specs.declared.word.Word.{Word}
-use Rattle.command_words.specs.declared.word.Word.TheVariants.{Run, Check, Gen}
+use Rattle.command_words.specs.declared.word.Word.TheVariants.{Run, Check, Gen, Audit}
 use Rattle.state_counts.specs.Counts.{TellsCounts}
 use Rattle.generated_map.specs.Told.{TellsMap}
 use Rattle.realm_insert.specs.State.{State}
 use Rattle.realm_journal.specs.Reading.{OnlyAsks}
 use Rattle.realm_store.specs.Stands.{StandsFor}
 use Rattle.rose_shell.specs.Giving.{GaveSome}
+use Rattle.rose_shell.specs.Auditing.{HasAudited}
 use Rattle.rose_shell.specs.Running.{IsNotBegun, HasRun}
 use Rattle.rose_shell.specs.declared.status.Status.{Status}
 use Rattle.rose_shell.specs.declared.status.Status.TheVariants.{Done, SinkFault, NoMemory}
@@ -17,7 +18,7 @@ use Rattle.rose_shell.specs.declared.status.Status.TheVariants.{Done, SinkFault,
 pub record GivesLines (old new : View) (lines : List ℕ) (status : Status) : Type 0 where
   pub unsent : List ℕ
   pub some : GaveSome old new lines unsent
-  pub ends : ((status ≡ Done) × (unsent ≡ [])) ⊎ (status ≡ SinkFault)
+  pub ends : ((status ≡ Done) × (unsent ≡ [])) ⊎ ((status ≡ SinkFault) × (unsent ≢ []))
 
 -- The lines that tell how much the files stand for were given, and a crash now leaves each file as it reads.
 -- Or nothing was given, since the disk failed, memory ran out or the files are damaged as is told.
@@ -38,9 +39,18 @@ abbrev pub HasDone : Word → View → View → Status → Type 0
 HasDone Run old new status = HasRun old new status
 HasDone Check old new status = HasChecked old new status
 HasDone (Gen count start) old new status = HasGenerated count start old new status
+HasDone Audit old new status = HasAudited old new (2 ^ 40) status
 
 -- what the command asks of the world besides: files that stand for a state, and an input within the budget
 abbrev pub CanBeDone : Word → View → Type 0
 CanBeDone Run v = (length v.left ≤ 2 ^ 40) × ((state : State) × StandsFor v.reads state)
 CanBeDone Check v = (state : State) × StandsFor v.reads state
 CanBeDone (Gen count start) v = Unit {0}
+CanBeDone Audit v = length v.left ≤ 2 ^ 40
+
+-- the command asks nothing of the files
+abbrev pub AsksNoFile : Word → Type 0
+AsksNoFile Run = ⊥
+AsksNoFile Check = ⊥
+AsksNoFile (Gen count start) = Unit {0}
+AsksNoFile Audit = Unit {0}

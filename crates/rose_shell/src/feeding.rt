@@ -59,7 +59,7 @@ pub(crate) fn feed<R: Threads + Sync, G: Gate, W: Outside, D: Desk<W>>(
 }
 
 /// The place of the first line feed.
-fn line_end(bytes: &[u8]) -> Option<usize>
+pub(crate) fn line_end(bytes: &[u8]) -> Option<usize>
     ensures { MatchOption result (All (λ b. b ≢ 10) bytes.now)
         (λ n. (n < length bytes.now) × (slice_index bytes.now n ≡ 10)
         × All (λ b. b ≢ 10) (take n bytes.now)) }

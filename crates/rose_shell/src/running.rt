@@ -1,10 +1,9 @@
 //! The calls of the program: the words choose what is done, and the loop answers line by line.
-ghost use Rattle.std.specs.Prelude.{◌≡◌, ◌≢◌, ◌≤◌, ◌^◌, ◌⊎◌, ℕ, None, true, false, length, map, string_bytes};
+ghost use Rattle.std.specs.Prelude.{◌≡◌, ◌≢◌, ◌≤◌, ◌^◌, ◌⊎◌, None, true, false, length, map, string_bytes};
 ghost use Rattle.outside_world.specs.Counts.{Rose};
 ghost use Rattle.outside_world.specs.GoesOn.{GoesOn};
 ghost use Rattle.command_words.specs.Written.{AreWordsOf, IsNoCommand};
 ghost use Rattle.command_words.specs.declared.word.Word.{Word as Command};
-ghost use Rattle.command_words.specs.declared.word.Word.TheVariants.{Gen};
 ghost use Rattle.realm_insert.specs.State.{State};
 ghost use Rattle.realm_store.specs.Stands.{StandsFor};
 ghost use Rattle.realm_store.specs.Keeping.{AllRest};
@@ -12,8 +11,9 @@ ghost use Rattle.realm_store.specs.Damages.{IsDamaged};
 ghost use Rattle.realm_pages.specs.declared.damage.Damage.{Damage};
 ghost use Rattle.rose_shell.specs.Faults.{HasCause, TellsFault, status_at};
 ghost use Rattle.rose_shell.specs.Running.{HasRun, Serves};
-ghost use Rattle.rose_shell.specs.Telling.{HasDone, CanBeDone};
+ghost use Rattle.rose_shell.specs.Telling.{HasDone, CanBeDone, AsksNoFile};
 
+use crate::auditing::audit_input;
 use crate::fault::Fault;
 use crate::means::Means;
 use crate::serving::answer_input;
@@ -32,8 +32,8 @@ const MOST_BYTES: u64 = 1_099_511_627_776;
 
 /// Does what these words ask for, the arguments after the program's name. `run` reads lines to the end of the
 /// input, from what the files stand for on, and answers each. `check` tells how much the files stand for, and `gen` of a
-/// map that nobody wrote. Words that are no command end as usage. Want of memory may end each at any place: what was
-/// given then is the replies to the first lines, each whole, or nothing.
+/// map that nobody wrote. `audit` gives the verdict on its input as a certificate. Words that are no command end as usage. Want
+/// of memory may end each at any place: what was given then is the replies to the first lines, each whole, or nothing.
 pub fn run<R: Threads + Sync, W: Outside>(
     rt: &R,
     alloc: Global,
@@ -51,9 +51,9 @@ pub fn run<R: Threads + Sync, W: Outside>(
         → IsDamaged d (W.view world.old).reads }
     ensures told { (command : Command) → AreWordsOf (map string_bytes words.now) command
         → W.tells world.new → HasDone command (W.view world.old) (W.view world.new) result }
-    // `gen` makes no call on a file: each may raise the count.
-    ensures no_file { (lines start : ℕ) → AreWordsOf (map string_bytes words.now) (Gen lines start)
-        → W.disk_faults world.new ≡ W.disk_faults world.old }
+    // `gen` and `audit` make no call on a file: each may raise the count.
+    ensures no_file { (command : Command) → AreWordsOf (map string_bytes words.now) command
+        → AsksNoFile command → W.disk_faults world.new ≡ W.disk_faults world.old }
     // Where no call fails, the files stand for a state and the input ends within the budget, as far as the command
     // asks for them, nothing but memory can be wanting.
     ensures complete { (command : Command) → AreWordsOf (map string_bytes words.now) command
@@ -75,6 +75,7 @@ pub fn run<R: Threads + Sync, W: Outside>(
         Word::Run => run_lines(rt, alloc, world),
         Word::Check => tell_store(rt, alloc, world),
         Word::Gen { lines, start } => tell_map(rt, alloc, world, lines, start),
+        Word::Audit => audit_input(alloc, world, MOST_BYTES),
     }
 }
 

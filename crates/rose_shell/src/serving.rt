@@ -63,7 +63,11 @@ pub(crate) fn answer_input<R: Threads + Sync, G: Gate, W: Outside, D: Desk<W>>(
 
 /// The next bytes of the input: at most so many, and one where the budget is spent, to see whether there
 /// is more.
-fn next_bytes<W: Outside>(world: &mut W, chunk: &mut [u8], room: u64) -> Result<usize, Failed>
+pub(crate) fn next_bytes<W: Outside>(
+    world: &mut W,
+    chunk: &mut [u8],
+    room: u64,
+) -> Result<usize, Failed>
     requires intact { W.failed world.old ≡ false }
     requires room { 0 < length chunk.old }
     ensures within { IfOk result (λ n. n ≤ length chunk.new) }
@@ -71,6 +75,7 @@ fn next_bytes<W: Outside>(world: &mut W, chunk: &mut [u8], room: u64) -> Result<
     ensures intact { OnOk result (W.failed world.new ≡ false) }
     ensures source_fault { OnErr result
         (Rose (W.source_faults world.old) (W.source_faults world.new)) }
+    ensures no_file { W.disk_faults world.new ≡ W.disk_faults world.old }
     ensures goes_on { GoesOn ⟦<W as Outside>⟧ world.old world.new }
     ensures told { W.tells world.new
         → Took (W.view world.old) (W.view world.new) chunk.new result }

@@ -82,8 +82,8 @@ pub(crate) fn tell_map<R: Threads + Sync, W: Outside>(
     }
 }
 
-// Gives the lines whole, or as many of their bytes as the sink took before it failed.
-fn give_lines<W: Outside>(world: &mut W, lines: &Reply) -> Status
+/// Gives the lines whole, or as many of their bytes as the sink took before it failed.
+pub(crate) fn give_lines<W: Outside>(world: &mut W, lines: &Reply) -> Status
     requires intact { W.failed world.old ≡ false }
     ensures ends { (result ≡ Status.Done) ⊎ (result ≡ Status.SinkFault) }
     ensures intact { ¬ (TellsFault result) → W.failed world.new ≡ false }

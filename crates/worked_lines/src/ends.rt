@@ -302,7 +302,7 @@ static SAID: [(Status, &str); 12] = [
     (Status::Done, ""),
     (
         Status::Usage,
-        "rose: usage: rose run | rose check | rose gen N START\n",
+        "rose: usage: rose run | rose check | rose gen N START | rose audit\n",
     ),
     (Status::SourceFault, "rose: source fault\n"),
     (Status::SinkFault, "rose: sink fault\n"),

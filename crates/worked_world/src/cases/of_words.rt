@@ -13,18 +13,19 @@ fn parts(rt: &impl Abort, alloc: Global, text: &str) -> Vec<String> {
     words
 }
 
-// What is found: 0 for nothing, 1 for `run`, 2 for `check`, and 3 with both numbers for `gen`.
+// What is found: 0 for nothing, 1 for `run`, 2 for `check`, 3 with both numbers for `gen`, and 4 for `audit`.
 fn found(rt: &impl Abort, alloc: Global, words: &[String]) -> (u8, u64, u64) {
     match read_words(alloc, words).expect(rt, "memory") {
         None => (0, 0, 0),
         Some(Word::Run) => (1, 0, 0),
         Some(Word::Check) => (2, 0, 0),
         Some(Word::Gen { lines, start }) => (3, lines, start),
+        Some(Word::Audit) => (4, 0, 0),
     }
 }
 
 // Words, and what is found.
-static WORDS: [(&str, (u8, u64, u64)); 33] = [
+static WORDS: [(&str, (u8, u64, u64)); 37] = [
     ("run", (1, 0, 0)),
     ("check", (2, 0, 0)),
     ("gen|1|7", (3, 1, 7)),
@@ -33,6 +34,10 @@ static WORDS: [(&str, (u8, u64, u64)); 33] = [
         "gen|100000|9999999999999999999",
         (3, 100_000, 9_999_999_999_999_999_999),
     ),
+    ("audit", (4, 0, 0)),
+    ("audit|x", (0, 0, 0)),
+    ("Audit", (0, 0, 0)),
+    ("check|audit", (0, 0, 0)),
     ("", (0, 0, 0)),
     ("run|", (0, 0, 0)),
     ("Run", (0, 0, 0)),

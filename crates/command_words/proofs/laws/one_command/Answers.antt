@@ -1,18 +1,26 @@
 -- The names of two commands differ, and a number has one text.
-use Rattle.std.proofs.Common.{◌≡◌, ℕ, List, refl, sym, ◌∙◌, arith}
+use Rattle.std.proofs.Common.{◌≡◌, ℕ, List, [], ◌∷◌, refl, sym, ap, ◌∙◌, arith, get_or, codes}
 use Rattle.std.proofs.lemmas.Fmt.{decimal_injective}
 use Rattle.command_words.specs.Written.{AreWordsOf}
 use Rattle.command_words.specs.declared.word.Word.{Word}
-use Rattle.command_words.specs.declared.word.Word.TheVariants.{Run, Check, Gen}
+use Rattle.command_words.specs.declared.word.Word.TheVariants.{Run, Check, Gen, Audit}
 use Rattle.command_words.proofs.laws.one_command.Goals as goal
+
+-- the two of one length differ in their first letters
+check_is_no_audit : codes "check" ∷ [] ≡ codes "audit" ∷ [] → ⊥
+check_is_no_audit same =
+    let letters : 99 ≡ 97 = ap (λ (words : List (List ℕ)). get_or (get_or words 0 []) 0 0) same in
+    omega (arith, letters)
 
 one : (words : List (List ℕ)) (v w : Word) → AreWordsOf words v → AreWordsOf words w → v ≡ w
 one words Run Run p q = refl
 one words Run Check p q = let e = sym p.0 ∙ q.0 in cc
 one words Run (Gen m a) p q = let e = sym p.0 ∙ q.0 in cc
+one words Run Audit p q = let e = sym p.0 ∙ q.0 in cc
 one words Check Run p q = let e = sym p.0 ∙ q.0 in cc
 one words Check Check p q = refl
 one words Check (Gen m a) p q = let e = sym p.0 ∙ q.0 in cc
+one words Check Audit p q = absurd (check_is_no_audit (sym p.0 ∙ q.0))
 one words (Gen n b) Run p q = let e = sym p.0 ∙ q.0 in cc
 one words (Gen n b) Check p q = let e = sym p.0 ∙ q.0 in cc
 one words (Gen n b) (Gen m a) p q =
@@ -20,6 +28,11 @@ one words (Gen n b) (Gen m a) p q =
     let lines : n ≡ m = decimal_injective n m (omega arith) (omega arith) (cc) in
     let start : b ≡ a = decimal_injective b a (omega arith) (omega arith) (cc) in
     cc
+one words (Gen n b) Audit p q = let e = sym p.0 ∙ q.0 in cc
+one words Audit Run p q = let e = sym p.0 ∙ q.0 in cc
+one words Audit Check p q = absurd (check_is_no_audit (sym q.0 ∙ p.0))
+one words Audit (Gen m a) p q = let e = sym p.0 ∙ q.0 in cc
+one words Audit Audit p q = refl
 
 pub returns : goal.returns
 returns c = one

@@ -2,8 +2,7 @@ use Rattle.std.proofs.Common.{inr, refl, sym, ◌∙◌, subst, map}
 use Rattle.std.specs.Prelude.{string_bytes}
 use Rattle.command_words.specs.Written.{AreWordsOf, IsNoCommand}
 use Rattle.command_words.specs.declared.word.Word.{Word}
-use Rattle.command_words.specs.declared.word.Word.TheVariants.{Gen}
-use Rattle.rose_shell.specs.Telling.{HasDone, CanBeDone}
+use Rattle.rose_shell.specs.Telling.{HasDone, CanBeDone, AsksNoFile}
 use Rattle.rose_shell.proofs.Results.{at_some, at_none}
 use Rattle.rose_shell.proofs.Tellings.{none_done}
 use Rattle.rose_shell.proofs.running.run.Goals as goal
@@ -43,12 +42,11 @@ returns-in-Run-clause-complete g c = λ command written tells source sink disk c
     c.run_lines.ensures.complete tells source sink disk asked.0 asked.1.0 asked.1.1
 
 pub returns-in-Run-clause-no_file : goal.returns-in-Run-clause-no_file
-returns-in-Run-clause-no_file g c = λ lines start written.
+returns-in-Run-clause-no_file g c = λ command written asks.
     let read = c.in-Ok-Some in
     let is = at_some (IsNoCommand (map string_bytes c.args.words.now)) (AreWordsOf (map string_bytes c.args.words.now))
     read.field-0-is read.ensures in
-    let both = sym c.in-Run.is ∙ c.one_command.ensures _ read.word (Gen lines start) is written in
-    absurd (cc)
+    absurd (subst AsksNoFile (sym (sym c.in-Run.is ∙ c.one_command.ensures _ read.word command is written)) asks)
 
 -- ---- the word `check`
 
@@ -83,12 +81,11 @@ returns-in-Check-clause-complete g c = λ command written tells source sink disk
     c.tell_store.ensures.complete tells sink disk asked.0 asked.1
 
 pub returns-in-Check-clause-no_file : goal.returns-in-Check-clause-no_file
-returns-in-Check-clause-no_file g c = λ lines start written.
+returns-in-Check-clause-no_file g c = λ command written asks.
     let read = c.in-Ok-Some in
     let is = at_some (IsNoCommand (map string_bytes c.args.words.now)) (AreWordsOf (map string_bytes c.args.words.now))
     read.field-0-is read.ensures in
-    let both = sym c.in-Check.is ∙ c.one_command.ensures _ read.word (Gen lines start) is written in
-    absurd (cc)
+    absurd (subst AsksNoFile (sym (sym c.in-Check.is ∙ c.one_command.ensures _ read.word command is written)) asks)
 
 -- ---- the word `gen`
 
@@ -113,6 +110,37 @@ returns-in-Gen-clause-told g c = λ command written tells.
     (λ (w : Word). HasDone w (g.W.Outside.view c.args.world.now) (g.W.Outside.view c.tell_map.new.world) c.tell_map.result)
     (sym c.in-Gen.is ∙ c.one_command.ensures _ read.word command is written) (c.tell_map.ensures.told tells)
 
+-- ---- the word `audit`
+
+pub returns-in-Audit-clause-no_command : goal.returns-in-Audit-clause-no_command
+returns-in-Audit-clause-no_command g c = λ none.
+    let read = c.in-Ok-Some in
+    absurd (none read.word (at_some (IsNoCommand (map string_bytes c.args.words.now)) (AreWordsOf (map string_bytes c.args.words.now))
+    read.field-0-is read.ensures))
+
+pub returns-in-Audit-clause-untouched : goal.returns-in-Audit-clause-untouched
+returns-in-Audit-clause-untouched g c = λ none.
+    let read = c.in-Ok-Some in
+    absurd (none read.word (at_some (IsNoCommand (map string_bytes c.args.words.now)) (AreWordsOf (map string_bytes c.args.words.now))
+    read.field-0-is read.ensures))
+
+pub returns-in-Audit-clause-told : goal.returns-in-Audit-clause-told
+returns-in-Audit-clause-told g c = λ command written tells.
+    let read = c.in-Ok-Some in
+    let is = at_some (IsNoCommand (map string_bytes c.args.words.now)) (AreWordsOf (map string_bytes c.args.words.now))
+    read.field-0-is read.ensures in
+    subst
+    (λ (w : Word). HasDone w (g.W.Outside.view c.args.world.now) (g.W.Outside.view c.audit_input.new.world) c.audit_input.result)
+    (sym c.in-Audit.is ∙ c.one_command.ensures _ read.word command is written) (c.audit_input.ensures.told tells)
+
+pub returns-in-Audit-clause-complete : goal.returns-in-Audit-clause-complete
+returns-in-Audit-clause-complete g c = λ command written tells source sink disk can.
+    let read = c.in-Ok-Some in
+    let is = at_some (IsNoCommand (map string_bytes c.args.words.now)) (AreWordsOf (map string_bytes c.args.words.now))
+    read.field-0-is read.ensures in
+    c.audit_input.ensures.complete tells source sink (subst (λ (w : Word). CanBeDone w (g.W.Outside.view c.args.world.now))
+    (c.one_command.ensures _ command read.word written is ∙ c.in-Audit.is) can)
+
 -- ---- no word
 
 -- where none was read the words are those of none
@@ -134,10 +162,10 @@ returns-in-Ok-None-clause-complete g c = λ command written tells source sink di
     read.field-0-is read.ensures command written)
 
 pub returns-in-Ok-None-clause-no_file : goal.returns-in-Ok-None-clause-no_file
-returns-in-Ok-None-clause-no_file g c = λ lines start written.
+returns-in-Ok-None-clause-no_file g c = λ command written asks.
     let read = c.in-Ok-None in
     absurd (at_none (IsNoCommand (map string_bytes c.args.words.now)) (AreWordsOf (map string_bytes c.args.words.now))
-    read.field-0-is read.ensures (Gen lines start) written)
+    read.field-0-is read.ensures command written)
 
 -- and where memory ran out nothing was done
 pub returns-in-Err-clause-told : goal.returns-in-Err-clause-told

@@ -24,5 +24,5 @@ returns-in-Err-clause-told g c = λ tells.
       some = subst
           (λ (l : List ℕ). GaveSome (g.W.Outside.view c.args.world.now) (g.W.Outside.view c.give_all.new.world) l gave.unsent)
           c.bytes.ensures gave.some;
-      ends = inr (c.from.ensures ∙ ap status_of c.in-Err.ensures.sink);
+      ends = inr (c.from.ensures ∙ ap status_of c.in-Err.ensures.sink, gave.short);
     }
