@@ -1,5 +1,6 @@
-"""What files stand for by the written rules: docs/formats, docs/GEOMETRY.md and docs/REFERENCE.md, read anew in Python and not
-taken from the program. `judged` decides of two files; `Writer` makes some. For damage.py; changes by `let` are left out."""
+"""What files stand for by the written rules: docs/formats, docs/GEOMETRY.md, docs/REFERENCE.md, and docs/RECOVERY.md for the lines of
+damage, read anew in Python and not taken from the program. `judged` decides of two files; `Writer` makes some. For damage.py; changes
+by `let` are left out."""
 import functools
 import hashlib
 import re
