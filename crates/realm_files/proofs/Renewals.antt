@@ -1,4 +1,4 @@
--- This file shows what two files stand for while the next generation is put on the one that isn't the newest.
+-- This file shows what two files stand for while the next generation, of any state, is put on the one that isn't the newest.
 use Rattle.std.proofs.Common.{◌≡◌, ◌≢◌, ◌⊎◌, inl, inr, ⊎_elim, ℕ, ◌<◌, ◌≤◌, Bool, true, List, [], length, Option, Some, None}
 use Rattle.std.proofs.Common.{refl, sym, subst, arith}
 use Rattle.std.specs.Prelude.{Result, Ok, Err, OnOk}
@@ -130,7 +130,7 @@ module _ {S : Type 0} (m : Meaning S) where
       not_newest = λ files h images newest. not_newest_at kept.state kept.place files h (rest_in_each m rest files images).stands newest;
     }
 
-    module _ (payload : List ℕ) (opens : m.opens payload kept.state) where
+    module _ (payload : List ℕ) {after : S} (opens : m.opens payload after) where
       abbrev place : Place
       place = renewed_place kept.place payload
 
@@ -138,9 +138,9 @@ module _ {S : Type 0} (m : Meaning S) where
       g = next_with payload
 
       abbrev RestAtEither : Files → Type 0
-      RestAtEither files = RestsAt m kept files ⊎ RestsAt m (at_gate kept.state place) files
+      RestAtEither files = RestsAt m kept files ⊎ RestsAt m (at_gate after place) files
 
-      -- and while it is put there, the files rest at what is kept, or behind it
+      -- and while it is put there, the files rest at what is kept, or at the state of its payload, behind it
       at_moment : (files : Files) → IsNewestKept old place.file g files → RestAtEither files
       at_moment files (inl (before, images, same)) = inl (rests_same same (rest_in_each m rest before images))
       at_moment files (inr (newest, alone)) = inr (rests_renewed place.file version_now place.generation payload opens files newest alone)
@@ -157,7 +157,7 @@ module _ {S : Type 0} (m : Meaning S) where
             (keeps.crash.nothing_else old.moment here (omega arith) (counts here (refl, images)))
 
         renewed : (r : Result ℕ SwitchError) → ((f : FileName) → new.image f (new.reads f)) → Switched old new place.file g r
-            → KeepsNewest old new place.file g r → Renewed m old new kept (at_gate kept.state place) r
+            → KeepsNewest old new place.file g r → Renewed m old new kept (at_gate after place) r
         renewed r reads switched keeps = record {
           replaced = record {
             takes = switched.writes.takes;
@@ -171,7 +171,7 @@ module _ {S : Type 0} (m : Meaning S) where
             at_ok : (r : Result ℕ SwitchError) → OnOk r ((c : List ℕ) → new.image place.file c → HoldsAlone c g)
                 → OnOk r (IsStable new place.file)
                 → OnOk r ((files : Files) → ((f : FileName) → new.image f (files f)) → HoldsNewest files place.file g)
-                → OnOk r (AllRest m (at_gate kept.state place) new)
+                → OnOk r (AllRest m (at_gate after place) new)
             at_ok (Ok n) whole stable newest = record {
               stable = stable_by_writing switched.writes rest.stable stable;
               rests = rests_renewed place.file version_now place.generation payload opens new.reads (newest new.reads reads)
@@ -179,15 +179,15 @@ module _ {S : Type 0} (m : Meaning S) where
             }
             at_ok (Err e) whole stable newest = tt
 
-    -- so it is with each generation of this version that has the next number and a payload of this state
-    pub renewed_by : {new : View} {file : FileName} {g : Generation} {r : Result ℕ SwitchError} → file ≡ next_file kept.place
-        → g.version ≡ version_now → g.number ≡ next_generation kept.place → m.opens g.payload kept.state
+    -- so it is with each generation of this version that has the next number
+    pub renewed_by : {new : View} {file : FileName} {g : Generation} {after : S} {r : Result ℕ SwitchError}
+        → file ≡ next_file kept.place → g.version ≡ version_now → g.number ≡ next_generation kept.place → m.opens g.payload after
         → ((f : FileName) → new.image f (new.reads f))
         → ((a : Moment) → MayLeave new a → new.left_since old.moment a)
         → ((a : Moment) → old.left_since old.moment a → MayLeave old a) → Switched old new file g r
         → (MayTake old file g → KeepsNewest old new file g r)
-        → Renewed m old new kept (at_gate kept.state (renewed_place kept.place g.payload)) r
-    renewed_by {new} {file} {g} {r} there version number opens reads counts only switched keeps =
+        → Renewed m old new kept (at_gate after (renewed_place kept.place g.payload)) r
+    renewed_by {new} {file} {g} {r = r} there version number opens reads counts only switched keeps =
         let next : g ≡ next_with g.payload = λ i. numbered (version i) (number i) g.payload in
         let to = subst (λ f. Switched old new f (next_with g.payload) r) there
         (subst (λ (k : Generation). Switched old new file k r) next switched) in

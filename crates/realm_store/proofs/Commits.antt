@@ -19,6 +19,7 @@ use Rattle.realm_files.proofs.ReadyGates.{committed_by}
 use Rattle.realm_files.proofs.Rests.{rest_in_each}
 use Rattle.realm_files.proofs.Runs.{leaves_none, leaves_wider}
 use Rattle.realm_store.specs.declared.committing.Ready.{Ready}
+use Rattle.realm_store.specs.declared.gates.NextGate.{NextGate}
 use Rattle.realm_store.specs.declared.grouping.OpenGroup.{OpenGroup}
 use Rattle.realm_store.specs.Leading.{Leads}
 use Rattle.realm_store.specs.Stands.{meaning}
@@ -28,6 +29,39 @@ use Rattle.realm_store.specs.NextGates.{IsGateFor}
 use Rattle.realm_store.specs.ReadyChanges.{IsReady}
 use Rattle.realm_store.specs.Committing.{Readied, IsWritten, Keeps}
 use Rattle.realm_store.proofs.Groups.{seen}
+
+-- ---- a record waits to be written
+
+-- What is kept has another state now, at the same place.
+module _ (old new : Kept) (same : new ≡ with_state new.state old) where
+  before : with_state old.state new ≡ old
+  before = ap (λ k. with_state old.state k) same
+
+  -- there is room still, and the files rest
+  pub room_stays : HasRoom old → HasRoom (with_state old.state new)
+  room_stays room = subst HasRoom (sym before) room
+
+  pub rest_stays : {v : View} → AllRest old v → AllRest (with_state old.state new) v
+  rest_stays {v} rest = subst (λ k. AllRest k v) (sym before) rest
+
+  -- The gate waits still.
+  module _ (gate : NextGate) (waits : IsGateFor gate old) where
+    pub gate_waits : IsGateFor gate (with_state old.state new)
+    gate_waits = subst (λ k. IsGateFor gate k) (sym before) waits
+
+    -- A record that leads to the new state is written from there,
+    pub keeps_from : (r : Record) {v w : View} {result : Result Unit JournalError} → AllRest old v → Leads old.state r new.state
+        → ((state : State) → IsGateFor gate (with_state state new) → AllRest (with_state state new) v → Leads state r new.state
+        → Keeps v w (with_state state new) (kept_behind (with_state state new) r new.state) result)
+        → Keeps v w old (kept_behind old r new.state) result
+    keeps_from r {v} {w} {result} rest leads told = subst (λ k. Keeps v w k (kept_behind k r new.state) result) before
+        (told old.state gate_waits (rest_stays rest) leads)
+
+    -- and what is kept then is behind it
+    pub stored_behind : (r : Record) {self : SpendableKept} → ((state : State) → IsGateFor gate (with_state state new)
+        → self ≡ without_group (kept_behind (with_state state new) r new.state))
+        → self ≡ without_group (kept_behind old r new.state)
+    stored_behind r told = told old.state gate_waits ∙ ap (λ k. without_group (kept_behind k r new.state)) before
 
 -- ---- a change is made
 
@@ -58,32 +92,28 @@ module _ {c : Change} {old new : Kept} {ready : Ready} (made : IsReady c old new
     entries = (new.state, record { change = c; spellable = spellable; line = refl; next = made.next }, refl);
   })
 
-  before : with_state old.state new ≡ old
-  before = ap (λ k. with_state old.state k) same
-
   -- the gate waits for it still, and there is room
   pub waits_before : IsGateFor ready.gate (with_state old.state new)
-  waits_before = subst (λ k. IsGateFor ready.gate k) (sym before) made.gate
+  waits_before = gate_waits old new same ready.gate made.gate
 
   pub room_before : HasRoom (with_state old.state new)
-  room_before = subst HasRoom (sym before) made.room
+  room_before = room_stays old new same made.room
 
   -- the files rest at it still
   pub rests_before : {v : View} → AllRest old v → AllRest (with_state old.state new) v
-  rests_before {v} rest = subst (λ k. AllRest k v) (sym before) rest
+  rests_before rest = rest_stays old new same rest
 
   -- and what is written is written from it,
   pub kept_from : {v w : View} {r : Result Unit JournalError} → IsSpellableChange c → AllRest old v
       → ((state : State) → IsGateFor ready.gate (with_state state new) → AllRest (with_state state new) v
       → Leads state ready.record new.state
       → Keeps v w (with_state state new) (kept_behind (with_state state new) ready.record new.state) r) → Keeps v w old after r
-  kept_from {v} {w} {r} spellable rest told = subst (λ k. Keeps v w k (kept_behind k ready.record new.state) r) before
-      (told old.state waits_before (rests_before rest) (leads spellable))
+  kept_from spellable rest told = keeps_from old new same ready.gate made.gate ready.record rest (leads spellable) told
 
   -- and kept behind it
   pub stored : {self : SpendableKept} → ((state : State) → IsGateFor ready.gate (with_state state new)
       → self ≡ without_group (kept_behind (with_state state new) ready.record new.state)) → self ≡ without_group after
-  stored told = told old.state waits_before ∙ ap (λ k. without_group (kept_behind k ready.record new.state)) before
+  stored told = stored_behind old new same ready.gate made.gate ready.record told
 
 -- a change outside a group
 pub commits_alone : {c : Change} (old after : SpendableKept) {reply : List ℕ} → old.group ≡ None → IsMade c old.kept reply after.kept

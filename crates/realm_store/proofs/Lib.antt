@@ -12,9 +12,11 @@ pub mod ReadyGates
 pub mod Groups
 -- what a commit makes and leaves
 pub mod Commits
+-- what the acceptance of a record makes and leaves
+pub mod Acceptances
 -- what the end of a group makes
 pub mod Endings
--- what a checkpoint makes
+-- what the writing of a generation makes
 pub mod Checkpoints
 -- and two files have one reading
 pub mod OneReading
@@ -22,5 +24,15 @@ pub mod OneReading
 pub mod OldImages
 -- where a record leads that is made again
 pub mod Replays
+-- that an answer has one error
+pub mod Errors
+-- that records which were read have texts
+mod RecordTexts
+-- that files stand for what their journal leads to
+pub mod Journals
+-- what the payload of the newest file tells
+pub mod Bases
 -- what files stand for whose records were made again
 pub mod Openings
+-- what the start of a store tells
+pub mod Starts

@@ -8,7 +8,7 @@ use Rattle.realm_insert.proofs.OneSnapshot.{snapshot_again}
 use Rattle.realm_store.specs.Stands.{Opens}
 
 -- the payload of a snapshot is that of its state
-of_snapshot : (s : Snapshot) → payload s ≡ payload_of (state_of s)
+pub of_snapshot : (s : Snapshot) → payload s ≡ payload_of (state_of s)
 unfolding payload_of
 of_snapshot s = ap payload (sym (snapshot_again s))
 

@@ -1,8 +1,7 @@
 -- This file shows where a record leads that is made again.
-use Rattle.std.proofs.Common.{◌≡◌, ℕ, ◌+◌, ◌<◌, Bool, true, false, List, [], ◌∷◌, ◌++◌, length, take, drop, get_or}
+use Rattle.std.proofs.Common.{◌≡◌, ℕ, ◌+◌, ◌<◌, Bool, true, false, List, [], ◌∷◌, ◌++◌, length, take, drop, get_or, Option, Some, None}
 use Rattle.std.proofs.Common.{refl, sym, ◌∙◌, ap, subst, arith}
 use Rattle.std.proofs.lemmas.List.{take_more, drop_more, take-append-drop, length-take-le}
-use Rattle.std.specs.Prelude.{Result, Ok, Err, IfOk}
 use Rattle.grid_base.specs.declared.kinds.Step.{Step}
 use Rattle.line_grammar.specs.declared.command.Change.{Change}
 use Rattle.record_codec.specs.declared.entry.Entry.{Entry}
@@ -14,7 +13,8 @@ use Rattle.realm_insert.specs.Misfits.{MisfitsAt}
 use Rattle.realm_insert.specs.declared.refusal.Refusal.{Refusal}
 use Rattle.realm_insert.proofs.SameStates.{not_refused, fits}
 use Rattle.realm_store.specs.Leading.{LeadsBy, LeadOnBy, Leads}
-use Rattle.realm_store.specs.Replaying.{IsReplayable, LeadOn, LeadsNowhere, RemadeBy, RemadeOnBy, Remade, Replayed}
+use Rattle.realm_store.specs.Accepting.{FailsAt}
+use Rattle.realm_store.specs.Replaying.{IsReplayable, LeadOn, LeadsNowhere, RemadeBy, RemadeOnBy, Remade, Replayed, record_next}
 use Rattle.realm_store.proofs.LedOnce.{one_change, leads_by_once}
 
 -- the entry leads on,
@@ -66,6 +66,12 @@ pub lead_on_by : (start mid new : State) (es : List Entry) (e : Entry) → LeadO
 lead_on_by start mid new [] e is leads = (new, subst (λ s. LeadsBy s e new) is leads, refl)
 lead_on_by start mid new (d ∷ es) e (next, first, later) leads = (next, first, lead_on_by next mid new es e later leads)
 
+-- each is one change
+lead_on_by-changes : (start end : State) (es : List Entry) → LeadOnBy start es end → end.changes ≡ start.changes + length es
+lead_on_by-changes start end [] is = omega (arith, ap (λ (s : State). s.changes) is)
+lead_on_by-changes start end (e ∷ es) (next, first, later) =
+    omega (arith, lead_on_by-changes next end es later, first.next.changes)
+
 -- where one leads nowhere, all of them do
 stuck : (start mid : State) (before : List Entry) (e : Entry) (left : List Entry) → LeadOnBy start before mid
     → ((after : State) → LeadsBy mid e after → ⊥) → (after : State) → LeadOnBy start (before ++ e ∷ left) after → ⊥
@@ -81,33 +87,53 @@ module _ (start : State) (entries : List Entry) (i : ℕ) where
       subst (λ l. LeadOnBy start l new) (sym (take_more entries i d within))
       (lead_on_by start mid new (take i entries) (get_or entries i d) lead (subst (λ x. LeadsBy mid x new) is leads))
 
-  pub lead_nowhere : (mid : State) (e d : Entry) (engine : SpendableState) → i < length entries → e ≡ get_or entries i d
-      → LeadOnBy start (take i entries) mid → ((after : State) → LeadsBy mid e after → ⊥) → RemadeOnBy start entries false engine
-  lead_nowhere mid e d engine within is lead nowhere =
-      let here = subst (λ x. (after : State) → LeadsBy mid x after → ⊥) is nowhere in
-      let none = stuck start mid (take i entries) (get_or entries i d) (drop (i + 1) entries) lead here in
-      let in_order = sym (take-append-drop i entries) ∙ ap (λ l. take i entries ++ l) (drop_more entries i d within) in record {
+  -- the next leads nowhere
+  pub fails_here : (mid : State) (e d : Entry) (engine : SpendableState) (number : ℕ) → i < length entries → e ≡ get_or entries i d
+      → LeadOnBy start (take i entries) mid → ((after : State) → LeadsBy mid e after → ⊥) → number ≡ mid.changes + 1
+      → RemadeOnBy start entries (Some number) engine
+  fails_here mid e d engine number within is lead nowhere counted =
+      let fails : FailsAt start (record_next start entries) number = record {
+        before = take i entries;
+        e = get_or entries i d;
+        more = drop (i + 1) entries;
+        in_order = sym (take-append-drop i entries) ∙ ap (λ l. take i entries ++ l) (drop_more entries i d within);
+        mid = mid;
+        lead = lead;
+        nowhere = subst (λ x. (after : State) → LeadsBy mid x after → ⊥) is nowhere;
+        number_is = omega (arith, counted, lead_on_by-changes start mid (take i entries) lead);
+      } in record {
         ready = λ no. absurd cc;
         led = λ no. absurd cc;
-        nowhere = λ _ after leads. none after (subst (λ l. LeadOnBy start l after) in_order leads);
+        fails = λ told same. let is_told : number ≡ told = cc in subst (FailsAt start (record_next start entries)) is_told fails;
       }
 
 -- ---- a record
 
--- with the next number it leads on where its entries do
-remade_on : {state : State} {r : Record} {engine : SpendableState} (leads : Bool) → r.number ≡ state.changes + 1
-    → RemadeOnBy state r.entries leads engine → Remade state r leads engine
-remade_on leads number made = record {
-  ready = made.ready;
-  led = λ is. record { number = number; entries = made.led is };
-  nowhere = λ is after led. made.nowhere is after led.entries;
-}
+-- where an entry leads nowhere, it does
+pub fails_nowhere : {state : State} {r : Record} {number : ℕ} → FailsAt state r number → LeadsNowhere state r
+fails_nowhere {state} fails after led = stuck state fails.mid fails.before fails.e fails.more fails.lead fails.nowhere after
+    (subst (λ l. LeadOnBy state l after) fails.in_order led.entries)
 
-pub all_remade : {E : Type 0} (state : State) (r : Record) (engine : SpendableState) (result : Result Bool E)
-    → r.number ≡ state.changes + 1 → IfOk result (λ leads. RemadeOnBy state r.entries leads engine)
-    → IfOk result (λ leads. Remade state r leads engine)
-all_remade state r engine (Ok leads) number made = remade_on leads number made
-all_remade state r engine (Err e) number made = tt
+-- the record with the next number is that of its entries
+next_record : (state : State) (r : Record) → r.number ≡ state.changes + 1 → record_next state r.entries ≡ r
+next_record state r number = λ i. record { number = sym number i; entries = r.entries }
+
+module _ {state : State} {r : Record} {engine : SpendableState} (number : r.number ≡ state.changes + 1) {failed : Option ℕ}
+    (made : RemadeOnBy state r.entries failed engine) where
+  -- it leads on where its entries do,
+  pub record_led : failed ≡ None → Leads state r engine.state
+  record_led none = record { number = number; entries = made.led none }
+
+  pub record_fails : (at : ℕ) → failed ≡ Some at → FailsAt state r at
+  record_fails at is = subst (λ (q : Record). FailsAt state q at) (next_record state r number) (made.fails at is)
+
+  pub remade_led : failed ≡ None → Remade state r true engine
+  remade_led none = record { ready = λ _. made.ready none; led = λ _. record_led none; nowhere = λ no. absurd cc }
+
+  -- and nowhere where one leads nowhere
+  pub remade_failed : {at : ℕ} → failed ≡ Some at → Remade state r false engine
+  remade_failed {at} is =
+      record { ready = λ no. absurd cc; led = λ no. absurd cc; nowhere = λ _. fails_nowhere (record_fails at is) }
 
 -- one record more leads on
 lead_one : (start mid new : State) (rs : List Record) (r : Record) → LeadOn start rs mid → Leads mid r new

@@ -1,5 +1,5 @@
 -- What the writing of a change and of a generation does to the files, and what a crash may leave meanwhile.
-use Rattle.std.specs.Prelude.{ℕ, Result, OnOk}
+use Rattle.std.specs.Prelude.{Result, OnOk}
 use Rattle.outside_world.specs.View.{View}
 use Rattle.realm_journal.specs.declared.error.JournalError.{JournalError}
 use Rattle.realm_files.specs.declared.place.Place.{Place}
@@ -22,8 +22,8 @@ pub record Keeps (old new : View) (start after : Kept) (result : Result Unit Jou
   pub rest : OnOk result (AllRest after new)
 
 -- the next generation was put on the other file, or the disk failed before it was whole
-abbrev pub Renewed : View → View → Kept → Kept → Result ℕ JournalError → Type 0
-Renewed = files.Renewed meaning
+abbrev pub Renewed : {T : Type 0} → View → View → Kept → Kept → Result T JournalError → Type 0
+Renewed old new start after result = files.Renewed meaning old new start after result
 
 -- while the next generation leads from the first of these to the second, each crash leaves files that rest at one of them, and
 -- so does a crash now

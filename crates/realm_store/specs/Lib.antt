@@ -14,6 +14,8 @@ pub mod Keeping
 pub mod Replies
 -- what a change makes of what is kept
 pub mod Making
+-- what a record of another store makes of it
+pub mod Accepting
 -- the gate behind which the next record is to be written
 pub mod NextGates
 -- a group as a store holds it
@@ -22,10 +24,16 @@ pub mod Groups
 pub mod Committing
 -- a change that is made and waits to be written
 pub mod ReadyChanges
+-- a record of another store that waits to be written
+pub mod ReadyRecords
 -- what a checkpoint makes of what is kept
 pub mod Renewing
+-- what a state from elsewhere makes of what is kept
+pub mod Adopting
 -- what the start of a store tells
 pub mod Starting
+-- the journal of the newest file
+pub mod Journals
 -- records whose changes are made again
 pub mod Replaying
 -- what is opened of the files when a store is started

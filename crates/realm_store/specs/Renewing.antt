@@ -20,7 +20,7 @@ pub record IsRenewed (old new : Kept) : Type 0 where
   pub has_gate : new.has_gate ≡ true
 
 -- ---- a generation that is to be put on a file, for this crate's own proofs
--- it is the next one, keeps the state, and goes to the file that isn't the newest
+-- it is the next one, keeps the state that is to be kept, and goes to the file that isn't the newest
 pub record IsNext (kept : Kept) (file : FileName) (g : Generation) : Type 0 where
   pub file_is : file ≡ next_file kept.place
   pub version : g.version ≡ version_now

@@ -1,4 +1,4 @@
-//! What the calls of a store are made of: a change outside a group and in one, and the writing of a record.
+//! What the calls of a store are made of: a change outside a group and in one, and the writing of a record and of a generation.
 ghost use Rattle.std.specs.Prelude.{◌≡◌, ◌↔◌, ◌≤◌, ◌^◌, None, true, false, length, Err, IfOk, OnOk, OnErr, IsErr, IsErrOf};
 ghost use Rattle.outside_world.specs.Counts.{Rose};
 ghost use Rattle.outside_world.specs.GoesOn.{GoesOn};
@@ -13,20 +13,24 @@ ghost use Rattle.realm_store.specs.Keeping.{AllRest, with_state, present, HasGro
 ghost use Rattle.realm_store.specs.Making.{kept_behind, HasRoom, LacksRoom, IsRefusedFor, Commits};
 ghost use Rattle.realm_store.specs.NextGates.{IsGateFor};
 ghost use Rattle.realm_store.specs.ReadyChanges.{IsReady};
-ghost use Rattle.realm_store.specs.Committing.{Keeps};
+ghost use Rattle.realm_files.specs.Writing.{next_file};
+ghost use Rattle.realm_store.specs.Renewing.{HasLastGeneration, IsNext, kept_renewed};
+ghost use Rattle.realm_store.specs.Committing.{Keeps, Renewed};
 
 use crate::committing::{Ready, make_change, ready_change, refusal_or};
 use crate::error::CommitError;
 use crate::gates::{NextGate, place_of};
 use crate::grouping::{join_group, lack_in};
+use crate::renewing::{next_file, next_place};
 use crate::store::Store;
-use crate::writing::ready_gate;
+use crate::writing::{put_next, ready_gate};
 use grid_base::Reply;
 use line_grammar::Change;
 use outside_world::Outside;
 use realm_files::Place;
 use realm_insert::{ChangeError, Refusal};
 use realm_journal::{JournalError, Prepared, append};
+use realm_pages::PreparedPages;
 use std::thread::Threads;
 
 impl Store {
@@ -176,6 +180,35 @@ impl Store {
         let place = place_of(gate);
         let next = append(world, place.file, place.next, record)?;
         self.place = Some(Place { next, ..place });
+        self.has_gate = true;
+        self.spent = false;
+        Ok(())
+    }
+
+    /// Writes the state of the engine, which was made ready as the next generation, to the file that isn't the newest. The files
+    /// may stand for another state before. No memory is taken.
+    pub(crate) fn put_state<W: Outside>(
+        &mut self,
+        world: &mut W,
+        pages: &PreparedPages,
+    ) -> Result<(), JournalError>
+        requires intact { W.failed world.old ≡ false }
+        requires ready { self.old.spent ≡ false }
+        requires alone { self.old.group ≡ None }
+        requires greater { HasLastGeneration self.old.kept → ⊥ }
+        ensures kept { OnOk result (self.new ≡ without_group (kept_renewed self.old.kept pages.now.payload)) }
+        ensures spent { (self.new.spent ≡ true) ↔ IsErr result }
+        ensures told { W.tells world.new → IsNext self.old.kept (next_file self.old.kept.place) pages.now
+            → (before : State) → AllRest (with_state before self.old.kept) (W.view world.old)
+            → Renewed (W.view world.old) (W.view world.new) (with_state before self.old.kept)
+            (kept_renewed self.old.kept pages.now.payload) result }
+        ensures intact { OnOk result (W.failed world.new ≡ false) }
+        ensures disk_fault { OnErr result (Rose (W.disk_faults world.old) (W.disk_faults world.new)) }
+        ensures goes_on { GoesOn ⟦<W as Outside>⟧ world.old world.new }
+    {
+        self.spent = true;
+        let next = put_next(world, next_file(self.place), pages)?;
+        self.place = Some(next_place(self.place, next));
         self.has_gate = true;
         self.spent = false;
         Ok(())

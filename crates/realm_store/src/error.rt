@@ -1,5 +1,7 @@
-//! Why a change isn't committed, why no checkpoint is made, and why no group is begun or ended.
+//! Why a change isn't committed, no record accepted, no checkpoint made and no state taken over, and why no group is begun or ended.
 ghost use Rattle.std.specs.Prelude.{◌≡◌};
+ghost use Rattle.realm_store.specs.declared.error.AcceptError.TheVariants.{Disk as Unaccepted, NoMemory as NoRecord};
+ghost use Rattle.realm_store.specs.declared.error.AdoptError.TheVariants.{Disk as Unadopted, NoMemory as NoAdopting};
 ghost use Rattle.realm_store.specs.declared.error.BeginError.TheVariants.{NoMemory as NoBegin};
 ghost use Rattle.realm_store.specs.declared.error.CheckpointError.TheVariants.{Disk as Unrenewed, NoMemory as NoCheckpoint};
 ghost use Rattle.realm_store.specs.declared.error.CommitError.TheVariants.{Disk as Unwritten, NoMemory as NoCommit};
@@ -70,6 +72,42 @@ impl From<JournalError> for CheckpointError {
     }
 }
 
+/// Why a state from elsewhere isn't taken over.
+#[derive(Clone, Copy, Debug, PartialEq, Eq, Error)]
+pub enum AdoptError {
+    /// The snapshot keeps no valid state. The store and the files are unchanged.
+    #[error("no valid state")]
+    Invalid,
+    /// The store has as many changes, or more: so many. The store and the files are unchanged.
+    #[error("{have} changes are there already")]
+    Older { have: u64 },
+    /// There is no greater generation. The store and the files are unchanged.
+    #[error("no greater generation is left")]
+    Generations,
+    /// The disk failed: the files stand for the state before or for the new one. The store is spent.
+    #[error("disk fault")]
+    Disk,
+    /// Memory ran out before anything was written. The store is spent.
+    #[error("no memory")]
+    NoMemory,
+}
+
+impl From<NoMemory> for AdoptError {
+    ghost from_gives = { λ _ e. e ≡ NoAdopting };
+
+    fn from(_: NoMemory) -> AdoptError {
+        AdoptError::NoMemory
+    }
+}
+
+impl From<JournalError> for AdoptError {
+    ghost from_gives = { λ _ e. e ≡ Unadopted };
+
+    fn from(_: JournalError) -> AdoptError {
+        AdoptError::Disk
+    }
+}
+
 /// Why no group is begun. In each case the store is unchanged.
 #[derive(Clone, Copy, Debug, PartialEq, Eq, Error)]
 pub enum BeginError {
@@ -116,5 +154,45 @@ impl From<JournalError> for EndError {
 
     fn from(_: JournalError) -> EndError {
         EndError::Disk
+    }
+}
+
+/// Why a record of another store isn't accepted.
+#[derive(Clone, Copy, Debug, PartialEq, Eq, Error)]
+pub enum AcceptError {
+    /// It isn't the next: the state has this many changes. The store and the files are unchanged.
+    #[error("not the next record: there are {have} changes")]
+    Gap { have: u64 },
+    /// It would stand too far in its file. The store and the files are unchanged.
+    #[error("no room for a record")]
+    Full,
+    /// It would come behind a generation of its own, and there is no greater one. The store and the files are unchanged.
+    #[error("no greater generation is left")]
+    Generations,
+    /// The change with this number, the first such, is refused, or its trace doesn't settle it. Nothing is written. The
+    /// store is spent.
+    #[error("change {number} doesn't lead on")]
+    NotOf { number: u64 },
+    /// The disk failed: the files stand for the state before the record or behind it. The store is spent.
+    #[error("disk fault")]
+    Disk,
+    /// Memory ran out before anything was written. The store is spent.
+    #[error("no memory")]
+    NoMemory,
+}
+
+impl From<NoMemory> for AcceptError {
+    ghost from_gives = { λ _ e. e ≡ NoRecord };
+
+    fn from(_: NoMemory) -> AcceptError {
+        AcceptError::NoMemory
+    }
+}
+
+impl From<JournalError> for AcceptError {
+    ghost from_gives = { λ _ e. e ≡ Unaccepted };
+
+    fn from(_: JournalError) -> AcceptError {
+        AcceptError::Disk
     }
 }

@@ -1,5 +1,7 @@
 //! Laws of what files stand for, for crates above: functions with nothing to do, whose contracts are the laws.
 ghost use Rattle.std.specs.Prelude.{◌≡◌, ℕ, true, List, Option};
+ghost use Rattle.record_codec.specs.declared.record.Record.{Record};
+ghost use Rattle.record_codec.specs.declared.snapshot.Snapshot.{Snapshot};
 ghost use Rattle.realm_insert.specs.State.{State, empty_state};
 ghost use Rattle.realm_pages.specs.declared.damage.Damage.{Damage};
 ghost use Rattle.realm_files.specs.Alone.{StoodAt, alone, place_alone};
@@ -9,6 +11,7 @@ ghost use Rattle.realm_files.specs.declared.place.Place.{Place as Seen};
 ghost use Rattle.realm_store.specs.Stands.{meaning, StandsAt, StandsFor, AreEmpty};
 ghost use Rattle.realm_store.specs.Keeping.{Kept, RestsAt, StandsGated, nothing_kept};
 ghost use Rattle.realm_store.specs.Damages.{IsDamaged};
+ghost use Rattle.realm_store.specs.Journals.{HasJournal};
 ghost use Rattle.realm_store.specs.Before.{StoodBefore};
 
 /// Files stand for one state with one place, or have one damage.
@@ -36,6 +39,12 @@ pub fn empty_files_stand()
 pub fn gate_is_kept()
     ensures { (files : Files) (state : State) (kept : Kept) → StandsGated files state → RestsAt kept files
         → KnowsGate kept files → (kept.has_gate ≡ true) × (kept.state ≡ state) }
+{}
+
+/// Files stand for what their journal leads to.
+pub fn journal_stands()
+    ensures { (files : Files) (kept : Kept) (base : Snapshot) (records : List Record) → HasJournal files kept base records
+        → StandsAt files kept.state kept.place }
 {}
 
 /// What two files stood for when each record was one change, they stand for now that a record may be a group.

@@ -4,6 +4,8 @@
 //! writing leaves of that, is told by `realm_files`.
 #![tactic(auto)]
 
+mod accepting;
+mod adopting;
 mod changing;
 mod committing;
 mod error;
@@ -15,10 +17,14 @@ mod opening;
 mod renewing;
 mod replaying;
 mod replies;
+mod starting;
 mod store;
 mod writing;
 
-pub use error::{BeginError, CheckpointError, CommitError, EndError};
-pub use laws::{empty_files_stand, gate_is_kept, one_reading, stands_alone, stands_as_before};
+pub use error::{AcceptError, AdoptError, BeginError, CheckpointError, CommitError, EndError};
+pub use laws::{
+    empty_files_stand, gate_is_kept, journal_stands, one_reading, stands_alone, stands_as_before,
+};
 pub use realm_pages::{Damage, PagesError as StartError};
+pub use starting::{Journal, Started};
 pub use store::Store;

@@ -1,65 +1,87 @@
-//! Opens the newest of two files when a store is started: the state of its payload, and the changes of its records.
-ghost use Rattle.std.specs.Prelude.{◌≡◌, ◌≤◌, ◌<◌, ◌↔◌, ◌-◌, ◌^◌, ℕ, List, false, length, drop, None, Err, IfOk, IsTrue, IsErrOf};
+//! Opens the newest of two files when a store is started: first its payload, which tells a state, and then its records,
+//! whose changes are made again from there.
+ghost use Rattle.std.specs.Prelude.{◌≡◌, ◌≤◌, ◌<◌, ◌↔◌, ◌-◌, ◌^◌, ℕ, List, All, false, length, drop, None, Err, IfOk, IsTrue, IsErrOf};
 ghost use Rattle.outside_world.specs.Counts.{Rose};
 ghost use Rattle.outside_world.specs.GoesOn.{GoesOn};
+ghost use Rattle.record_codec.specs.Fitting.{IsRecord};
+ghost use Rattle.realm_journal.specs.Scanning.{Scans};
 ghost use Rattle.realm_insert.specs.Snapshots.{state_of, IsValidState};
-ghost use Rattle.realm_pages.specs.Generations.{gate_of};
-ghost use Rattle.realm_pages.specs.Finding.{HoldsNewest, IsFound};
+ghost use Rattle.realm_pages.specs.Finding.{IsFound};
 ghost use Rattle.realm_pages.specs.declared.damage.Damage.{Damage as Seen};
 ghost use Rattle.realm_pages.specs.declared.damage.Damage.TheVariants.{BadSnapshot};
 ghost use Rattle.realm_pages.specs.declared.error.PagesError.TheVariants.{Damaged};
-ghost use Rattle.realm_files.specs.Stands.{generation_at};
-ghost use Rattle.realm_store.specs.Stands.{Opens};
-ghost use Rattle.realm_store.specs.Opening.{OpensRow, Opened};
+ghost use Rattle.realm_files.specs.Stands.{Files};
+ghost use Rattle.realm_store.specs.Damages.{IsDamaged};
+ghost use Rattle.realm_store.specs.Opening.{IsBaseOn, IsBase, BaseFound, BaseOpened, OpensRow, RecordsOpened};
 
 use crate::replaying::replay_all;
 use crate::store::Store;
+use grid_base::NoMemory;
 use outside_world::{FileName, Outside};
-use realm_files::Place;
+use realm_files::{Place, sync_both};
 use realm_insert::{Engine, SnapshotError};
 use realm_journal::{Scan, ScanError, read_from, scan_bytes};
 use realm_pages::{Damage, Found, PagesError as StartError, newest};
-use record_codec::Snapshot;
+use record_codec::{Record, Snapshot};
 use std::alloc::Global;
 use std::thread::Threads;
 
-/// The store of what the files read as.
-pub(crate) fn open_newest<R: Threads + Sync, W: Outside>(
-    rt: &R,
-    alloc: Global,
-    world: &mut W,
-) -> Result<Store, StartError>
+/// The engine of the state that the payload of the newest file keeps, and the place of the gate behind that; where no file
+/// counts, the engine of the empty state.
+#[derive(Drop)]
+pub(crate) struct Base {
+    pub(crate) engine: Engine,
+    pub(crate) place: Option<Place>,
+}
+
+/// A store that was opened, and the records of its file.
+#[derive(Drop)]
+pub(crate) struct Opened {
+    pub(crate) store: Store,
+    pub(crate) records: Vec<Record>,
+}
+
+/// Syncs both files, and opens the payload of the newest.
+pub(crate) fn open_base<W: Outside>(alloc: Global, world: &mut W) -> Result<Base, StartError>
     requires intact { W.failed world.old ≡ false }
-    ensures ready { IfOk result (λ store. store.spent ≡ false) }
-    ensures no_group { IfOk result (λ store. store.group ≡ None) }
-    ensures told { W.tells world.new → Opened (W.view world.old) (W.view world.new) result }
+    ensures ready { IfOk result (λ base. base.engine.spent ≡ false) }
+    ensures told { W.tells world.new → BaseOpened (W.view world.old) (W.view world.new) result }
+    ensures intact { ¬ (IsErrOf result StartError.Disk) → W.failed world.new ≡ false }
+    ensures disk_fault { IsErrOf result StartError.Disk
+        → Rose (W.disk_faults world.old) (W.disk_faults world.new) }
+    ensures goes_on { GoesOn ⟦<W as Outside>⟧ world.old world.new }
+{
+    sync_both(world)?;
+    find_base(alloc, world)
+}
+
+// Opens the payload of the newest file.
+fn find_base<W: Outside>(alloc: Global, world: &mut W) -> Result<Base, StartError>
+    requires intact { W.failed world.old ≡ false }
+    ensures ready { IfOk result (λ base. base.engine.spent ≡ false) }
+    ensures told { W.tells world.new → BaseFound (W.view world.old) (W.view world.new) result }
     ensures intact { ¬ (IsErrOf result StartError.Disk) → W.failed world.new ≡ false }
     ensures disk_fault { IsErrOf result StartError.Disk
         → Rose (W.disk_faults world.old) (W.disk_faults world.new) }
     ensures goes_on { GoesOn ⟦<W as Outside>⟧ world.old world.new }
 {
     match newest(alloc, world)? {
-        None => Ok(Store::of(alloc, Engine::new(alloc), None, true)),
-        Some(found) => open_found(rt, alloc, world, found),
+        None => Ok(Base {
+            engine: Engine::new(alloc),
+            place: None,
+        }),
+        Some(found) => open_found(alloc, found),
     }
 }
 
-// The store of a newest file that was found.
-fn open_found<R: Threads + Sync, W: Outside>(
-    rt: &R,
-    alloc: Global,
-    world: &mut W,
-    found: Found,
-) -> Result<Store, StartError>
-    requires intact { W.failed world.old ≡ false }
-    ensures ready { IfOk result (λ store. store.spent ≡ false) }
-    ensures no_group { IfOk result (λ store. store.group ≡ None) }
-    ensures told { W.tells world.new → IsFound (W.view world.old).reads found
-        → Opened (W.view world.old) (W.view world.new) result }
-    ensures intact { ¬ (IsErrOf result StartError.Disk) → W.failed world.new ≡ false }
-    ensures disk_fault { IsErrOf result StartError.Disk
-        → Rose (W.disk_faults world.old) (W.disk_faults world.new) }
-    ensures goes_on { GoesOn ⟦<W as Outside>⟧ world.old world.new }
+// Opens the payload of a newest file that was found.
+fn open_found(alloc: Global, found: Found) -> Result<Base, StartError>
+    ensures ready { IfOk result (λ base. base.engine.spent ≡ false) }
+    ensures base { (files : Files) → IsFound files found
+        → IfOk result (λ base. IsBase files base.engine.state base.place) }
+    ensures damaged { (files : Files) (d : Seen) → IsFound files found
+        → result ≡ Err (Damaged d) → IsDamaged d files }
+    ensures no_fault { IsErrOf result StartError.Disk → ⊥ }
 {
     let Found {
         file,
@@ -75,7 +97,10 @@ fn open_found<R: Threads + Sync, W: Outside>(
         generation,
         next,
     };
-    open_records(rt, alloc, world, place, engine)
+    Ok(Base {
+        engine,
+        place: Some(place),
+    })
 }
 
 // The engine of the state that the snapshot of a file keeps.
@@ -94,22 +119,50 @@ fn open_snapshot(alloc: Global, file: FileName, snapshot: Snapshot) -> Result<En
     }
 }
 
-// The store of this place, behind whose gate the records are still to be read.
+/// Makes the records behind a base again.
+pub(crate) fn open_behind<R: Threads + Sync, W: Outside>(
+    rt: &R,
+    alloc: Global,
+    world: &mut W,
+    base: Base,
+) -> Result<Opened, StartError>
+    requires intact { W.failed world.old ≡ false }
+    requires ready { base.engine.spent ≡ false }
+    ensures ready { IfOk result (λ opened. opened.store.spent ≡ false) }
+    ensures no_group { IfOk result (λ opened. opened.store.group ≡ None) }
+    ensures with_text { IfOk result (λ opened. All IsRecord opened.records.items) }
+    ensures told { W.tells world.new → IsBase (W.view world.old).reads base.engine.state base.place
+        → RecordsOpened (W.view world.old) (W.view world.new) base.engine.state result }
+    ensures intact { ¬ (IsErrOf result StartError.Disk) → W.failed world.new ≡ false }
+    ensures disk_fault { IsErrOf result StartError.Disk
+        → Rose (W.disk_faults world.old) (W.disk_faults world.new) }
+    ensures goes_on { GoesOn ⟦<W as Outside>⟧ world.old world.new }
+{
+    let Base { engine, place } = base;
+    match place {
+        None => Ok(Opened {
+            store: Store::of(alloc, engine, None, true),
+            records: Vec::new(alloc),
+        }),
+        Some(place) => open_records(rt, alloc, world, place, engine),
+    }
+}
+
+// Makes the records behind the gate of this place again.
 fn open_records<R: Threads + Sync, W: Outside>(
     rt: &R,
     alloc: Global,
     world: &mut W,
     place: Place,
     engine: Engine,
-) -> Result<Store, StartError>
+) -> Result<Opened, StartError>
     requires intact { W.failed world.old ≡ false }
     requires ready { engine.spent ≡ false }
-    ensures ready { IfOk result (λ store. store.spent ≡ false) }
-    ensures no_group { IfOk result (λ store. store.group ≡ None) }
-    ensures told { W.tells world.new → (payload : List ℕ)
-        → HoldsNewest (W.view world.old).reads place.file (generation_at place payload)
-        → place.next ≡ gate_of (generation_at place payload) → Opens payload engine.state
-        → Opened (W.view world.old) (W.view world.new) result }
+    ensures ready { IfOk result (λ opened. opened.store.spent ≡ false) }
+    ensures no_group { IfOk result (λ opened. opened.store.group ≡ None) }
+    ensures with_text { IfOk result (λ opened. All IsRecord opened.records.items) }
+    ensures told { W.tells world.new → IsBaseOn (W.view world.old).reads engine.state place
+        → RecordsOpened (W.view world.old) (W.view world.new) engine.state result }
     ensures intact { ¬ (IsErrOf result StartError.Disk) → W.failed world.new ≡ false }
     ensures disk_fault { IsErrOf result StartError.Disk
         → Rose (W.disk_faults world.old) (W.disk_faults world.new) }
@@ -122,22 +175,23 @@ fn open_records<R: Threads + Sync, W: Outside>(
     }
 }
 
-// The store of this place, whose file has these bytes from there on.
+// Makes the records of these bytes again, which the file of this place has from there on.
 fn open_bytes<R: Threads + Sync>(
     rt: &R,
     alloc: Global,
     bytes: &[u8],
     place: Place,
     engine: Engine,
-) -> Result<Store, StartError>
+) -> Result<Opened, StartError>
     requires ready { engine.spent ≡ false }
-    ensures ready { IfOk result (λ store. store.spent ≡ false) }
-    ensures no_group { IfOk result (λ store. store.group ≡ None) }
+    ensures ready { IfOk result (λ opened. opened.store.spent ≡ false) }
+    ensures no_group { IfOk result (λ opened. opened.store.group ≡ None) }
+    ensures with_text { IfOk result (λ opened. All IsRecord opened.records.items) }
     ensures row { (file : List ℕ) → length file < 2 ^ 64 → bytes.now ≡ drop place.next file
         → place.next ≤ length file → OpensRow file engine.state place result }
     ensures no_fault { IsErrOf result StartError.Disk → ⊥ }
 {
-    let scan = scan_bytes(alloc, bytes, place.next)?;
+    let scan = records_in(alloc, bytes, place.next)?;
     let mut engine = engine;
     let count = replay_all(rt, alloc, &mut engine, scan.list.items())?;
     if !all_lead(&scan, count) {
@@ -151,7 +205,22 @@ fn open_bytes<R: Threads + Sync>(
         next: scan.end,
         ..place
     };
-    Ok(Store::of(alloc, engine, Some(next), has_gate))
+    Ok(Opened {
+        store: Store::of(alloc, engine, Some(next), has_gate),
+        records: scan.list.into_items(),
+    })
+}
+
+// The records of these bytes, which stand in a file from this place on. The length of a file fits in 64 bits.
+fn records_in(alloc: Global, bytes: &[u8], at: u64) -> Result<Scan, NoMemory>
+    ensures scan { IfOk result (λ s. (file : List ℕ) → length file < 2 ^ 64 → bytes.now ≡ drop at file
+        → Scans file at s.list s.end s.bad) }
+    ensures with_text { IfOk result (λ s. All IsRecord s.list) }
+{
+    if at.checked_add(bytes.len() as u64).is_none() {
+        return Err(NoMemory);
+    }
+    scan_bytes(alloc, bytes, at)
 }
 
 // Whether all records lead on, up to a closed gate, where so many do.

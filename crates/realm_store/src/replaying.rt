@@ -44,25 +44,30 @@ fn replay_one<R: Threads + Sync>(
     if record.number != engine.changes() + 1 {
         return Ok(false);
     }
-    replay_entries(rt, alloc, engine, record.entries.entries())
+    match replay_entries(rt, alloc, engine, record.entries.entries())? {
+        None => Ok(true),
+        Some(_) => Ok(false),
+    }
 }
 
-// Makes the changes of these entries again, and answers whether they lead on.
-fn replay_entries<R: Threads + Sync>(
+/// Makes the changes of these entries again, and answers the number of the first that leads nowhere; none where all of them
+/// lead on.
+pub(crate) fn replay_entries<R: Threads + Sync>(
     rt: &R,
     alloc: Global,
     engine: &mut Engine,
     entries: &[Entry],
-) -> Result<bool, NoMemory>
+) -> Result<Option<u64>, NoMemory>
     requires ready { engine.old.spent ≡ false }
-    ensures { IfOk result (λ leads. RemadeOnBy engine.old.state entries.now leads engine.new) }
+    ensures { IfOk result (λ failed. RemadeOnBy engine.old.state entries.now failed engine.new) }
 {
     for entry in entries {
+        let number = engine.changes() + 1;
         if !replay_entry(rt, alloc, engine, entry)? {
-            return Ok(false);
+            return Ok(Some(number));
         }
     }
-    Ok(true)
+    Ok(None)
 }
 
 // Makes the change of an entry again, and answers whether the entry leads on.

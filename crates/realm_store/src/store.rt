@@ -13,20 +13,16 @@ ghost use Rattle.realm_store.specs.Sound.{IsSound};
 ghost use Rattle.realm_store.specs.Making.{IsRefusedFor, Commits, Ends};
 ghost use Rattle.realm_store.specs.Committing.{IsWritten, IsReplaced};
 ghost use Rattle.realm_store.specs.Renewing.{IsRenewed, HasLastGeneration};
-ghost use Rattle.realm_store.specs.Starting.{Started};
 
 use crate::error::{BeginError, CheckpointError, CommitError, EndError};
 use crate::grouping::{OpenGroup, begin_group, changes_of, prepare_group};
 use crate::looking::is_sound;
-use crate::opening::open_newest;
-use crate::renewing::{LAST_GENERATION, generation_of, next_file, next_place, prepare_state};
-use crate::writing::put_next;
+use crate::renewing::{LAST_GENERATION, generation_of, prepare_state};
 use grid_base::{NoMemory, Reply};
 use line_grammar::{Change, write_change};
 use outside_world::Outside;
-use realm_files::{Place, sync_both};
+use realm_files::Place;
 use realm_insert::Engine;
-use realm_pages::PagesError as StartError;
 use std::alloc::Global;
 use std::marker::Model;
 use std::thread::Threads;
@@ -72,26 +68,6 @@ impl Drop for Store {
 }
 
 impl Store {
-    /// Syncs both files and reads what they stand for. Nothing is written.
-    pub fn start<R: Threads + Sync, W: Outside>(
-        rt: &R,
-        alloc: Global,
-        world: &mut W,
-    ) -> Result<Store, StartError>
-        requires intact { W.failed world.old ≡ false }
-        ensures ready { IfOk result (λ store. store.spent ≡ false) }
-        ensures no_group { IfOk result (λ store. store.group ≡ None) }
-        ensures told { W.tells world.new → Started (W.view world.old) (W.view world.new) result }
-        ensures rest { IfOk result (λ store. W.tells world.new → AllRest store.kept (W.view world.new)) }
-        ensures intact { ¬ (IsErrOf result StartError.Disk) → W.failed world.new ≡ false }
-        ensures disk_fault { IsErrOf result StartError.Disk
-            → Rose (W.disk_faults world.old) (W.disk_faults world.new) }
-        ensures goes_on { GoesOn ⟦<W as Outside>⟧ world.old world.new }
-    {
-        sync_both(world)?;
-        open_newest(rt, alloc, world)
-    }
-
     // A store that isn't spent, and has no group.
     pub(crate) fn of(alloc: Global, engine: Engine, place: Option<Place>, has_gate: bool) -> Store
         requires ready { engine.spent ≡ false }
@@ -330,13 +306,10 @@ impl Store {
             return Err(CheckpointError::Generations);
         }
         self.spent = true;
-        let file = next_file(self.place);
         let generation = generation_of(self.place) + 1;
         let pages = prepare_state(self.alloc, &self.engine, generation)?;
-        let next = put_next(world, file, &pages)?;
-        self.place = Some(next_place(self.place, next));
-        self.has_gate = true;
         self.spent = false;
+        self.put_state(world, &pages)?;
         Ok(())
     }
 }

@@ -4,10 +4,11 @@
 ghost use Rattle.std.specs.Prelude.{◌≡◌, IfOk, OnOk, OnErr, false};
 ghost use Rattle.outside_world.specs.Counts.{Rose};
 ghost use Rattle.outside_world.specs.GoesOn.{GoesOn};
+ghost use Rattle.realm_insert.specs.State.{State};
 ghost use Rattle.realm_pages.specs.Generations.{gate_of};
 ghost use Rattle.realm_files.specs.Writing.{place_for};
 ghost use Rattle.realm_store.specs.Stands.{meaning};
-ghost use Rattle.realm_store.specs.Keeping.{Kept, AllRest};
+ghost use Rattle.realm_store.specs.Keeping.{Kept, AllRest, with_state};
 ghost use Rattle.realm_store.specs.Making.{HasRoom};
 ghost use Rattle.realm_store.specs.NextGates.{IsGateFor};
 ghost use Rattle.realm_store.specs.Committing.{Readied, Renewed};
@@ -18,16 +19,17 @@ use outside_world::{FileName, Outside};
 use realm_journal::{JournalError, shut_gate};
 use realm_pages::{PreparedPages, switch_to};
 
-/// Puts the next generation on this file, and answers the place of its first record's gate.
+/// Puts the next generation on this file, and answers the place of its first record's gate. Its state may be another than the
+/// files stand for before.
 pub(crate) fn put_next<W: Outside>(
     world: &mut W,
     file: FileName,
     pages: &PreparedPages,
 ) -> Result<u64, JournalError>
     requires intact { W.failed world.old ≡ false }
-    ensures told { W.tells world.new → (kept : Kept) → AllRest kept (W.view world.old)
-        → IsNext kept file pages.now
-        → Renewed (W.view world.old) (W.view world.new) kept (kept_renewed kept pages.now.payload) result }
+    ensures told { W.tells world.new → (kept : Kept) → IsNext kept file pages.now
+        → (before : State) → AllRest (with_state before kept) (W.view world.old)
+        → Renewed (W.view world.old) (W.view world.new) (with_state before kept) (kept_renewed kept pages.now.payload) result }
     ensures place { IfOk result (λ next. next ≡ gate_of pages.now) }
     ensures intact { OnOk result (W.failed world.new ≡ false) }
     ensures disk_fault { OnErr result (Rose (W.disk_faults world.old) (W.disk_faults world.new)) }

@@ -12,5 +12,5 @@ returns-then-not-all_lead-clause-row g c = λ file short are within.
 pub returns-clause-row : goal.returns-clause-row
 returns-clause-row g c = λ file short are within.
     row_leads file _ _ c.args.place _ _ _ _ _ _ are within (c.in_ok-scan.ensures.scan file short are) c.items.ensures
-    c.in_ok-count.ensures c.of.result _ c.is_within-has_gate.result (c.all_lead.ensures.0 c.if-not-all_lead.false)
-    c.is_within-has_gate.ensures refl c.of.ensures.kept
+    c.in_ok-count.ensures _ _ c.is_within-has_gate.result (c.all_lead.ensures.0 c.if-not-all_lead.false)
+    c.is_within-has_gate.ensures refl c.of.ensures.kept c.into_items.ensures

@@ -4,7 +4,7 @@ use Rattle.realm_store.proofs.opening.open_records.Goals as goal
 
 -- the records behind the payload lead on, or one of them is bad
 pub returns-in-Ok-clause-told : goal.returns-in-Ok-clause-told
-returns-in-Ok-clause-told g c = λ t payload newest gate opens.
+returns-in-Ok-clause-told g c = λ t base.
     let read = c.in-Ok.ensures.told t in
-    row_opened read.asks newest gate opens c.open_bytes.result
-    (c.open_bytes.ensures.row _ read.size (c.deref.ensures.value ∙ read.bytes) (reaches read.asks newest gate opens))
+    row_opened read.asks base c.open_bytes.result
+    (c.open_bytes.ensures.row _ read.size (c.deref.ensures.value ∙ read.bytes) (reaches read.asks base))

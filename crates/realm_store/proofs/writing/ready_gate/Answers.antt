@@ -8,12 +8,12 @@ use Rattle.realm_store.proofs.writing.ready_gate.Goals as goal
 pub returns-in_err-put_next-in-Next-clause-told : goal.returns-in_err-put_next-in-Next-clause-told
 returns-in_err-put_next-in-Next-clause-told g c = λ t kept waits rest.
     own_cut kept waits c.from_residual.result c.from_residual.ensures.0 c.in-Next.is
-    (c.in_err-put_next-in-Next.ensures.told t kept rest (own_next kept waits c.in-Next.is))
+    (c.in_err-put_next-in-Next.ensures.told t kept (own_next kept waits c.in-Next.is) kept.state rest)
 
 -- or the gate stands behind it
 pub returns-in_ok-put_next-in-Next-clause-told : goal.returns-in_ok-put_next-in-Next-clause-told
 returns-in_ok-put_next-in-Next-clause-told g c = λ t kept waits rest.
-    own_readied kept waits c.in-Next.is (c.in_ok-put_next-in-Next.ensures.told t kept rest (own_next kept waits c.in-Next.is))
+    own_readied kept waits c.in-Next.is (c.in_ok-put_next-in-Next.ensures.told t kept (own_next kept waits c.in-Next.is) kept.state rest)
 
 -- the gate that is missing is within its file or at the end, and not too far
 pub shut_gate-requires-clause-room : goal.shut_gate-requires-clause-room
