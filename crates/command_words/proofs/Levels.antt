@@ -1,44 +1,20 @@
 -- This file shows which words that are no flags the parser takes, and that its matches tell these words again: a
--- name alone, and `gen` with two words behind it.
-use Rattle.std.proofs.Common.{◌≡◌, ◌⊎◌, ◌∙◌, Bool, List, [], ◌∷◌, Some, true, false, refl, sym, ap, subst, inl, inr}
+-- name alone, `gen` with two words behind it, and `ship` with one.
+use Rattle.std.proofs.Common.{◌≡◌, ◌⊎◌, ◌∙◌, List, [], ◌∷◌, Some, true, false, refl, sym, ap, subst, inl, inr}
 use Rattle.std.proofs.Common.{codes}
 use Rattle.std.specs.List.{All}
-use Rattle.std.specs.Str.{bytes_eq}
 use Rattle.std.proofs.lemmas.List.Elements.{All-head, All-tail}
-use Rattle.std.proofs.lemmas.Slice.Eq.{bytes_eq-Decides}
-use Rattle.clap.specs.Walk.{Names, Rule, Text, Walk, idle, finished, nothing_held, settled, subcommand_met, walk, walked}
+use Rattle.clap.specs.Walk.{Rule, Text, Walk, idle, finished, nothing_held, settled, subcommand_met, walk, walked}
 use Rattle.clap.specs.Simple.{Shape, built, entered, filled_from, new_shape, subcommand_of}
 use Rattle.clap.specs.Kinds.{or_else}
 use Rattle.clap.specs.Faults.{check_fault, defaults_fault, entered_fault, fault_of, level_fault, settle_fault, walk_fault}
 use Rattle.clap.proofs.FaultLemmas.{past}
 use Rattle.clap.proofs.OnLiterals.{clap_on_literals}
 use Rattle.command_words.specs.Parsing.{IsNoFlag, commands, needed, told}
-use Rattle.command_words.proofs.Steps.{IsUnnamed, at, fails_as_rest, given, level_parts, name_walked, rest_passes, stray_word_fails, value_walked}
+use Rattle.command_words.proofs.FirstWords.{named_or_not, names}
+use Rattle.command_words.proofs.Steps.{at, fails_as_rest, given, level_parts, name_walked, rest_passes, stray_word_fails, value_walked}
 
--- ---- the first word
-
-abbrev names : Names
-names = (codes "run", []) ∷ (codes "check", []) ∷ (codes "gen", []) ∷ (codes "audit", []) ∷ []
-
-abbrev IsNamedOrNot : Text → Type 0
-IsNamedOrNot word =
-    (word ≡ codes "run") ⊎ ((word ≡ codes "check") ⊎ ((word ≡ codes "gen") ⊎ ((word ≡ codes "audit") ⊎ IsUnnamed names word)))
-
--- a word is one of the four names, or the parser knows it by none
-named_or_not : (word : Text) → IsNamedOrNot word
-named_or_not word =
-    go (bytes_eq (codes "run") word) (bytes_eq (codes "check") word) (bytes_eq (codes "gen") word) (bytes_eq (codes "audit") word)
-    refl refl refl refl
-  where
-    go : (run check gen audit : Bool) → bytes_eq (codes "run") word ≡ run → bytes_eq (codes "check") word ≡ check
-        → bytes_eq (codes "gen") word ≡ gen → bytes_eq (codes "audit") word ≡ audit → IsNamedOrNot word
-    go true check gen audit r c g a = inl (sym ((bytes_eq-Decides (codes "run") word).0 r))
-    go false true gen audit r c g a = inr (inl (sym ((bytes_eq-Decides (codes "check") word).0 c)))
-    go false false true audit r c g a = inr (inr (inl (sym ((bytes_eq-Decides (codes "gen") word).0 g))))
-    go false false false true r c g a = inr (inr (inr (inl (sym ((bytes_eq-Decides (codes "audit") word).0 a)))))
-    go false false false false r c g a = inr (inr (inr (inr (rw (r, c, g, a) refl))))
-
--- ---- the levels of the four commands
+-- ---- the levels of the six commands
 
 -- a command as the parser builds it
 abbrev leaf : Text → List Rule → Shape
@@ -55,6 +31,12 @@ numbers = filled_from 1 (needed (codes "N") ∷ needed (codes "START") ∷ [])
 
 abbrev gen_level : Shape
 gen_level = leaf (codes "gen") numbers
+
+abbrev number : List Rule
+number = filled_from 1 (needed (codes "K") ∷ [])
+
+abbrev ship_level : Shape
+ship_level = leaf (codes "ship") number
 
 abbrev top : Shape
 top = (built commands).top
@@ -113,6 +95,37 @@ two_numbers_pass lines start p q =
     ∙ ap (λ (w : Walk). or_else (settle_fault numbers false w.held) (or_else (defaults_fault (settled numbers w.held).rows numbers)
     (check_fault gen_level (finished numbers w.held) false))) (both_walked lines start p q)
 
+-- the walk behind `ship` after its number
+abbrev after_changes : Text → Walk
+after_changes changes = given number nothing_held 1 changes
+
+one_walked : (changes : Text) → IsNoFlag changes → walk number [] nothing_held (changes ∷ []) ≡ after_changes changes
+one_walked changes p = value_walked [] nothing_held 1 changes p refl number
+
+-- behind `ship` stands one word
+one_number : (rest : List Text) → All IsNoFlag rest → level_fault ship_level [] nothing_held rest false [] ≡ []
+    → (changes : Text) × (rest ≡ changes ∷ [])
+one_number [] plain none =
+    let missing = (level_parts ship_level [] [] false [] none).checks_pass in
+    absurd (cc missing)
+one_number (changes ∷ []) plain none = (changes, refl)
+one_number (changes ∷ more ∷ rest) plain none =
+    let all_pass = (level_parts ship_level [] (changes ∷ more ∷ rest) false [] none).words_pass in
+    let from_more = All-tail IsNoFlag changes (more ∷ rest) plain in
+    let more_passes = rest_passes [] nothing_held 1 changes (All-head IsNoFlag changes (more ∷ rest) plain) refl
+    ship_level (more ∷ rest) all_pass in
+    absurd (stray_word_fails [] (after_changes changes).held 2 more (All-head IsNoFlag more rest from_more) refl
+    ship_level rest refl more_passes)
+
+-- and one such word fails in no part
+one_number_passes : (changes : Text) → IsNoFlag changes → level_fault ship_level [] nothing_held (changes ∷ []) false [] ≡ []
+unfolding walk_fault defaults_fault
+one_number_passes changes p =
+    let words_pass = fails_as_rest [] nothing_held 1 changes p refl ship_level [] refl in
+    past (walk_fault ship_level [] (at nothing_held 1) (changes ∷ [])) _ words_pass
+    ∙ ap (λ (w : Walk). or_else (settle_fault number false w.held) (or_else (defaults_fault (settled number w.held).rows number)
+    (check_fault ship_level (finished number w.held) false))) (one_walked changes p)
+
 -- ---- the whole parse
 
 -- what stands behind a name fails nowhere, where the words don't
@@ -131,6 +144,10 @@ check_told : told (subcommand_of commands (codes "check" ∷ [])) ≡ Some (code
 unfolding clap_on_literals
 check_told = refl
 
+follow_told : told (subcommand_of commands (codes "follow" ∷ [])) ≡ Some (codes "follow" ∷ [])
+unfolding clap_on_literals
+follow_told = refl
+
 audit_told : told (subcommand_of commands (codes "audit" ∷ [])) ≡ Some (codes "audit" ∷ [])
 unfolding clap_on_literals
 audit_told = refl
@@ -142,6 +159,13 @@ gen_told lines start p q =
     ap (λ (w : Walk). told (entered (built commands) w.stopped)) (name_walked [] names (codes "gen") (lines ∷ start ∷ []) refl)
     ∙ ap (λ (w : Walk). told (Some (codes "gen", finished numbers w.held))) (both_walked lines start p q)
 
+-- and to `ship`, where it has a row for the one
+ship_told : (changes : Text) → IsNoFlag changes
+    → told (subcommand_of commands (codes "ship" ∷ changes ∷ [])) ≡ Some (codes "ship" ∷ changes ∷ [])
+ship_told changes p =
+    ap (λ (w : Walk). told (entered (built commands) w.stopped)) (name_walked [] names (codes "ship") (changes ∷ []) refl)
+    ∙ ap (λ (w : Walk). told (Some (codes "ship", finished number w.held))) (one_walked changes p)
+
 pub run_passes : fault_of commands (codes "run" ∷ []) ≡ []
 unfolding clap_on_literals
 run_passes = refl
@@ -149,6 +173,10 @@ run_passes = refl
 pub check_passes : fault_of commands (codes "check" ∷ []) ≡ []
 unfolding clap_on_literals
 check_passes = refl
+
+pub follow_passes : fault_of commands (codes "follow" ∷ []) ≡ []
+unfolding clap_on_literals
+follow_passes = refl
 
 pub audit_passes : fault_of commands (codes "audit" ∷ []) ≡ []
 unfolding clap_on_literals
@@ -158,6 +186,10 @@ audit_passes = refl
 pub gen_passes : (lines start : Text) → IsNoFlag lines → IsNoFlag start → fault_of commands (codes "gen" ∷ lines ∷ start ∷ []) ≡ []
 unfolding walk_fault walked defaults_fault
 gen_passes lines start p q = ap (λ k. or_else k []) (two_numbers_pass lines start p q)
+
+pub ship_passes : (changes : Text) → IsNoFlag changes → fault_of commands (codes "ship" ∷ changes ∷ []) ≡ []
+unfolding walk_fault walked defaults_fault
+ship_passes changes p = ap (λ k. or_else k []) (one_number_passes changes p)
 
 -- where the words fail nowhere, they are none, or what was met tells them again
 pub told_again : (words : List Text) → All IsNoFlag words → fault_of commands words ≡ []
@@ -180,9 +212,15 @@ told_again (word ∷ rest) plain none =
           let plain_start = All-head IsNoFlag start [] (All-tail IsNoFlag lines (start ∷ []) plain_both) in
           inr (rw (is, both) (gen_told lines start (All-head IsNoFlag lines (start ∷ []) plain_both) plain_start))
       | inr (inr (inr (inl is))) ↦
+          let (changes, one) = one_number rest behind (behind_passes (codes "ship") rest refl (passes_as (codes "ship") is)) in
+          inr (rw (is, one) (ship_told changes (All-head IsNoFlag changes [] (subst (All IsNoFlag) one behind))))
+      | inr (inr (inr (inr (inl is)))) ↦
+          let alone = no_more (codes "follow") rest behind (behind_passes (codes "follow") rest refl (passes_as (codes "follow") is)) in
+          inr (rw (is, alone) follow_told)
+      | inr (inr (inr (inr (inr (inl is))))) ↦
           let alone = no_more (codes "audit") rest behind (behind_passes (codes "audit") rest refl (passes_as (codes "audit") is)) in
           inr (rw (is, alone) audit_told)
-      | inr (inr (inr (inr unnamed))) ↦
+      | inr (inr (inr (inr (inr (inr unnamed))))) ↦
           let parts = level_parts top names (word ∷ rest) _ _ none in
           absurd (stray_word_fails names nothing_held 1 word (All-head IsNoFlag word rest plain) unnamed top rest refl parts.words_pass)
     ]

@@ -15,8 +15,8 @@ use Rattle.command_words.specs.Written.{IsAllowed, IsNoCommand, words_of}
 use Rattle.command_words.specs.Parsing.{IsNoFlag, IsSpelled, commands, texts_of, told}
 use Rattle.command_words.specs.declared.parsing.Spelling.{Spelling}
 use Rattle.command_words.specs.declared.word.Word.{Word}
-use Rattle.command_words.specs.declared.word.Word.TheVariants.{Run, Check, Gen, Audit}
-use Rattle.command_words.proofs.Levels.{audit_passes, check_passes, gen_passes, run_passes, told_again}
+use Rattle.command_words.specs.declared.word.Word.TheVariants.{Run, Check, Gen, Ship, Follow, Audit}
+use Rattle.command_words.proofs.Levels.{audit_passes, check_passes, follow_passes, gen_passes, run_passes, ship_passes, told_again}
 
 -- ---- the words of a command
 
@@ -46,6 +46,10 @@ command_has_no_flag (Gen lines start) allowed =
     let start_alone = alone_is_no_flag (decimal start) (number_is_no_flag start (omega arith)) in
     All-cons IsNoFlag (codes "gen") (decimal lines ∷ decimal start ∷ []) (omega arith, λ e. omega (arith, e))
     (All-cons IsNoFlag (decimal lines) (decimal start ∷ []) (number_is_no_flag lines (omega arith)) start_alone)
+command_has_no_flag (Ship changes) allowed =
+    All-cons IsNoFlag (codes "ship") (decimal changes ∷ []) (omega arith, λ e. omega (arith, e))
+    (alone_is_no_flag (decimal changes) (number_is_no_flag changes (omega arith)))
+command_has_no_flag Follow allowed = alone_is_no_flag (codes "follow") (omega arith, λ e. omega (arith, e))
 command_has_no_flag Audit allowed = alone_is_no_flag (codes "audit") (omega arith, λ e. omega (arith, e))
 
 -- the parser refuses no command
@@ -54,12 +58,16 @@ command_passes Run allowed = run_passes
 command_passes Check allowed = check_passes
 command_passes (Gen lines start) allowed =
     gen_passes (decimal lines) (decimal start) (number_is_no_flag lines (omega arith)) (number_is_no_flag start (omega arith))
+command_passes (Ship changes) allowed = ship_passes (decimal changes) (number_is_no_flag changes (omega arith))
+command_passes Follow allowed = follow_passes
 command_passes Audit allowed = audit_passes
 
 no_words : IsNoCommand []
 no_words Run is = let e = is.0 in cc
 no_words Check is = let e = is.0 in cc
 no_words (Gen lines start) is = let e = is.0 in cc
+no_words (Ship changes) is = let e = is.0 in cc
+no_words Follow is = let e = is.0 in cc
 no_words Audit is = let e = is.0 in cc
 
 -- ---- what the parser's clauses say of the commands

@@ -18,6 +18,8 @@ abbrev pub texts_of : Spelling → List (List ℕ)
 texts_of spelling.Run = codes "run" ∷ []
 texts_of spelling.Check = codes "check" ∷ []
 texts_of (spelling.Gen lines start) = codes "gen" ∷ lines.now ∷ start.now ∷ []
+texts_of (spelling.Ship changes) = codes "ship" ∷ changes.now ∷ []
+texts_of spelling.Follow = codes "follow" ∷ []
 texts_of spelling.Audit = codes "audit" ∷ []
 
 -- what is found spells the words, and nothing is found only where they are no command
@@ -46,11 +48,19 @@ abbrev pub generate : App
 generate = with_rule (with_rule (new_app (codes "gen")) (needed (codes "N")))
     (needed (codes "START"))
 
--- the program with its four commands
+-- `ship` with its number
+abbrev pub ship : App
+ship = with_rule (new_app (codes "ship")) (needed (codes "K"))
+
+-- the program with the first three commands
+abbrev pub first_three : App
+first_three = with_subcommand (with_subcommand (with_subcommand program
+    (new_app (codes "run")).top) (new_app (codes "check")).top) generate.top
+
+-- the program with its six commands
 abbrev pub commands : App
-commands = with_subcommand (with_subcommand (with_subcommand (with_subcommand program
-    (new_app (codes "run")).top) (new_app (codes "check")).top) generate.top)
-    (new_app (codes "audit")).top
+commands = with_subcommand (with_subcommand (with_subcommand first_three ship.top)
+    (new_app (codes "follow")).top) (new_app (codes "audit")).top
 
 -- ---- what its matches tell
 
@@ -60,12 +70,19 @@ numbers_told rows = option_and_then (λ lines.
     option_map (λ start. codes "gen" ∷ lines ∷ start ∷ []) (first_of (codes "START") rows))
     (first_of (codes "N") rows)
 
+-- the words of `ship` with the number that was met
+abbrev pub number_told : List Row → Option (List Text)
+number_told rows =
+    option_map (λ changes. codes "ship" ∷ changes ∷ []) (first_of (codes "K") rows)
+
 -- the words of the command of this name
 abbrev pub told_by : Text → List Row → Option (List Text)
 told_by name rows = if bytes_eq name (codes "run") then Some (codes "run" ∷ [])
     else (if bytes_eq name (codes "check") then Some (codes "check" ∷ [])
+    else (if bytes_eq name (codes "ship") then number_told rows
+    else (if bytes_eq name (codes "follow") then Some (codes "follow" ∷ [])
     else (if bytes_eq name (codes "audit") then Some (codes "audit" ∷ [])
-    else numbers_told rows))
+    else numbers_told rows))))
 
 -- the words of the command that was met
 abbrev pub told : Option (Text × List Row) → Option (List Text)

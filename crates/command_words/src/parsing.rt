@@ -1,9 +1,10 @@
 //! The parser of command lines (`clap`) reads the words. It stands in this module alone. What it gives are texts: the
 //! numbers among them are read elsewhere.
-ghost use Rattle.std.specs.Prelude.{◌≡◌, IfOk, map, option_map, string_bytes};
+ghost use Rattle.std.specs.Prelude.{◌≡◌, IfOk, false, map, option_map, string_bytes};
 ghost use Rattle.std.specs.List.{All};
-ghost use Rattle.clap.specs.Words.{app_of, found_of, rows_of, subcommand_rows_of};
-ghost use Rattle.command_words.specs.Parsing.{IsNoFlag, IsSpelled, commands, numbers_told, told, texts_of};
+ghost use Rattle.clap.specs.Words.{app_of, found_of, rows_of, rule_of, subcommand_rows_of};
+ghost use Rattle.command_words.specs.Parsing.{IsNoFlag, IsSpelled, commands, texts_of};
+ghost use Rattle.command_words.specs.Parsing.{needed as rule_needed, number_told, numbers_told, told};
 
 use clap::error::ErrorKind;
 use clap::{Arg, ArgMatches, Command};
@@ -16,6 +17,8 @@ pub(crate) enum Spelling<'a> {
     Run,
     Check,
     Gen { lines: &'a str, start: &'a str },
+    Ship { changes: &'a str },
+    Follow,
     Audit,
 }
 
@@ -42,11 +45,14 @@ pub(crate) fn parsed<'a>(
 fn rose<'a>(alloc: Global) -> Result<Command<'a>, AllocError>
     ensures { IfOk result (λ command. app_of command ≡ commands) }
 {
-    let lines = Arg::new(alloc, "N").required(true);
-    let start = Arg::new(alloc, "START").required(true);
+    let lines = needed(alloc, "N");
+    let start = needed(alloc, "START");
+    let changes = needed(alloc, "K");
     let run = Command::new(alloc, "run");
     let check = Command::new(alloc, "check");
     let generate = Command::new(alloc, "gen").arg(lines)?.arg(start)?;
+    let ship = Command::new(alloc, "ship").arg(changes)?;
+    let follow = Command::new(alloc, "follow");
     let audit = Command::new(alloc, "audit");
     Command::new(alloc, "rose")
         .no_binary_name(true)
@@ -55,7 +61,16 @@ fn rose<'a>(alloc: Global) -> Result<Command<'a>, AllocError>
         .subcommand(run)?
         .subcommand(check)?
         .subcommand(generate)?
+        .subcommand(ship)?
+        .subcommand(follow)?
         .subcommand(audit)
+}
+
+// An argument that has to be given.
+fn needed<'a>(alloc: Global, id: &'a str) -> Arg<'a>
+    ensures { (rule_of result ≡ rule_needed id.entry.now) × (result.global ≡ false) }
+{
+    Arg::new(alloc, id).required(true)
 }
 
 // The command that the parser met.
@@ -67,6 +82,10 @@ fn spelling_of<'a>(matches: &ArgMatches<'a>) -> Option<Spelling<'a>>
         Some(Spelling::Run)
     } else if name == "check" {
         Some(Spelling::Check)
+    } else if name == "ship" {
+        ship_spelling(matches)
+    } else if name == "follow" {
+        Some(Spelling::Follow)
     } else if name == "audit" {
         Some(Spelling::Audit)
     } else {
@@ -81,4 +100,12 @@ fn gen_spelling<'a>(matches: &ArgMatches<'a>) -> Option<Spelling<'a>>
     let lines = matches.get_str("N")?;
     let start = matches.get_str("START")?;
     Some(Spelling::Gen { lines, start })
+}
+
+// The command `ship` with the number that the parser met.
+fn ship_spelling<'a>(matches: &ArgMatches<'a>) -> Option<Spelling<'a>>
+    ensures { option_map texts_of result ≡ number_told (rows_of (found_of matches.now)) }
+{
+    let changes = matches.get_str("K")?;
+    Some(Spelling::Ship { changes })
 }

@@ -57,6 +57,8 @@ fn word_of(spelling: Spelling<'_>) -> Option<Word>
         Spelling::Run => Some(Word::Run),
         Spelling::Check => Some(Word::Check),
         Spelling::Gen { lines, start } => with_numbers(lines, start),
+        Spelling::Ship { changes } => with_changes(changes),
+        Spelling::Follow => Some(Word::Follow),
         Spelling::Audit => Some(Word::Audit),
     }
 }
@@ -68,4 +70,12 @@ fn with_numbers(lines: &str, start: &str) -> Option<Word>
     let lines = number_of(lines, MOST_LINES)?;
     let start = number_of(start, LONGEST)?;
     Some(Word::Gen { lines, start })
+}
+
+// The command `ship` with this number.
+fn with_changes(changes: &str) -> Option<Word>
+    ensures { IsFound (codes "ship" ∷ changes.now ∷ []) result }
+{
+    let changes = number_of(changes, LONGEST)?;
+    Some(Word::Ship { changes })
 }

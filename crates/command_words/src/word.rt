@@ -9,6 +9,10 @@ pub enum Word {
     Check,
     /// Make a map of so many lines that nobody wrote, from a number on.
     Gen { lines: u64, start: u64 },
+    /// Send what brings a second store up to date that has so many changes.
+    Ship { changes: u64 },
+    /// Take what another store sends, and acknowledge what is kept.
+    Follow,
     /// Judge the input as a certificate.
     Audit,
 }

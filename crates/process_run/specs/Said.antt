@@ -24,7 +24,8 @@ damage_text (Twins generation) = codes "twins " ++ decimal generation
 -- what is said of a status; nothing where the whole output was given
 abbrev pub said_of : Status → Option (List ℕ)
 said_of Done = None
-said_of Usage = Some (codes "rose: usage: rose run | rose check | rose gen N START | rose audit")
+said_of Usage =
+    Some (codes "rose: usage: rose run | rose check | rose gen N START | rose ship K | rose follow | rose audit")
 said_of SourceFault = Some (codes "rose: source fault")
 said_of SinkFault = Some (codes "rose: sink fault")
 said_of DiskFault = Some (codes "rose: disk fault")

@@ -1,6 +1,6 @@
 -- This file shows what the store's answer to a change, to a checkpoint and to the lines of a group is at the desk.
 use Rattle.std.proofs.Common.{◌≡◌, ◌⊎◌, ◌↔◌, inl, inr, Bool, true, false, List, ℕ, ◌<◌, refl, sym, ◌∙◌, ap, subst}
-use Rattle.std.specs.Prelude.{◌≢◌, Option, Some, None, is_some, MatchOption, MatchResult, Result, Ok, Err, IfOk, IfErr, OnOk, IsErrOf}
+use Rattle.std.specs.Prelude.{◌≢◌, Option, Some, None, is_some, MatchOption, MatchResult, Result, Ok, Err, IfOk, OnOk, IsErrOf}
 use Rattle.grid_base.specs.declared.memory.NoMemory.{NoMemory as Shortage}
 use Rattle.outside_world.specs.Counts.{Rose}
 use Rattle.outside_world.specs.declared.world.Outside.{Ghosts}
@@ -24,7 +24,7 @@ use Rattle.realm_store.specs.declared.error.CheckpointError.TheVariants as check
 use Rattle.realm_store.specs.declared.error.EndError.{EndError}
 use Rattle.realm_store.specs.declared.error.EndError.TheVariants as ends
 use Rattle.rose_shell.specs.declared.fault.Fault.{Fault}
-use Rattle.rose_shell.specs.declared.fault.Fault.TheVariants.{Disk, NoMemory}
+use Rattle.rose_shell.specs.declared.fault.Fault.TheVariants.{NoMemory}
 use Rattle.rose_query.specs.Replies.{no_reply}
 use Rattle.rose_query.specs.Answers.{AnswersQuery}
 use Rattle.rose_shell.specs.Batches.{IsInRange}

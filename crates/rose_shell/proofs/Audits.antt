@@ -8,7 +8,6 @@ use Rattle.outside_world.specs.declared.world.Failed.{Failed}
 use Rattle.outside_world.specs.View.{View}
 use Rattle.outside_world.specs.Calls.{Asks, Ticks, SameFiles, Took}
 use Rattle.outside_world.proofs.Moments.{only_nothing, only_wider, only_then, only_of_adds}
-use Rattle.realm_pages.specs.declared.damage.Damage.{Damage}
 use Rattle.rose_shell.specs.declared.fault.Fault.{Fault}
 use Rattle.rose_shell.specs.declared.fault.Fault.TheVariants as faults
 use Rattle.rose_shell.specs.declared.status.Status.{Status}

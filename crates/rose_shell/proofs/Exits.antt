@@ -26,7 +26,7 @@ use Rattle.rose_shell.proofs.Takes.{Ahead, Keeping, within_budget, took, took_so
 use Rattle.rose_shell.proofs.Takes.{asked_then, left_then, lines_then}
 
 -- a take of no byte into a buffer with room finds the input at its end
-input_ended : {mid between : View} {buf : List ℕ} {n : ℕ} → Took mid between buf (Ok n) → n ≡ 0 → 0 < length buf
+pub input_ended : {mid between : View} {buf : List ℕ} {n : ℕ} → Took mid between buf (Ok n) → n ≡ 0 → 0 < length buf
     → between.left ≡ []
 input_ended {between = between} {buf} call none wide =
     ap (λ (k : ℕ). take k buf ++ between.left) (sym none) ∙ sym call.moved.left ∙ call.ended none wide
@@ -67,7 +67,7 @@ module _ {S : Type 0} {terms : Terms S} where
           within = λ _. within;
         };
         given = append-nil new.given ∙ ahead.made.given;
-        state = record { is_run = ahead.made.is_run; ends = λ _ _. ahead.made.ends };
+        state = record { is_run = ahead.is_run; ends = λ _ _. ahead.made.ends };
         asked = ahead.asked;
         files = follows_if (λ _. tt) ahead.made.files;
         ended = (ahead.answered, refl);
@@ -98,7 +98,7 @@ module _ {S : Type 0} {terms : Terms S} where
           within = λ other. absurd (other refl);
         };
         given = append-nil new.given ∙ ahead.made.given;
-        state = record { is_run = ahead.made.is_run; ends = λ _ _. ahead.made.ends };
+        state = record { is_run = ahead.is_run; ends = λ _ _. ahead.made.ends };
         asked = ahead.asked;
         files = follows_if (λ _. tt) ahead.made.files;
         ended = (bytes, more, refl, all, some, ahead.answered, refl);
@@ -129,7 +129,7 @@ module _ {S : Type 0} {terms : Terms S} where
         };
         given = append-nil new.given ∙ went.given ∙ replies_then ahead.made us;
         state = record {
-          is_run = run_then ahead.made us went.is_run;
+          is_run = run_then ahead.made us ahead.is_run went.is_run;
           ends = λ _ _. went.ends ∙ ends_then ahead.made us;
         };
         asked = asked_then ahead went.takes us;
@@ -179,7 +179,7 @@ module _ {S : Type 0} {terms : Terms S} where
         };
         given = stopped.given ∙ replies_then ahead.made us;
         state = record {
-          is_run = run_then ahead.made us stopped.is_run;
+          is_run = run_then ahead.made us ahead.is_run stopped.is_run;
           ends = state_so terms old new start end work.turns stopped.unsent fault stops;
         };
         asked = asked_then ahead stopped.takes us;

@@ -1,6 +1,6 @@
 -- This file shows what is promised of a session behind which an open group is given up.
-use Rattle.std.proofs.Common.{◌≡◌, ◌⊎◌, ℕ, true, false, ap, sym, subst}
-use Rattle.std.specs.Prelude.{◌≢◌, Option, None, Result, Err, IfOk, IfErr, OnOk, IsErrOf}
+use Rattle.std.proofs.Common.{◌≡◌, ◌⊎◌, ℕ, true, false, ap}
+use Rattle.std.specs.Prelude.{◌≢◌, Result, Err, IfOk, IfErr, OnOk, IsErrOf}
 use Rattle.outside_world.specs.GoesOn.{GoesOn}
 use Rattle.outside_world.specs.declared.world.Outside.{Ghosts}
 use Rattle.realm_store.specs.Keeping.{SpendableKept, without_group}

@@ -32,6 +32,12 @@ mod Exits
 mod Ends
 -- what a crash leaves is counted by the changes
 mod Prefixes
+-- lines are answered one by one
+mod LinesAlone
+-- so from take to take, to the end
+mod TakesAlone
+-- what a follower answers is one step
+mod Followers
 -- sessions of the store
 mod Sessions
 -- a session behind which an open group is given up
@@ -44,7 +50,11 @@ mod Rises
 mod Syncs
 -- what is told where a store isn't started
 mod Unstarted
--- lines that are given after nothing but questions of the files
+-- frames are given one after another
+mod GivenFrames
+-- each outcome of a line is a follower's answer
+mod AtFollower
+-- lines and frames that are given after nothing but questions of the files
 mod Tellings
 -- a certificate comes, some bytes and some lines at a time
 mod Certificates

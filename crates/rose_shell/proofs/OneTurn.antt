@@ -13,9 +13,10 @@ use Rattle.rose_shell.specs.declared.fault.Fault.TheVariants as faults
 use Rattle.rose_shell.specs.declared.waiting.Waiting.{Waiting}
 use Rattle.rose_shell.specs.Giving.{IsGiving, GaveSome}
 use Rattle.rose_shell.specs.Batches.{OpensNone}
-use Rattle.rose_shell.specs.Desk.{Terms, AllRestBy, StandsBetween, Settled, Answered}
+use Rattle.rose_shell.specs.Desk.{Terms, AllRestBy, StandsBetween, Settled, CutShort, Answered}
 use Rattle.rose_shell.specs.Turns.{Turn, Treats, IsSingle, IsBatch, IsComplete}
 use Rattle.rose_shell.specs.Moments.{IsMoment, FollowsTurns}
+use Rattle.rose_shell.specs.Session.{IsCutOff}
 use Rattle.rose_shell.specs.Loop.{IsWaiting, Went, Stopped}
 use Rattle.outside_world.proofs.Moments.{only_wider, only_then, none_taken_then}
 
@@ -48,7 +49,7 @@ module _ {S : Type 0} (terms : Terms S) where
       subst (λ (f : Files). terms.stands turn.after f) (sym left) (terms.rest_stands turn.after mid.reads rest.rests) in
       inr (inl (giving.0, giving.1, giving.2, given, stands, left ∙ files))
 
-  turn_files : {P : Type 0} {old mid new : View} {start : S} {unsent : List ℕ} (turn : Turn S) → mid.reads ≡ turn.files
+  pub turn_files : {P : Type 0} {old mid new : View} {start : S} {unsent : List ℕ} (turn : Turn S) → mid.reads ≡ turn.files
       → Settled terms old mid start turn.after → GaveSome mid new turn.reply unsent
       → FollowsTurns terms P old new start (turn ∷ [])
   turn_files {old = old} {mid} {start = start} turn files settled gave =
@@ -61,13 +62,71 @@ module _ {S : Type 0} (terms : Terms S) where
         rest = λ _. still_rest gave.files settled.rest;
       }
 
+  -- of a line that got no answer
+  pub files_unanswered : {P : Type 0} {old new : View} {start : S} → Settled terms old new start start
+      → FollowsTurns terms P old new start []
+  files_unanswered {old = old} {new} {start} settled = record {
+    crash = only_wider settled.leaves.crash here;
+    still = tt;
+    reads = settled.still (terms.same_here start);
+    rest = λ _. settled.rest;
+  }
+    where
+      here : (m : Moment) → (m.given ≡ old.given) × StandsBetween terms.same terms.stands start start old.reads m.files
+          → IsMoment terms.same terms.stands start old.reads [] old.given m
+      here m (given, (stands, same)) = (given, ⊎_elim (λ here. here) (λ here. here) stands, same (terms.same_here start))
+
 module _ {S : Type 0} {terms : Terms S} where
+  -- the turn of a line whose answer was cut short
+  abbrev pub cut_turn : {old new : View} {start : S} {line : List ℕ} → CutShort terms old new start line → Turn S
+  cut_turn {new = new} {line = line} cut =
+      record { line = line; batch = []; reply = cut.reply; after = cut.after; files = new.reads }
+
+  pub files_cut_short : {P : Type 0} {old new : View} {start : S} {line : List ℕ} → (P → ⊥)
+      → (cut : CutShort terms old new start line) → FollowsTurns terms P old new start (cut_turn cut ∷ [])
+  files_cut_short {old = old} {start = start} never cut = record {
+    crash = only_wider cut.leaves.crash (while_answered terms old start (cut_turn cut));
+    still = (cut.still, tt);
+    reads = refl;
+    rest = λ other. absurd (never other);
+  }
+
+  pub cut_off_one : {old new : View} {start : S} {line : List ℕ} (cut : CutShort terms old new start line)
+      → IsCutOff terms old new start (cut_turn cut ∷ []) cut.reply
+  cut_off_one {old} cut = record {
+    before = [];
+    last = cut_turn cut;
+    in_order = refl;
+    none_given = refl;
+    given_before = cut.leaves.given ∙ sym (append-nil old.given);
+    may_write = cut.may_write;
+    now = cut.leaves.now;
+  }
+
+  -- what is given of a reply, behind an answer that gave nothing
+  pub given_whole : {old mid new : View} {start end : S} {reply : List ℕ} → Settled terms old mid start end
+      → GaveSome mid new reply [] → new.given ≡ old.given ++ (reply ++ [])
+  given_whole {old} {reply = reply} settled gave =
+      gave.given ∙ ap (λ (l : List ℕ). l ++ gave.sent) settled.leaves.given
+      ∙ ap (λ (l : List ℕ). old.given ++ l) (sym (append-nil gave.sent) ∙ sym gave.split ∙ sym (append-nil reply))
+
+  pub given_short : {old mid new : View} {start end : S} {reply unsent : List ℕ} → Settled terms old mid start end
+      → GaveSome mid new reply unsent → new.given ++ unsent ≡ old.given ++ (reply ++ [])
+  given_short {old} {reply = reply} {unsent} settled gave =
+      ap (λ (l : List ℕ). l ++ unsent) (gave.given ∙ ap (λ (l : List ℕ). l ++ gave.sent) settled.leaves.given)
+      ∙ append_assoc old.given gave.sent unsent ∙ ap (λ (l : List ℕ). old.given ++ l) (sym gave.split ∙ sym (append-nil reply))
+
+  pub given_none : {old new : View} {start : S} {line : List ℕ} (cut : CutShort terms old new start line)
+      → new.given ++ cut.reply ≡ old.given ++ (cut.reply ++ [])
+  given_none {old} cut =
+      ap (λ (l : List ℕ). l ++ cut.reply) cut.leaves.given ∙ ap (λ (l : List ℕ). old.given ++ l) (sym (append-nil cut.reply))
+
   -- a line, or a batch of them, is answered, and the reply given whole
   pub went_one : {old mid new : View} {start : S} {waiting : Waiting} {none_left : Type 0} (turn : Turn S) → mid.reads ≡ turn.files
       → IsSingle terms.answers start turn ⊎ IsBatch terms.tells start turn → IsComplete turn ⊎ none_left → IsWaiting waiting []
       → Settled terms old mid start turn.after → GaveSome mid new turn.reply []
       → Went terms none_left old new start turn.after (turn.line ∷ turn.batch) waiting
-  went_one {old} {none_left = none_left} turn files makes full waits settled gave = record {
+  went_one {none_left = none_left} turn files makes full waits settled gave = record {
     turns = turn ∷ [];
     held = [];
     is_run = (makes, tt);
@@ -75,8 +134,7 @@ module _ {S : Type 0} {terms : Terms S} where
     waits = waits;
     of_lines = ap (λ (l : List (List ℕ)). turn.line ∷ l) (append-nil (turn.batch ++ []) ∙ append-nil turn.batch);
     ends = refl;
-    given = gave.given ∙ ap (λ (l : List ℕ). l ++ gave.sent) settled.leaves.given
-        ∙ ap (λ (l : List ℕ). old.given ++ l) (sym (append-nil gave.sent) ∙ sym gave.split ∙ sym (append-nil turn.reply));
+    given = given_whole settled gave;
     takes = none_taken_then settled.leaves.takes gave.takes;
     files = turn_files terms turn files settled gave;
   }
@@ -86,7 +144,7 @@ module _ {S : Type 0} {terms : Terms S} where
       → IsSingle terms.answers start turn ⊎ IsBatch terms.tells start turn → IsComplete turn ⊎ none_left
       → Settled terms old mid start turn.after → GaveSome mid new turn.reply unsent
       → Stopped terms none_left old new start turn.after (turn.line ∷ turn.batch) faults.Sink
-  stopped_one {old} {unsent = unsent} {none_left} turn files makes full settled gave =
+  stopped_one {unsent = unsent} {none_left} turn files makes full settled gave =
       record {
         turns = turn ∷ [];
         unread = [];
@@ -94,8 +152,7 @@ module _ {S : Type 0} {terms : Terms S} where
         is_run = (makes, tt);
         full = (⊎_elim (λ (is : IsComplete turn). inl is) (λ (none : none_left). inr (refl, (none, refl))) full, tt);
         of_lines = ap (λ (l : List (List ℕ)). turn.line ∷ l) (append-nil (turn.batch ++ []) ∙ append-nil turn.batch);
-        given = ap (λ (l : List ℕ). l ++ unsent) (gave.given ∙ ap (λ (l : List ℕ). l ++ gave.sent) settled.leaves.given)
-            ∙ append_assoc old.given gave.sent unsent ∙ ap (λ (l : List ℕ). old.given ++ l) (sym gave.split ∙ sym (append-nil turn.reply));
+        given = given_short settled gave;
         takes = none_taken_then settled.leaves.takes gave.takes;
         files = turn_files terms turn files settled gave;
         ended = (refl, record { before = []; last = turn; sent = gave.sent; in_order = refl; split = gave.split });
@@ -107,7 +164,7 @@ module _ {S : Type 0} {terms : Terms S} where
       → Answered terms old new start end line (Err fault) → Stopped terms ⊥ old new start end (line ∷ []) fault
   stopped_before faults.Source none treats answered = absurd answered
   stopped_before faults.Sink none treats answered = absurd answered
-  stopped_before {old} {start = start} {line = line} faults.NoMemory none treats settled = record {
+  stopped_before {line = line} faults.NoMemory none treats settled = record {
     turns = [];
     unread = line ∷ [];
     unsent = [];
@@ -116,22 +173,12 @@ module _ {S : Type 0} {terms : Terms S} where
     of_lines = refl;
     given = ap (λ (l : List ℕ). l ++ []) settled.leaves.given;
     takes = settled.leaves.takes;
-    files = record {
-      crash = only_wider settled.leaves.crash here;
-      still = tt;
-      reads = settled.still (terms.same_here start);
-      rest = λ _. settled.rest;
-    };
+    files = files_unanswered terms settled;
     ended = refl;
   }
-    where
-      here : (m : Moment) → (m.given ≡ old.given) × StandsBetween terms.same terms.stands start start old.reads m.files
-          → IsMoment terms.same terms.stands start old.reads [] old.given m
-      here m (given, (stands, same)) = (given, ⊎_elim (λ here. here) (λ here. here) stands, same (terms.same_here start))
-  stopped_before {old} {new} {start} {line = line} faults.Disk none treats cut =
-      let turn : Turn S = record { line = line; batch = []; reply = cut.reply; after = cut.after; files = new.reads } in
+  stopped_before faults.Disk none treats cut =
       record {
-        turns = turn ∷ [];
+        turns = cut_turn cut ∷ [];
         unread = [];
         unsent = cut.reply;
         is_run = (
@@ -144,22 +191,8 @@ module _ {S : Type 0} {terms : Terms S} where
         );
         full = (inl (inl none), tt);
         of_lines = refl;
-        given = ap (λ (l : List ℕ). l ++ cut.reply) cut.leaves.given
-            ∙ ap (λ (l : List ℕ). old.given ++ l) (sym (append-nil cut.reply));
+        given = given_none cut;
         takes = cut.leaves.takes;
-        files = record {
-          crash = only_wider cut.leaves.crash (while_answered terms old start turn);
-          still = (cut.still, tt);
-          reads = refl;
-          rest = λ other. absurd (other refl);
-        };
-        ended = record {
-          before = [];
-          last = turn;
-          in_order = refl;
-          none_given = refl;
-          given_before = cut.leaves.given ∙ sym (append-nil old.given);
-          may_write = cut.may_write;
-          now = cut.leaves.now;
-        };
+        files = files_cut_short (λ other. other refl) cut;
+        ended = cut_off_one cut;
       }

@@ -27,10 +27,10 @@ module _ {old mid : View} (now : (t : ℕ) (m : Moment) → t ≤ old.moment →
     (only_now : (m : Moment) → old.left_since old.moment m → MayLeave old m)
     (none_asked : (a : Asked) → old.asked_since old.moment a → ⊥) (asks : OnlyAsks old mid) where
   -- the files read as they did
-  same_reads : mid.reads ≡ old.reads
+  pub same_reads : mid.reads ≡ old.reads
   same_reads = same_files asks.files.reads
 
-  crash_behind : (new : View) (P : List ℕ → Moment → Type 0) → LeavesOnly mid new (P mid.given) → LeavesOnly old new (P old.given)
+  pub crash_behind : (new : View) (P : List ℕ → Moment → Type 0) → LeavesOnly mid new (P mid.given) → LeavesOnly old new (P old.given)
   crash_behind new P crash =
       only_then
       (record {
@@ -55,7 +55,7 @@ module _ {old mid : View} (now : (t : ℕ) (m : Moment) → t ≤ old.moment →
   }
 
   module _ {S : Type 0} {terms : Terms S} {new : View} {start : S} where
-    cut_off_from : {turns : List (Turn S)} {unsent : List ℕ} → IsCutOff terms mid new start turns unsent
+    pub cut_off_from : {turns : List (Turn S)} {unsent : List ℕ} → IsCutOff terms mid new start turns unsent
         → IsCutOff terms old new start turns unsent
     cut_off_from cut = record {
       before = cut.before;
@@ -71,7 +71,7 @@ module _ {old mid : View} (now : (t : ℕ) (m : Moment) → t ≤ old.moment →
     }
 
     -- and the files follow the same turns
-    files_from : {P : Type 0} {turns : List (Turn S)} → FollowsTurns terms P mid new start turns
+    pub files_from : {P : Type 0} {turns : List (Turn S)} → FollowsTurns terms P mid new start turns
         → FollowsTurns terms P old new start turns
     files_from {turns = turns} files = record {
       crash = crash_behind new (λ given m. IsMoment terms.same terms.stands start old.reads turns given m)

@@ -16,10 +16,9 @@ use Rattle.rose_shell.proofs.Turns.{end_of-append, files_after-append, left-appe
 use Rattle.rose_shell.proofs.Turns.{complete_wider, complete-append, run-append}
 use Rattle.rose_shell.proofs.Turns.{given_in_part_behind, cut_off_behind, moment_before, moment_behind}
 
--- these turns were made, and their replies given whole
+-- these turns lead from state to state, their replies were given whole, and the files follow them
 pub record Made {S : Type 0} (terms : Terms S) (old new : View) (start end : S)
     (turns : List (Turn S)) : Type 0 where
-  pub is_run : IsRun terms start turns
   pub ends : end ≡ end_of start turns
   pub given : new.given ≡ old.given ++ replies turns
   pub later : old.moment ≤ new.moment
@@ -39,8 +38,8 @@ follows_none rest = record { crash = only_nothing; still = tt; reads = refl; res
 -- more turns behind these
 module _ {S : Type 0} {terms : Terms S} {old mid : View} {start between : S} {ts : List (Turn S)}
     (made : Made terms old mid start between ts) (us : List (Turn S)) where
-  pub run_then : IsRun terms between us → IsRun terms start (ts ++ us)
-  run_then run = run-append terms start ts us made.is_run (subst (λ (s : S). IsRun terms s us) made.ends run)
+  pub run_then : IsRun terms start ts → IsRun terms between us → IsRun terms start (ts ++ us)
+  run_then first second = run-append terms start ts us first (subst (λ (s : S). IsRun terms s us) made.ends second)
 
   pub ends_then : end_of between us ≡ end_of start (ts ++ us)
   ends_then = ap (λ (s : S). end_of s us) made.ends ∙ sym (end_of-append start ts us)
@@ -180,7 +179,6 @@ module _ {S : Type 0} {terms : Terms S} where
   made_by : {old new : View} {start end : S} {lines : List (List ℕ)} {waiting : Waiting} {none_left : Type 0}
       (went : Went terms none_left old new start end lines waiting) → Made terms old new start end went.turns
   made_by went = record {
-    is_run = went.is_run;
     ends = went.ends;
     given = went.given;
     later = went.takes.later;
@@ -198,7 +196,7 @@ module _ {S : Type 0} {terms : Terms S} where
       record {
         turns = first.turns ++ us;
         held = second.held;
-        is_run = run_then made us second.is_run;
+        is_run = run_then made us first.is_run second.is_run;
         full = complete-append none_left first.turns us first.full second.full;
         waits = second.waits;
         of_lines = lines_behind first.turns us first.held second.held more first.of_lines second.of_lines;
@@ -219,7 +217,7 @@ module _ {S : Type 0} {terms : Terms S} where
         turns = first.turns ++ us;
         unread = second.unread;
         unsent = second.unsent;
-        is_run = run_then made us second.is_run;
+        is_run = run_then made us first.is_run second.is_run;
         full = complete-append (none_left × (second.unread ≡ [])) first.turns us first.full second.full;
         of_lines = lines_behind first.turns us first.held second.unread more first.of_lines second.of_lines;
         given = second.given ∙ replies_then made us;

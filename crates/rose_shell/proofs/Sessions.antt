@@ -71,7 +71,7 @@ is_more : (m n : ℕ) → m < n → nat_lt m n ≡ true
 is_more m n more = grind (arith, nat_tests)
 
 -- and tells whether a step was a commit
-step_counted : (old : Kept) (reply : List ℕ) (new : Kept) → StaysAt old new ⊎ IsCommit old reply new
+pub step_counted : (old : Kept) (reply : List ℕ) (new : Kept) → StaysAt old new ⊎ IsCommit old reply new
     → MatchBool (nat_lt old.state.changes new.state.changes) (0 < length reply) (new.state ≡ old.state)
 step_counted old reply new (inl stays) =
     subst (λ (b : Bool). MatchBool b (0 < length reply) (new.state ≡ old.state))
@@ -89,7 +89,7 @@ run_counted start (turn ∷ turns) run = (
 )
 
 -- a gate that is there stays there
-step_gate : (old : Kept) (reply : List ℕ) (new : Kept) → StaysAt old new ⊎ IsCommit old reply new → old.has_gate ≡ true
+pub step_gate : (old : Kept) (reply : List ℕ) (new : Kept) → StaysAt old new ⊎ IsCommit old reply new → old.has_gate ≡ true
     → new.has_gate ≡ true
 step_gate old reply new (inl stays) has = stays.has_gate has
 step_gate old reply new (inr commit) has = commit.has_gate
@@ -99,6 +99,15 @@ turn_gate : (start : SpendableKept) (turn : Turn SpendableKept)
     → turn.after.kept.has_gate ≡ true
 turn_gate start turn is has = step_gate start.kept turn.reply turn.after.kept (turn_steps start turn is).kept has
 
+abbrev pub KeepGates : SpendableKept → List (Turn SpendableKept) → Type 0
+KeepGates start [] = Unit {0}
+KeepGates start (turn ∷ turns) =
+    (start.kept.has_gate ≡ true → turn.after.kept.has_gate ≡ true) × KeepGates turn.after turns
+
+run_gates : (start : SpendableKept) (turns : List (Turn SpendableKept)) → IsRun StoreTerms start turns → KeepGates start turns
+run_gates start [] run = tt
+run_gates start (turn ∷ turns) run = (turn_gate start turn run.0, run_gates turn.after turns run.1)
+
 -- so the files stand for the state, with their next gate, at each moment of the run
 abbrev StandForTheirs : FilesRule SpendableKept
 StandForTheirs s files = StandsGated files s.kept.state
@@ -106,28 +115,29 @@ StandForTheirs s files = StandsGated files s.kept.state
 stand_gated : (s : SpendableKept) (files : Files) → s.kept.has_gate ≡ true → StoreTerms.stands s files → StandForTheirs s files
 stand_gated s files has stands = stands_gated_from meaning has (stands has)
 
-moment_stands : (start : SpendableKept) (files : Files) (turns : List (Turn SpendableKept)) (given : List ℕ) (m : Moment)
-    → IsRun StoreTerms start turns → start.kept.has_gate ≡ true
-    → IsMoment StoreTerms.same StoreTerms.stands start files turns given m
-    → IsMoment StoreTerms.same StandForTheirs start files turns given m
-moment_stands start files [] given m run has is = (is.0, stand_gated start m.files has is.1, is.2)
-moment_stands start files (turn ∷ turns) given m run has (inl (is, (inl before, same))) =
-    inl (is, (inl (stand_gated start m.files has before), same))
-moment_stands start files (turn ∷ turns) given m run has (inl (is, (inr after, same))) =
-    inl (is, (inr (stand_gated turn.after m.files (turn_gate start turn run.0 has) after), same))
-moment_stands start files (turn ∷ turns) given m run has (inr (inl (sent, unsent, split, is, stand, same))) =
-    inr (inl (sent, unsent, split, is, stand_gated turn.after m.files (turn_gate start turn run.0 has) stand, same))
-moment_stands start files (turn ∷ turns) given m run has (inr (inr later)) =
-    inr (inr (moment_stands turn.after turn.files turns (given ++ turn.reply) m run.1 (turn_gate start turn run.0 has) later))
+module _ (same : SpendableKept → SpendableKept → Type 0) where
+  moment_stands : (start : SpendableKept) (files : Files) (turns : List (Turn SpendableKept)) (given : List ℕ) (m : Moment)
+      → KeepGates start turns → start.kept.has_gate ≡ true
+      → IsMoment same StoreTerms.stands start files turns given m → IsMoment same StandForTheirs start files turns given m
+  moment_stands start files [] given m gates has is = (is.0, stand_gated start m.files has is.1, is.2)
+  moment_stands start files (turn ∷ turns) given m gates has (inl (is, (inl before, still))) =
+      inl (is, (inl (stand_gated start m.files has before), still))
+  moment_stands start files (turn ∷ turns) given m gates has (inl (is, (inr after, still))) =
+      inl (is, (inr (stand_gated turn.after m.files (gates.0 has) after), still))
+  moment_stands start files (turn ∷ turns) given m gates has (inr (inl (sent, unsent, split, is, stand, still))) =
+      inr (inl (sent, unsent, split, is, stand_gated turn.after m.files (gates.0 has) stand, still))
+  moment_stands start files (turn ∷ turns) given m gates has (inr (inr later)) =
+      inr (inr (moment_stands turn.after turn.files turns (given ++ turn.reply) m gates.1 (gates.0 has) later))
 
--- and each crash leaves what a prefix of the commits made
-run_prefix : (old new : View) (start : SpendableKept) (turns : List (Turn SpendableKept)) → IsRun StoreTerms start turns
-    → LeavesOnly old new (IsMoment StoreTerms.same StoreTerms.stands start old.reads turns old.given) → start.kept.has_gate ≡ true
-    → LeavesOnly old new (IsCrashOf start turns old.given)
-run_prefix old new start turns run crash has =
-    only_wider crash (λ m is. moment_is_prefix state_in is_commit StandForState StoreTerms.same StandForTheirs
-    (λ s files stands. stands) start old.reads turns old.given m (moment_stands start old.reads turns old.given m run has is)
-    (run_counted start turns run))
+  -- and each crash leaves what a prefix of the commits made
+  pub run_prefix : (old new : View) (start : SpendableKept) (turns : List (Turn SpendableKept)) → KeepGates start turns
+      → IsCounted state_in is_commit start turns
+      → LeavesOnly old new (IsMoment same StoreTerms.stands start old.reads turns old.given) → start.kept.has_gate ≡ true
+      → LeavesOnly old new (IsCrashOf start turns old.given)
+  run_prefix old new start turns gates counted crash has =
+      only_wider crash (λ m is. moment_is_prefix state_in is_commit StandForState same StandForTheirs
+      (λ s files stands. stands) start old.reads turns old.given m (moment_stands start old.reads turns old.given m gates has is)
+      counted)
 
 -- what a store has served that begins with sound states, and what is left of it once a group that was open is given up
 pub has_served : (old new : View) (start last end : SpendableKept) (budget : ℕ) (status : Status) → IsSoundStore start
@@ -136,14 +146,15 @@ pub has_served : (old new : View) (start last end : SpendableKept) (budget : ℕ
 has_served old new start last end budget status sound given_up served =
     let turns = served.work.turns in
     let run = served.state.is_run in
+    let counted = run_counted start turns run in
     record {
       last = last;
       session = served;
       given_up = given_up;
       sound = (sound, run_sound start turns run sound);
       grouped = run_grouped start old.reads turns run served.files.still;
-      counted = run_counted start turns run;
-      prefix = run_prefix old new start turns run served.files.crash;
+      counted = counted;
+      prefix = run_prefix StoreTerms.same old new start turns (run_gates start turns run) counted served.files.crash;
       rest = λ no_fault. rests_in_store (served.files.rest no_fault);
     }
 

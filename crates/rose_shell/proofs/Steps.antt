@@ -8,9 +8,9 @@ use Rattle.line_grammar.specs.declared.command.Command.TheVariants as commands
 use Rattle.line_grammar.specs.declared.command.Change.{Change}
 use Rattle.realm_insert.specs.State.{State}
 use Rattle.record_codec.specs.declared.entry.Entry.{Entry}
-use Rattle.realm_store.specs.Keeping.{Kept, Group, SpendableKept, HasGroup, HasNoGroup, state_with, with_group, without_group}
+use Rattle.realm_store.specs.Keeping.{Kept, Group, SpendableKept, HasGroup, HasNoGroup, state_with, without_group}
 use Rattle.realm_store.specs.Leading.{LeadOnBy}
-use Rattle.realm_store.specs.Making.{IsMade, Joins, Commits, Ends, kept_with}
+use Rattle.realm_store.specs.Making.{IsMade, Joins, kept_with}
 use Rattle.realm_store.specs.Sound.{IsSound}
 use Rattle.realm_store.specs.Replies.{ok_reply}
 use Rattle.rose_query.specs.Replies.{line_feed}

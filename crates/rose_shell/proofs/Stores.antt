@@ -31,7 +31,7 @@ pub rests_in_store : {v : View} {s : SpendableKept} → AllRestBy StoreTerms v s
 rests_in_store rest = record { stable = rest.stable; rests = rest.rests }
 
 -- of two states the files stand for one, where the gate is there
-either_stands : (has : Bool) (P Q E : Type 0) → (has ≡ true → P ⊎ Q) → (has ≡ true → P) ⊎ (E → Q)
+pub either_stands : (has : Bool) (P Q E : Type 0) → (has ≡ true → P ⊎ Q) → (has ≡ true → P) ⊎ (E → Q)
 either_stands true P Q E two = ⊎_elim (λ p. inl (λ _. p)) (λ q. inr (λ _. q)) (two refl)
 either_stands false P Q E two = inl (λ is. absurd (cc))
 

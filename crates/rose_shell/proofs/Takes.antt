@@ -12,7 +12,7 @@ use Rattle.realm_files.proofs.Pairs.{same_files}
 use Rattle.rose_shell.specs.declared.waiting.Waiting.{Waiting}
 use Rattle.rose_shell.specs.Lines.{lines_from, part_from, whole_lines, IsFrontOf}
 use Rattle.rose_shell.specs.Desk.{Terms, AllRestBy}
-use Rattle.rose_shell.specs.Turns.{Turn, end_of, replies, lines_of}
+use Rattle.rose_shell.specs.Turns.{Turn, IsRun, end_of, replies, lines_of}
 use Rattle.rose_shell.specs.Session.{AreTurnsOf, IsAnswered}
 use Rattle.rose_shell.specs.Loop.{IsWaiting, Went}
 use Rattle.outside_world.proofs.Moments.{only_nothing, only_wider, only_then, only_of_adds}
@@ -26,6 +26,7 @@ use Rattle.rose_shell.proofs.Batches.{are_held}
 pub record Ahead {S : Type 0} (terms : Terms S) (old new : View) (start end : S) (budget : ℕ)
     (bytes more : List ℕ) : Type 0 where
   pub turns : List (Turn S)
+  pub is_run : IsRun terms start turns
   pub made : Made terms old new start end turns
   pub answered : AreTurnsOf turns bytes
   pub left : old.left ≡ bytes ++ (more ++ new.left)
@@ -62,6 +63,35 @@ module _ {S : Type 0} {terms : Terms S} where
       (keeping : Keeping terms old new start end waiting kept room budget) → length keeping.bytes ≤ budget
   within_budget keeping = omega (arith, keeping.spent)
 
+  -- before the first turn
+  pub made_none : {v : View} {s : S} → AllRestBy terms v s → Made terms v v s s []
+  made_none {v} rest = record { ends = refl; given = sym (append-nil v.given); later = omega arith; files = follows_none rest }
+
+  -- one call more that gives nothing and leaves the files
+  pub made_call : {asks : Asked → Type 0} {old mid new : View} {start end : S} {turns : List (Turn S)}
+      → Made terms old mid start end turns → Ticks asks mid new → SameFiles mid new → new.given ≡ mid.given
+      → Made terms old new start end turns
+  made_call {old = old} {mid} {new} {start} {turns = turns} made ticks files given =
+      let rest : AllRestBy terms mid (end_of start turns) = made.files.rest tt in
+      let given_now : new.given ≡ old.given ++ replies turns = given ∙ made.given in
+      record {
+        ends = made.ends;
+        given = given_now;
+        later = omega (arith, made.later, ticks.clock);
+        files = record {
+          crash = only_then made.files.crash made.later (only_wider (only_of_adds ticks.crash)
+              (λ m may.
+              let left : m.files ≡ mid.reads = left_at_rest rest m.files (λ f. files.images f (m.files f) (may.1 f)) in
+              moment_now terms.same terms.stands start old.reads turns old.given m (may.0 ∙ given_now)
+              (subst (λ (f : Files). terms.stands (end_of start turns) f) (sym left)
+              (terms.rest_stands (end_of start turns) mid.reads rest.rests))
+              (left ∙ made.files.reads)));
+          still = made.files.still;
+          reads = same_files files.reads ∙ made.files.reads;
+          rest = λ _. still_rest files rest;
+        };
+      }
+
   -- before the first take
   pub keeping_none : {v : View} {s : S} {waiting : Waiting} {kept : List ℕ} (budget : ℕ) → IsWaiting waiting [] → kept ≡ []
       → AllRestBy terms v s → Keeping terms v v s s waiting kept budget budget
@@ -69,13 +99,8 @@ module _ {S : Type 0} {terms : Terms S} where
     bytes = [];
     ahead = record {
       turns = [];
-      made = record {
-        is_run = tt;
-        ends = refl;
-        given = sym (append-nil v.given);
-        later = omega arith;
-        files = follows_none rest;
-      };
+      is_run = tt;
+      made = made_none rest;
       answered = record { held = []; are_held = tt; lines = refl; full = tt };
       left = refl;
       taken = sym (append-nil v.taken);
@@ -95,28 +120,10 @@ module _ {S : Type 0} {terms : Terms S} where
       let turns = ahead.turns in
       let made = ahead.made in
       let all_taken : mid.taken ≡ old.taken ++ bytes = ahead.taken ∙ ap (λ (l : List ℕ). old.taken ++ l) (append-nil bytes) in
-      let rest : AllRestBy terms mid (end_of start turns) = made.files.rest tt in
-      let given_now : new.given ≡ old.given ++ replies turns = given ∙ made.given in
       record {
         turns = turns;
-        made = record {
-          is_run = made.is_run;
-          ends = made.ends;
-          given = given_now;
-          later = omega (arith, made.later, ticks.clock);
-          files = record {
-            crash = only_then made.files.crash made.later (only_wider (only_of_adds ticks.crash)
-                (λ m may.
-                let left : m.files ≡ mid.reads = left_at_rest rest m.files (λ f. files.images f (m.files f) (may.1 f)) in
-                moment_now terms.same terms.stands start old.reads turns old.given m (may.0 ∙ given_now)
-                (subst (λ (f : Files). terms.stands (end_of start turns) f) (sym left)
-                (terms.rest_stands (end_of start turns) mid.reads rest.rests))
-                (left ∙ made.files.reads)));
-            still = made.files.still;
-            reads = same_files files.reads ∙ made.files.reads;
-            rest = λ _. still_rest files rest;
-          };
-        };
+        is_run = ahead.is_run;
+        made = made_call made ticks files given;
         answered = ahead.answered;
         left = ahead.left ∙ ap (λ (l : List ℕ). bytes ++ l) left;
         taken = taken ∙ ap (λ (l : List ℕ). l ++ more) all_taken ∙ append_assoc old.taken bytes more;
@@ -179,8 +186,8 @@ module _ {S : Type 0} {terms : Terms S} where
       let us = went.turns in
       record {
         turns = ahead.turns ++ us;
+        is_run = run_then ahead.made us ahead.is_run went.is_run;
         made = record {
-          is_run = run_then ahead.made us went.is_run;
           ends = went.ends ∙ ends_then ahead.made us;
           given = went.given ∙ replies_then ahead.made us;
           later = omega (arith, ahead.made.later, went.takes.later);

@@ -1,15 +1,17 @@
--- This file shows that lines which are given after nothing but questions of the files are given from before.
+-- This file shows that lines and frames which are given after nothing but questions of the files are given from before.
 use Rattle.std.proofs.Common.{ℕ, List, [], ◌++◌, inl, inr, refl, sym, ◌∙◌, ap}
 use Rattle.std.proofs.lemmas.List.{append-nil}
 use Rattle.outside_world.specs.View.{View}
 use Rattle.outside_world.proofs.Moments.{only_nothing, only_wider, only_then, none_taken, none_taken_then}
 use Rattle.command_words.specs.declared.word.Word.{Word}
-use Rattle.command_words.specs.declared.word.Word.TheVariants.{Run, Check, Gen, Audit}
+use Rattle.command_words.specs.declared.word.Word.TheVariants.{Run, Check, Gen, Ship, Follow, Audit}
 use Rattle.realm_journal.specs.Reading.{OnlyAsks}
+use Rattle.standby_core.specs.declared.frame.Frame.{Frame}
 use Rattle.rose_shell.specs.declared.status.Status.{Status}
 use Rattle.rose_shell.specs.declared.status.Status.TheVariants.{NoMemory}
 use Rattle.rose_shell.specs.Giving.{GaveSome}
 use Rattle.rose_shell.specs.Running.{IsNotBegun}
+use Rattle.rose_shell.specs.Shipping.{GivesFrames}
 use Rattle.rose_shell.specs.Telling.{GivesLines, HasDone}
 use Rattle.rose_shell.proofs.Audits.{audited_none}
 
@@ -30,6 +32,8 @@ pub none_done : (v : View) (command : Word) → HasDone command v v NoMemory
 none_done v Run = inl none_begun
 none_done v Check = inl none_begun
 none_done v (Gen count start) = inl (refl, none_asked)
+none_done v (Ship changes) = inl none_begun
+none_done v Follow = inl none_begun
 none_done v Audit = audited_none
 
 module _ {old mid new : View} (asks : OnlyAsks old mid) where
@@ -53,6 +57,17 @@ module _ {old mid new : View} (asks : OnlyAsks old mid) where
           is.3 ∙ ap (λ (l : List ℕ). l ++ is.0) asks.given,
           λ f. asks.files.images f (m.files f) (is.4 f),
         )));
+  }
+
+  pub frames_behind : {frames : List Frame} {status : Status} → GivesFrames mid new frames status → GivesFrames old new frames status
+  frames_behind gives = record {
+    begun = gives.begun;
+    left = gives.left;
+    in_order = gives.in_order;
+    are_frames = gives.are_frames;
+    unsent = gives.unsent;
+    some = some_behind gives.some;
+    ends = gives.ends;
   }
 
   pub lines_behind : {lines : List ℕ} {status : Status} → GivesLines mid new lines status → GivesLines old new lines status

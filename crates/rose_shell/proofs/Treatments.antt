@@ -87,7 +87,7 @@ module _ {S : Type 0} (terms : Terms S) (v : View) (s : S) (line : List ℕ) whe
   answered_still (Err e) told is rest = answered_nothing terms v s s line told is rest
 
 -- a line by itself, and both files after it
-abbrev single : {S : Type 0} → List ℕ → List ℕ → S → Files → Turn S
+abbrev pub single : {S : Type 0} → List ℕ → List ℕ → S → Files → Turn S
 single line reply after files = record { line = line; batch = []; reply = reply; after = after; files = files }
 
 module _ {S : Type 0} {terms : Terms S} where

@@ -32,6 +32,16 @@ pub mod AtDesk
 pub mod Auditing
 -- a certificate while it comes
 pub mod Certificates
+-- lines that are answered one by one
+pub mod OneByOne
+-- a part of that
+pub mod Progress
+-- what is promised of the word `follow`
+pub mod Following
+-- a follower's answer to a line
+pub mod AtFollower
+-- what is promised of the word `ship`
+pub mod Shipping
 -- what is promised of each command
 pub mod Telling
 -- runs one after another

@@ -15,8 +15,10 @@ ghost use Rattle.rose_shell.specs.Telling.{HasDone, CanBeDone, AsksNoFile};
 
 use crate::auditing::audit_input;
 use crate::fault::Fault;
+use crate::following::follow;
 use crate::means::Means;
 use crate::serving::answer_input;
+use crate::shipping::ship;
 use crate::status::Status;
 use crate::telling::{tell_map, tell_store};
 use command_words::{Word, one_command, read_words};
@@ -32,8 +34,10 @@ const MOST_BYTES: u64 = 1_099_511_627_776;
 
 /// Does what these words ask for, the arguments after the program's name. `run` reads lines to the end of the
 /// input, from what the files stand for on, and answers each. `check` tells how much the files stand for, and `gen` of a
-/// map that nobody wrote. `audit` gives the verdict on its input as a certificate. Words that are no command end as usage. Want
-/// of memory may end each at any place: what was given then is the replies to the first lines, each whole, or nothing.
+/// map that nobody wrote. `ship` gives what brings a follower up to date as frames, and `follow` takes over those of its input
+/// that come next, and answers each line. `audit` gives the verdict on its input as a certificate. Words that are no command end
+/// as usage. Want of memory may end each at any place: what was given then is the first lines or replies, each whole, or
+/// nothing.
 pub fn run<R: Threads + Sync, W: Outside>(
     rt: &R,
     alloc: Global,
@@ -75,6 +79,8 @@ pub fn run<R: Threads + Sync, W: Outside>(
         Word::Run => run_lines(rt, alloc, world),
         Word::Check => tell_store(rt, alloc, world),
         Word::Gen { lines, start } => tell_map(rt, alloc, world, lines, start),
+        Word::Ship { changes } => ship(rt, alloc, world, changes),
+        Word::Follow => follow(rt, alloc, world, MOST_BYTES),
         Word::Audit => audit_input(alloc, world, MOST_BYTES),
     }
 }

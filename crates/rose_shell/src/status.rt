@@ -3,6 +3,7 @@ ghost use Rattle.std.specs.Prelude.{◌≡◌};
 ghost use Rattle.rose_shell.specs.Status.{number_of};
 
 use crate::fault::Fault;
+use grid_base::NoMemory;
 use realm_store::{Damage, StartError};
 
 /// How a run ended.
@@ -57,6 +58,17 @@ impl From<Fault> for Status {
             Fault::Disk => Status::DiskFault,
             Fault::NoMemory => Status::NoMemory,
         }
+    }
+}
+
+impl From<NoMemory> for Status {
+    ghost use Rattle.std.specs.Prelude.{◌≡◌};
+    ghost use Rattle.rose_shell.specs.declared.status.Status.TheVariants.{NoMemory};
+
+    ghost from_gives = { λ _ status. status ≡ NoMemory };
+
+    fn from(_: NoMemory) -> Status {
+        Status::NoMemory
     }
 }
 

@@ -148,8 +148,8 @@ static RUNS: [(Short, Short, &str, &str, Short, Short); 16] = [
     ),
 ];
 
-// Both files stand there then.
-fn look_at_left<R: Threads + Sync + Abort>(
+/// Both files stand there then.
+pub(crate) fn look_at_left<R: Threads + Sync + Abort>(
     rt: &R,
     alloc: Global,
     world: &MemoryWorld,
@@ -164,8 +164,8 @@ fn look_at_left<R: Threads + Sync + Abort>(
     Ok(())
 }
 
-// A world with these lines and these two files, in which the calls of these numbers fail.
-fn place_in_full(
+/// A world with these lines and these two files, in which the calls of these numbers fail.
+pub(crate) fn place_in_full(
     alloc: Global,
     lines: &str,
     files: (Short, Short),
@@ -178,17 +178,18 @@ fn place_in_full(
     place_of_two(alloc, lines, &a, &b, failing)
 }
 
-// These lines get these replies, and leave both files so.
-fn look_at_files<R: Threads + Sync + Abort>(
+/// A run with these words over these lines gives these replies, and leaves both files so.
+pub(crate) fn look_at_files<R: Threads + Sync + Abort>(
     rt: &R,
     alloc: Global,
+    words: &str,
     files: (Short, Short),
     lines: &str,
     replies: &str,
     wanted: (Short, Short),
 ) -> Result<(), NoMemory> {
     let mut place = place_in_full(alloc, lines, files, &[])?;
-    look_at_run(rt, alloc, "run", &mut place.world, replies, 0)?;
+    look_at_run(rt, alloc, words, &mut place.world, replies, 0)?;
     look_at_left(rt, alloc, &place.world, lines, wanted)
 }
 
@@ -196,7 +197,7 @@ fn look_at_files<R: Threads + Sync + Abort>(
 fn the_first_commit_carries_files_over(rt: HostRuntime) {
     for (a, b, lines, replies, a_wanted, b_wanted) in RUNS.iter() {
         let wanted = (*a_wanted, *b_wanted);
-        let done = look_at_files(&rt, rt.alloc(), (*a, *b), lines, replies, wanted);
+        let done = look_at_files(&rt, rt.alloc(), "run", (*a, *b), lines, replies, wanted);
         assert!(rt; done.is_ok(), "no memory");
     }
 }

@@ -31,6 +31,20 @@ fn look_at_leave<R: Threads + Sync + Abort>(
     Ok(())
 }
 
+/// So many changes are found, or so many, in each of the four ways.
+pub(crate) fn look_at_either<R: Threads + Sync + Abort>(
+    rt: &R,
+    alloc: Global,
+    world: &MemoryWorld,
+    moment: u64,
+    either: (u64, u64),
+) -> Result<(), NoMemory> {
+    for leave in LEAVES.iter() {
+        look_at_leave(rt, alloc, world, moment, *leave, either)?;
+    }
+    Ok(())
+}
+
 // These changes are found in what a crash leaves after so many calls, in each of the four ways.
 fn look_at_leaves<R: Threads + Sync + Abort>(
     rt: &R,
@@ -227,8 +241,8 @@ static SESSIONS: [(&str, &str, &str, u8, u64); 4] = [
     ),
 ];
 
-// The status where the call after so many fails.
-fn status_at(statuses: &str, call: u64) -> u8 {
+/// The status where the call after so many fails.
+pub(crate) fn status_at(statuses: &str, call: u64) -> u8 {
     match statuses.as_bytes().get(call as usize) {
         Some(digit) => digit.wrapping_sub(b'0'),
         None => 0,
@@ -245,21 +259,37 @@ fn find_again<R: Threads + Sync + Abort>(
     more: u64,
 ) -> Result<(), NoMemory> {
     let begun = world.given().iter().filter(|b| **b == letter).count() as u64;
-    for leave in LEAVES.iter() {
-        look_at_leave(
-            rt,
-            alloc,
-            world,
-            moment,
-            *leave,
-            (begun, begun.saturating_add(more)),
-        )?;
-    }
+    let either = (begun, begun.saturating_add(more));
+    look_at_either(rt, alloc, world, moment, either)
+}
+
+/// A run with these words ends with this number at a fault of the call after so many, and gives a front of the replies, or all
+/// where no call fails.
+pub(crate) fn look_at_end<R: Threads + Sync + Abort>(
+    rt: &R,
+    alloc: Global,
+    words: &str,
+    world: &mut MemoryWorld,
+    replies: &str,
+    call: u64,
+    number: u8,
+) -> Result<(), NoMemory>
+    requires intact { has_failed world.old ≡ false }
+{
+    let status = run_words(rt, alloc, words, world)?;
+    let calls = world.calls();
+    assert_eq!(rt; status.number(), number, "at call {call} of {calls}");
+    assert!(rt; (number == 0) == (calls <= call), "at call {call}");
+    let given = world.given();
+    assert!(rt; replies.as_bytes().starts_with(given), "at call {call}");
+    assert!(rt;
+        number != 0 || given.len() == replies.len(),
+        "at call {call}"
+    );
     Ok(())
 }
 
-// The run ends with this number at a fault of the call after so many, and gives a front of the replies, or all where no call
-// fails. What a crash leaves just before this call, and at the end, is found again.
+// So the run ends. What a crash leaves just before this call, and at the end, is found again.
 fn fail_after<R: Threads + Sync + Abort>(
     rt: &R,
     alloc: Global,
@@ -270,19 +300,10 @@ fn fail_after<R: Threads + Sync + Abort>(
     commits: (u8, u64),
 ) -> Result<(), NoMemory> {
     let mut place = place_of(alloc, lines, b"", &[call.saturating_add(1)])?;
-    let status = run_words(rt, alloc, "run", &mut place.world)?;
-    let calls = place.world.calls();
-    assert_eq!(rt; status.number(), number, "at call {call} of {calls}");
-    assert!(rt; (number == 0) == (calls <= call), "at call {call}");
-    let given = place.world.given();
-    assert!(rt; replies.as_bytes().starts_with(given), "at call {call}");
-    assert!(rt;
-        number != 0 || given.len() == replies.len(),
-        "at call {call}"
-    );
+    look_at_end(rt, alloc, "run", &mut place.world, replies, call, number)?;
     let (letter, more) = commits;
     find_again(rt, alloc, &place.world, call, letter, more)?;
-    find_again(rt, alloc, &place.world, calls, letter, more)
+    find_again(rt, alloc, &place.world, place.world.calls(), letter, more)
 }
 
 // At each call in turn, and where none fails.

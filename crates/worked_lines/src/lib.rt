@@ -17,6 +17,12 @@ mod file_bytes;
 #[cfg(test)]
 mod files;
 #[cfg(test)]
+mod follow_crashes;
+#[cfg(test)]
+mod followed;
+#[cfg(test)]
+mod frame_lines;
+#[cfg(test)]
 mod gates;
 #[cfg(test)]
 mod groups;
@@ -28,3 +34,7 @@ mod running;
 mod sessions;
 #[cfg(test)]
 mod sets;
+#[cfg(test)]
+mod shipped;
+#[cfg(test)]
+mod standby_pairs;

@@ -44,7 +44,20 @@ pub(crate) fn place_of_two(
 ) -> Result<Place, NoMemory>
     ensures intact { IfOk result (λ place. has_failed place.world ≡ false) }
 {
-    let input = Vec::from_slice(alloc, input.as_bytes())?;
+    place_of_bytes(alloc, input.as_bytes(), a, b, failing)
+}
+
+/// The same with an input that needn't be text.
+pub(crate) fn place_of_bytes(
+    alloc: Global,
+    input: &[u8],
+    a: &[u8],
+    b: &[u8],
+    failing: &[u64],
+) -> Result<Place, NoMemory>
+    ensures intact { IfOk result (λ place. has_failed place.world ≡ false) }
+{
+    let input = Vec::from_slice(alloc, input)?;
     let a = Vec::from_slice(alloc, a)?;
     let b = Vec::from_slice(alloc, b)?;
     let failing = Vec::from_slice(alloc, failing)?;

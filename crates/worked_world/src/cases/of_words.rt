@@ -13,19 +13,22 @@ fn parts(rt: &impl Abort, alloc: Global, text: &str) -> Vec<String> {
     words
 }
 
-// What is found: 0 for nothing, 1 for `run`, 2 for `check`, 3 with both numbers for `gen`, and 4 for `audit`.
+// What is found: 0 for nothing, 1 for `run`, 2 for `check`, 3 with both numbers for `gen`, 4 with its number for `ship`, 5 for
+// `follow`, and 6 for `audit`.
 fn found(rt: &impl Abort, alloc: Global, words: &[String]) -> (u8, u64, u64) {
     match read_words(alloc, words).expect(rt, "memory") {
         None => (0, 0, 0),
         Some(Word::Run) => (1, 0, 0),
         Some(Word::Check) => (2, 0, 0),
         Some(Word::Gen { lines, start }) => (3, lines, start),
-        Some(Word::Audit) => (4, 0, 0),
+        Some(Word::Ship { changes }) => (4, changes, 0),
+        Some(Word::Follow) => (5, 0, 0),
+        Some(Word::Audit) => (6, 0, 0),
     }
 }
 
 // Words, and what is found.
-static WORDS: [(&str, (u8, u64, u64)); 37] = [
+static WORDS: [(&str, (u8, u64, u64)); 55] = [
     ("run", (1, 0, 0)),
     ("check", (2, 0, 0)),
     ("gen|1|7", (3, 1, 7)),
@@ -34,7 +37,27 @@ static WORDS: [(&str, (u8, u64, u64)); 37] = [
         "gen|100000|9999999999999999999",
         (3, 100_000, 9_999_999_999_999_999_999),
     ),
-    ("audit", (4, 0, 0)),
+    ("ship|0", (4, 0, 0)),
+    (
+        "ship|9999999999999999999",
+        (4, 9_999_999_999_999_999_999, 0),
+    ),
+    ("follow", (5, 0, 0)),
+    ("audit", (6, 0, 0)),
+    ("ship", (0, 0, 0)),
+    ("ship|", (0, 0, 0)),
+    ("ship|1|2", (0, 0, 0)),
+    ("ship|01", (0, 0, 0)),
+    ("ship|+1", (0, 0, 0)),
+    ("ship|-1", (0, 0, 0)),
+    ("ship|10000000000000000000", (0, 0, 0)),
+    ("ship|18446744073709551615", (0, 0, 0)),
+    ("ship|18446744073709551616", (0, 0, 0)),
+    ("1|ship", (0, 0, 0)),
+    ("follow|0", (0, 0, 0)),
+    ("follow|follow", (0, 0, 0)),
+    ("ship|follow", (0, 0, 0)),
+    ("Follow", (0, 0, 0)),
     ("audit|x", (0, 0, 0)),
     ("Audit", (0, 0, 0)),
     ("check|audit", (0, 0, 0)),
@@ -64,6 +87,7 @@ static WORDS: [(&str, (u8, u64, u64)); 37] = [
     ("gen||7", (0, 0, 0)),
     ("gen|100001|7", (0, 0, 0)),
     ("gen|1|10000000000000000000", (0, 0, 0)),
+    ("gen|1|18446744073709551615", (0, 0, 0)),
     ("gen|1|18446744073709551616", (0, 0, 0)),
     ("gen|1|7 ", (0, 0, 0)),
 ];

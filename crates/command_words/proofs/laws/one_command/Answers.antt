@@ -3,7 +3,7 @@ use Rattle.std.proofs.Common.{◌≡◌, ℕ, List, [], ◌∷◌, refl, sym, ap
 use Rattle.std.proofs.lemmas.Fmt.{decimal_injective}
 use Rattle.command_words.specs.Written.{AreWordsOf}
 use Rattle.command_words.specs.declared.word.Word.{Word}
-use Rattle.command_words.specs.declared.word.Word.TheVariants.{Run, Check, Gen, Audit}
+use Rattle.command_words.specs.declared.word.Word.TheVariants.{Run, Check, Gen, Ship, Follow, Audit}
 use Rattle.command_words.proofs.laws.one_command.Goals as goal
 
 -- the two of one length differ in their first letters
@@ -16,10 +16,14 @@ one : (words : List (List ℕ)) (v w : Word) → AreWordsOf words v → AreWords
 one words Run Run p q = refl
 one words Run Check p q = let e = sym p.0 ∙ q.0 in cc
 one words Run (Gen m a) p q = let e = sym p.0 ∙ q.0 in cc
+one words Run (Ship j) p q = let e = sym p.0 ∙ q.0 in cc
+one words Run Follow p q = let e = sym p.0 ∙ q.0 in cc
 one words Run Audit p q = let e = sym p.0 ∙ q.0 in cc
 one words Check Run p q = let e = sym p.0 ∙ q.0 in cc
 one words Check Check p q = refl
 one words Check (Gen m a) p q = let e = sym p.0 ∙ q.0 in cc
+one words Check (Ship j) p q = let e = sym p.0 ∙ q.0 in cc
+one words Check Follow p q = let e = sym p.0 ∙ q.0 in cc
 one words Check Audit p q = absurd (check_is_no_audit (sym p.0 ∙ q.0))
 one words (Gen n b) Run p q = let e = sym p.0 ∙ q.0 in cc
 one words (Gen n b) Check p q = let e = sym p.0 ∙ q.0 in cc
@@ -28,10 +32,29 @@ one words (Gen n b) (Gen m a) p q =
     let lines : n ≡ m = decimal_injective n m (omega arith) (omega arith) (cc) in
     let start : b ≡ a = decimal_injective b a (omega arith) (omega arith) (cc) in
     cc
+one words (Gen n b) (Ship j) p q = let e = sym p.0 ∙ q.0 in cc
+one words (Gen n b) Follow p q = let e = sym p.0 ∙ q.0 in cc
 one words (Gen n b) Audit p q = let e = sym p.0 ∙ q.0 in cc
+one words (Ship k) Run p q = let e = sym p.0 ∙ q.0 in cc
+one words (Ship k) Check p q = let e = sym p.0 ∙ q.0 in cc
+one words (Ship k) (Gen m a) p q = let e = sym p.0 ∙ q.0 in cc
+one words (Ship k) (Ship j) p q =
+    let e = sym p.0 ∙ q.0 in
+    let changes : k ≡ j = decimal_injective k j (omega arith) (omega arith) (cc) in
+    cc
+one words (Ship k) Follow p q = let e = sym p.0 ∙ q.0 in cc
+one words (Ship k) Audit p q = let e = sym p.0 ∙ q.0 in cc
+one words Follow Run p q = let e = sym p.0 ∙ q.0 in cc
+one words Follow Check p q = let e = sym p.0 ∙ q.0 in cc
+one words Follow (Gen m a) p q = let e = sym p.0 ∙ q.0 in cc
+one words Follow (Ship j) p q = let e = sym p.0 ∙ q.0 in cc
+one words Follow Follow p q = refl
+one words Follow Audit p q = let e = sym p.0 ∙ q.0 in cc
 one words Audit Run p q = let e = sym p.0 ∙ q.0 in cc
 one words Audit Check p q = absurd (check_is_no_audit (sym q.0 ∙ p.0))
 one words Audit (Gen m a) p q = let e = sym p.0 ∙ q.0 in cc
+one words Audit (Ship j) p q = let e = sym p.0 ∙ q.0 in cc
+one words Audit Follow p q = let e = sym p.0 ∙ q.0 in cc
 one words Audit Audit p q = refl
 
 pub returns : goal.returns

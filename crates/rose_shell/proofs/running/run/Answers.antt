@@ -110,6 +110,84 @@ returns-in-Gen-clause-told g c = λ command written tells.
     (λ (w : Word). HasDone w (g.W.Outside.view c.args.world.now) (g.W.Outside.view c.tell_map.new.world) c.tell_map.result)
     (sym c.in-Gen.is ∙ c.one_command.ensures _ read.word command is written) (c.tell_map.ensures.told tells)
 
+-- ---- the word `ship`
+
+pub returns-in-Ship-clause-no_command : goal.returns-in-Ship-clause-no_command
+returns-in-Ship-clause-no_command g c = λ none.
+    let read = c.in-Ok-Some in
+    absurd (none read.word (at_some (IsNoCommand (map string_bytes c.args.words.now)) (AreWordsOf (map string_bytes c.args.words.now))
+    read.field-0-is read.ensures))
+
+pub returns-in-Ship-clause-untouched : goal.returns-in-Ship-clause-untouched
+returns-in-Ship-clause-untouched g c = λ none.
+    let read = c.in-Ok-Some in
+    absurd (none read.word (at_some (IsNoCommand (map string_bytes c.args.words.now)) (AreWordsOf (map string_bytes c.args.words.now))
+    read.field-0-is read.ensures))
+
+pub returns-in-Ship-clause-told : goal.returns-in-Ship-clause-told
+returns-in-Ship-clause-told g c = λ command written tells.
+    let read = c.in-Ok-Some in
+    let is = at_some (IsNoCommand (map string_bytes c.args.words.now)) (AreWordsOf (map string_bytes c.args.words.now))
+    read.field-0-is read.ensures in
+    subst
+    (λ (w : Word). HasDone w (g.W.Outside.view c.args.world.now) (g.W.Outside.view c.ship.new.world) c.ship.result)
+    (sym c.in-Ship.is ∙ c.one_command.ensures _ read.word command is written) (c.ship.ensures.told tells)
+
+pub returns-in-Ship-clause-complete : goal.returns-in-Ship-clause-complete
+returns-in-Ship-clause-complete g c = λ command written tells source sink disk can.
+    let read = c.in-Ok-Some in
+    let is = at_some (IsNoCommand (map string_bytes c.args.words.now)) (AreWordsOf (map string_bytes c.args.words.now))
+    read.field-0-is read.ensures in
+    let asked = subst (λ (w : Word). CanBeDone w (g.W.Outside.view c.args.world.now))
+    (c.one_command.ensures _ command read.word written is ∙ c.in-Ship.is) can in
+    c.ship.ensures.complete tells sink disk asked.0 asked.1
+
+pub returns-in-Ship-clause-no_file : goal.returns-in-Ship-clause-no_file
+returns-in-Ship-clause-no_file g c = λ command written asks.
+    let read = c.in-Ok-Some in
+    let is = at_some (IsNoCommand (map string_bytes c.args.words.now)) (AreWordsOf (map string_bytes c.args.words.now))
+    read.field-0-is read.ensures in
+    absurd (subst AsksNoFile (sym (sym c.in-Ship.is ∙ c.one_command.ensures _ read.word command is written)) asks)
+
+-- ---- the word `follow`
+
+pub returns-in-Follow-clause-no_command : goal.returns-in-Follow-clause-no_command
+returns-in-Follow-clause-no_command g c = λ none.
+    let read = c.in-Ok-Some in
+    absurd (none read.word (at_some (IsNoCommand (map string_bytes c.args.words.now)) (AreWordsOf (map string_bytes c.args.words.now))
+    read.field-0-is read.ensures))
+
+pub returns-in-Follow-clause-untouched : goal.returns-in-Follow-clause-untouched
+returns-in-Follow-clause-untouched g c = λ none.
+    let read = c.in-Ok-Some in
+    absurd (none read.word (at_some (IsNoCommand (map string_bytes c.args.words.now)) (AreWordsOf (map string_bytes c.args.words.now))
+    read.field-0-is read.ensures))
+
+pub returns-in-Follow-clause-told : goal.returns-in-Follow-clause-told
+returns-in-Follow-clause-told g c = λ command written tells.
+    let read = c.in-Ok-Some in
+    let is = at_some (IsNoCommand (map string_bytes c.args.words.now)) (AreWordsOf (map string_bytes c.args.words.now))
+    read.field-0-is read.ensures in
+    subst
+    (λ (w : Word). HasDone w (g.W.Outside.view c.args.world.now) (g.W.Outside.view c.follow.new.world) c.follow.result)
+    (sym c.in-Follow.is ∙ c.one_command.ensures _ read.word command is written) (c.follow.ensures.told tells)
+
+pub returns-in-Follow-clause-complete : goal.returns-in-Follow-clause-complete
+returns-in-Follow-clause-complete g c = λ command written tells source sink disk can.
+    let read = c.in-Ok-Some in
+    let is = at_some (IsNoCommand (map string_bytes c.args.words.now)) (AreWordsOf (map string_bytes c.args.words.now))
+    read.field-0-is read.ensures in
+    let asked = subst (λ (w : Word). CanBeDone w (g.W.Outside.view c.args.world.now))
+    (c.one_command.ensures _ command read.word written is ∙ c.in-Follow.is) can in
+    c.follow.ensures.complete tells source sink disk asked.0 asked.1.0 asked.1.1
+
+pub returns-in-Follow-clause-no_file : goal.returns-in-Follow-clause-no_file
+returns-in-Follow-clause-no_file g c = λ command written asks.
+    let read = c.in-Ok-Some in
+    let is = at_some (IsNoCommand (map string_bytes c.args.words.now)) (AreWordsOf (map string_bytes c.args.words.now))
+    read.field-0-is read.ensures in
+    absurd (subst AsksNoFile (sym (sym c.in-Follow.is ∙ c.one_command.ensures _ read.word command is written)) asks)
+
 -- ---- the word `audit`
 
 pub returns-in-Audit-clause-no_command : goal.returns-in-Audit-clause-no_command
