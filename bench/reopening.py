@@ -43,7 +43,7 @@ class Run:
     def __init__(self, program, word, folder, source=None):
         with tempfile.NamedTemporaryFile("r") as told:
             # A process that starts others counts its own memory in, so a small one stands between.
-            command = ["/usr/bin/time", "-o", told.name, "-f", "%M", program, word]
+            command = ["/usr/bin/time", "-o", told.name, "-f", "%M", program, *word.split()]
             before = resource.getrusage(resource.RUSAGE_CHILDREN)
             began = time.perf_counter()
             done = subprocess.run(command, cwd=folder, stdin=source, stdout=subprocess.PIPE, check=False)
@@ -56,12 +56,12 @@ class Run:
             self.memory = int(told.read()) * 1024
 
 
-def run_lines(program, folder, lines):
-    """A run over these lines."""
+def run_lines(program, folder, lines, word="run"):
+    """A run over these lines, by this word."""
     with tempfile.TemporaryFile() as source:
         source.writelines(lines)
         source.seek(0)
-        return Run(program, "run", folder, source)
+        return Run(program, word, folder, source)
 
 
 def opened(program, folder, times):

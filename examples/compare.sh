@@ -4,9 +4,10 @@
 #
 # A scene NAME.txt has its replies in NAME.out. In a page a block marked `input` has lines, one marked `words` a command
 # line, and the block marked `reply` behind it what they are answered. An `input killed` is killed by SIGKILL once its
-# replies have come, while it waits for more lines, and an `input audit` is judged. Each scene, and each block of a page, runs in an empty folder of its
-# own, but for the blocks of the tutorial, which run one after another in one folder. So do those of BRINGING-IN, where a
-# block marked `script` has lines for the shell; what the companion scripts write there is compared with what stands here.
+# replies have come, while it waits for more lines; an `input audit` is judged, an `input follow` followed, and a `script`
+# has lines for the shell. Each scene, and each block of a page, runs in an empty folder of its own, but for the blocks of
+# TUTORIAL, STANDBY and BRINGING-IN, which run one after another in one folder a page. What the companion scripts write in
+# the last is compared with what stands here.
 # In VALUES and LINES each row of a table has a line and its reply, and the block of the README marked `session` has the
 # scene `first` with its replies. What EMBEDDING shows is compared with the crate that it is about, whose output is compared
 # by the gate. The words of `gen` and `audit`, and such as are no command, run in an empty folder, which has to be empty then.
@@ -76,7 +77,7 @@ page() {
         mkdir -p "$room" && cd "$room" || exit 2
         case $(cat "$kind") in
             input) run "$at.given" run < "$at.lines" ;;
-            "input audit") run "$at.given" audit < "$at.lines" ;;
+            "input audit"|"input follow") read -r _ word < "$kind" && run "$at.given" "$word" < "$at.lines" ;;
             "input killed") run_killed "$at.lines" "$at.given" "$at.reply" ;;
             script) PATH=$work/bin:$here:$PATH bash "$at.lines" > "$at.given" ;;
             words) read -ra words < "$at.lines" && run "$at.given" "${words[@]:1}" < /dev/null ;;
@@ -138,11 +139,12 @@ for scene in "$here"/*.txt; do
     judge "examples/$name" "$here/$name.out" "$work/$name.given"
     rm -rf "$work/scene"
 done
+export PYTHONDONTWRITEBYTECODE=1
+mkdir "$work/bin" && ln -s "$rose" "$work/bin/rose"
 page TUTORIAL 1
 page REFERENCE 0
 page VALUES 0
-export PYTHONDONTWRITEBYTECODE=1
-mkdir "$work/bin" && ln -s "$rose" "$work/bin/rose"
+page STANDBY 1
 mkdir -p "$work/BRINGING-IN/room" && cp "$here"/*.geojson "$work/BRINGING-IN/room"
 page BRINGING-IN 1
 kept meadow.txt
@@ -163,6 +165,8 @@ judge "README.md, the replies" "$here/first.out" <(cut -c 30- "$work/session")
 shown docs/EMBEDDING.md embedding_example
 untouched gen 1 7
 untouched gen 1
+untouched ship
+untouched follow 1
 untouched audit
 untouched
 echo "$equal equal, $different different"
