@@ -18,8 +18,8 @@ use Rattle.grid_rational.specs.Meeting.{IsRising, IsCornerOf}
 use Rattle.grid_rational.proofs.Crossings.{crossing_is_place}
 use Rattle.grid_rational.proofs.Meetings.{corner_by, corner-swap}
 use Rattle.segment_envelope.proofs.Roundings.{tie_is, centre_is}
-use Rattle.realm_drawing.specs.Mending.{IsPermitted, MendsCrossing}
-use Rattle.realm_drawing.proofs.Mendings.{mends_at, mends_corner, mends_swapped, mending_is_permitted}
+use Rattle.hook_chain.specs.Mending.{IsPermitted, MendsCrossing}
+use Rattle.chain_laws.proofs.Mendings.{mends_at, mends_corner, mends_swapped, mending_is_permitted}
 
 -- ---- crossings
 -- of two segments that cross one comes first

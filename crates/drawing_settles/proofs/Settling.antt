@@ -3,10 +3,10 @@ use Rattle.std.proofs.Common.{ℕ, zero, suc, ◌+◌, ◌<◌, ◌≤◌, List,
 use Rattle.grid_base.specs.Drawing.{Drawing, HasViolation}
 use Rattle.grid_base.specs.declared.kinds.Step.{Step}
 use Rattle.hook_chain.specs.Steps.{Permitted, Settles}
-use Rattle.realm_drawing.specs.Chains.{AllValid}
-use Rattle.realm_drawing.specs.Measure.{links_of, most_links_of}
-use Rattle.realm_drawing.proofs.StepsAdd.{step_adds_link, step_keeps_most, links_are_few}
-use Rattle.realm_drawing.proofs.StepsKeep.{step_keeps_chains}
+use Rattle.hook_chain.specs.StandingChains.{AllValid}
+use Rattle.hook_chain.specs.Measure.{links_of, most_links_of}
+use Rattle.chain_laws.proofs.StepsAdd.{step_adds_link, step_keeps_most, links_are_few}
+use Rattle.chain_laws.proofs.StepsKeep.{step_keeps_chains}
 use Rattle.drawing_settles.proofs.CrossingSteps.{some_step}
 use Rattle.drawing_settles.proofs.Violations.{violated_or_not}
 

@@ -12,7 +12,7 @@ use Rattle.grid_base.proofs.Elements.{Contains-here, Contains-later, Contains-ca
 use Rattle.grid_base.proofs.Ends.{same_or_not, three_points, not_before_itself}
 use Rattle.grid_base.proofs.Orders.{IsBefore-asym}
 use Rattle.realm_drawing.specs.Found.{SomeLink, IsViolated}
-use Rattle.realm_drawing.proofs.Elements.{Any-head, Any-later, Any-cons_cases, Any-nil, Any-weaker}
+use Rattle.chain_laws.proofs.Elements.{Any-head, Any-later, Any-cons_cases, Any-nil, Any-weaker}
 
 -- P holds, or it doesn't
 abbrev Decided : Type 0 → Type 0

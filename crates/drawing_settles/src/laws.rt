@@ -3,9 +3,9 @@ ghost use Rattle.std.specs.Prelude.{◌⊎◌, ◌+◌, ◌≤◌, List, length}
 ghost use Rattle.grid_base.specs.Drawing.{Drawing, HasViolation};
 ghost use Rattle.grid_base.specs.declared.kinds.Step.{Step};
 ghost use Rattle.hook_chain.specs.Steps.{Settles};
-ghost use Rattle.realm_drawing.specs.Chains.{AllValid};
-ghost use Rattle.realm_drawing.specs.Measure.{links_of, most_links_of};
-ghost use Rattle.realm_drawing.specs.Mending.{IsPermitted};
+ghost use Rattle.hook_chain.specs.StandingChains.{AllValid};
+ghost use Rattle.hook_chain.specs.Measure.{links_of, most_links_of};
+ghost use Rattle.hook_chain.specs.Mending.{IsPermitted};
 
 /// While there is a violation, some step is permitted.
 pub fn some_step()

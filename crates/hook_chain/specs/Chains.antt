@@ -1,6 +1,8 @@
 -- Chains as lists of grid points.
 use Rattle.std.specs.Prelude.{◌≡◌, List, [], ◌∷◌}
-use Rattle.grid_base.specs.Point.{GridPoint}
+use Rattle.grid_base.specs.Point.{GridPoint, IsBefore}
+use Rattle.grid_base.specs.Segment.{GridSegment}
+use Rattle.grid_base.specs.Drawing.{IsLink}
 
 -- P holds of each vertex and the next
 abbrev pub AllLinks : (GridPoint → GridPoint → Type 0) → List GridPoint → Type 0
@@ -20,3 +22,7 @@ abbrev pub RunsFrom : GridPoint → GridPoint → List GridPoint → Type 0
 RunsFrom a b [] = ⊥
 RunsFrom a b (v ∷ []) = (v ≡ a) × (v ≡ b)
 RunsFrom a b (v ∷ w ∷ chain) = (v ≡ a) × RunsFrom w b (w ∷ chain)
+
+-- t is the segment between v and w
+abbrev pub IsBetween : GridSegment → GridPoint → GridPoint → Type 0
+IsBetween t v w = IsLink t v w × IsBefore t.a t.b

@@ -23,7 +23,7 @@ use Rattle.line_grammar.specs.declared.command.Query.{Query}
 use Rattle.line_grammar.specs.declared.command.Query.TheVariants.{Realm, Show, Chain, Eval, Trace, Ask, Faces}
 use Rattle.line_grammar.specs.declared.command.Query.TheVariants.{Sum, Decompose, Overlay, Fusion}
 use Rattle.line_grammar.specs.declared.command.Query.TheVariants.{Num as Measure}
-use Rattle.realm_drawing.specs.Ids.{LacksId, IsChainOf}
+use Rattle.hook_chain.specs.Ids.{LacksId, IsChainOf}
 use Rattle.realm_insert.specs.State.{State, KeptTrace, kept_trace, AreLatest}
 use Rattle.realm_insert.specs.Operands.{LacksName, LacksOperand, HasWrongKinds}
 use Rattle.realm_insert.specs.declared.refusal.Refusal.{Refusal}

@@ -14,9 +14,9 @@ use Rattle.grid_base.proofs.Orders.{is_segment}
 use Rattle.rose_values.specs.declared.geometry.Geometry.{Geometry}
 use Rattle.rose_values.specs.declared.geometry.Geometry.TheVariants.{P, L, R}
 use Rattle.rose_operators.specs.Results.{IsAscending}
-use Rattle.realm_drawing.specs.Chains.{AllValid, HasValidChain}
-use Rattle.realm_drawing.specs.Ids.{IsAscending as RiseById}
-use Rattle.realm_drawing.specs.Straight.{along}
+use Rattle.hook_chain.specs.StandingChains.{AllValid, HasValidChain}
+use Rattle.hook_chain.specs.Ids.{IsAscending as RiseById}
+use Rattle.hook_chain.specs.Straight.{along}
 use Rattle.value_geometry.specs.Geometry.{IsOnChainOf, IsOnOddly, IsGeometryOf}
 use Rattle.value_geometry.specs.Links.{links_of, IsOnlyOne}
 use Rattle.value_geometry.specs.Parts.{AreOriginals, HasParts}

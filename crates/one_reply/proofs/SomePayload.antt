@@ -16,9 +16,9 @@ use Rattle.state_check.proofs.Copying.{fits_as_list}
 use Rattle.value_geometry.specs.Parts.{AreOriginals, HasParts}
 use Rattle.value_table.specs.declared.value.Parts.{Parts}
 use Rattle.value_table.specs.declared.value.Parts.TheVariants.{Points, Ids}
-use Rattle.realm_drawing.specs.Chains.{HasValidChain}
-use Rattle.realm_drawing.specs.Straight.{along}
-use Rattle.realm_drawing.proofs.Progress.{chain_is_short}
+use Rattle.hook_chain.specs.StandingChains.{HasValidChain}
+use Rattle.hook_chain.specs.Straight.{along}
+use Rattle.chain_laws.proofs.Progress.{chain_is_short}
 use Rattle.realm_insert.specs.State.{State}
 use Rattle.realm_insert.specs.Snapshots.{snapshot_for, kept_entry, kept_steps, IsValidState}
 use Rattle.realm_insert.proofs.OneSnapshot.{state_again}

@@ -24,8 +24,8 @@ use Rattle.line_grammar.specs.declared.command.Query.{Query}
 use Rattle.line_grammar.specs.declared.command.Query.TheVariants.{Realm, Show, Chain, Eval, Trace, Ask, Faces}
 use Rattle.line_grammar.specs.declared.command.Query.TheVariants.{Sum, Decompose, Overlay, Fusion}
 use Rattle.line_grammar.specs.declared.command.Query.TheVariants.{Num as Measure}
-use Rattle.realm_drawing.specs.Chains.{AllValid}
-use Rattle.realm_drawing.specs.Ids.{LacksId, IsAscending as RiseById}
+use Rattle.hook_chain.specs.StandingChains.{AllValid}
+use Rattle.hook_chain.specs.Ids.{LacksId, IsAscending as RiseById}
 use Rattle.value_geometry.specs.Links.{links, links_of}
 use Rattle.value_geometry.proofs.PartLinks.{on_chain}
 use Rattle.realm_insert.specs.State.{State, KeptTrace, kept_trace}

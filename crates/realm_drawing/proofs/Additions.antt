@@ -4,8 +4,8 @@ use Rattle.grid_base.specs.Point.{GridPoint, IsBefore}
 use Rattle.grid_base.specs.Segment.{GridSegment, IsEnd}
 use Rattle.grid_base.specs.Drawing.{Drawing, HasLink, IsPiece, IsPoint}
 use Rattle.grid_base.specs.declared.original.Original.{Original}
-use Rattle.realm_drawing.specs.Straight.{IsStraight, straight, placed}
-use Rattle.realm_drawing.proofs.Elements.{Any-append_cases, Any-append_left, Any-single}
+use Rattle.hook_chain.specs.Straight.{IsStraight, straight, placed}
+use Rattle.chain_laws.proofs.Elements.{Any-append_cases, Any-append_left, Any-single}
 use Rattle.realm_drawing.proofs.StraightPieces.{link_is_along, vertex_is_end}
 
 straight_is_straight : (id : ℕ) (s : GridSegment) → IsBefore s.a s.b → IsStraight (straight id s)

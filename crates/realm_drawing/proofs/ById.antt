@@ -1,11 +1,11 @@
 -- This file shows what is found in a map of originals by id, and how the list of them changes with it.
-use Rattle.std.proofs.Common.{◌≡◌, ◌≢◌, ℕ, suc, ◌<◌, ◌==◌, Bool, true, false, not, cond, Ordering, Less, Equal, Greater}
-use Rattle.std.proofs.Common.{List, [], ◌∷◌, ◌++◌, map, filter, All, length, get_or, Option, Some, None, nat_cmp}
+use Rattle.std.proofs.Common.{◌≡◌, ◌≢◌, ℕ, ◌<◌, ◌==◌, Bool, true, false, not, cond, Less, Greater}
+use Rattle.std.proofs.Common.{List, [], ◌∷◌, ◌++◌, map, filter, All, Some, None, nat_cmp}
 use Rattle.std.proofs.Common.{refl, sym, ap, subst, ◌∙◌, arith}
 use Rattle.std.specs.List.{AllByRecursion}
 use Rattle.std.specs.List.Sorted.{IsStrictlySortedBy}
 use Rattle.std.specs.Map.{keys_of, values_of, lookup, remove_entry, set_value}
-use Rattle.std.specs.Ordering.{is_eq, match_ordering}
+use Rattle.std.specs.Ordering.{match_ordering}
 use Rattle.std.specs.BTreeMap.{insert_entry, is_at}
 use Rattle.std.proofs.lemmas.Bool.Decides.{nat_tests}
 use Rattle.std.proofs.lemmas.List.Elements.{All-nil, All-cons, All-head, All-tail}
@@ -13,10 +13,10 @@ use Rattle.std.proofs.lemmas.Map.Keys.{sorted_head, sorted_tail}
 use Rattle.grid_base.specs.Point.{GridPoint}
 use Rattle.grid_base.specs.declared.original.Original.{Original}
 use Rattle.realm_drawing.specs.declared.originals.Placed.{Placed}
-use Rattle.realm_drawing.specs.Ids.{LacksId, IsChainAmong}
+use Rattle.hook_chain.specs.Ids.{LacksId, IsChainAmong}
 use Rattle.realm_drawing.specs.ById.{original_of, rechained}
-use Rattle.realm_drawing.proofs.Elements.{Any-head, Any-later, All-of_some}
-use Rattle.realm_drawing.proofs.KeptChanges.{none_to_remove}
+use Rattle.chain_laws.proofs.Elements.{Any-head, Any-later, All-of_some}
+use Rattle.chain_laws.proofs.Filters.{none_to_remove}
 
 -- ---- ids
 -- the originals of these entries

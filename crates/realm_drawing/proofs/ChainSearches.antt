@@ -4,7 +4,7 @@ use Rattle.std.proofs.lemmas.List.Elements.{All-nil, All-cons, All-head, All-tai
 use Rattle.grid_base.specs.Point.{GridPoint}
 use Rattle.grid_base.specs.declared.original.Original.{Original}
 use Rattle.realm_drawing.specs.declared.originals.Placed.{Placed}
-use Rattle.realm_drawing.proofs.Elements.{Any-head, Any-later, Contains-map}
+use Rattle.chain_laws.proofs.Elements.{Any-head, Any-later, Contains-map}
 
 -- the chains of the rest are chains of the originals, and where all of the rest have P, all have
 pub record IsSearching (P : List GridPoint → Type 0) (originals : List Original) (rest : List Placed) : Type 0 where

@@ -10,10 +10,10 @@ use Rattle.realm_drawing.specs.Draws.{DrawsAnew}
 use Rattle.realm_drawing.specs.Fresh.{ListsFresh}
 use Rattle.realm_drawing.specs.Kept.{drawn, AreKept, IsInOrder}
 use Rattle.realm_drawing.specs.Keyed.{KeyedPiece, keyed}
-use Rattle.realm_drawing.specs.Mending.{IsRedrawingsOf, redrawn_drawing}
-use Rattle.realm_drawing.specs.Redraws.{AreRedrawings, IsRedrawn, redrawn_original_by}
-use Rattle.realm_drawing.specs.declared.redrawing.Redrawings.{Redrawings}
-use Rattle.realm_drawing.proofs.Elements.{Any-weaker, Any-map}
+use Rattle.chain_laws.specs.Redraws.{IsRedrawingsOf, redrawn_drawing}
+use Rattle.chain_laws.specs.Redraws.{AreRedrawings, IsRedrawn, redrawn_original_by}
+use Rattle.chain_laws.specs.declared.redrawing.Redrawings.{Redrawings}
+use Rattle.chain_laws.proofs.Elements.{Any-weaker, Any-map}
 use Rattle.realm_drawing.proofs.KeptKeys.{key_from_piece}
 use Rattle.realm_drawing.proofs.KeptPieces.{key_is_listed, piece_of_registry}
 use Rattle.realm_drawing.proofs.StepChains.{ArePaths, link_stays, vertex_stays}

@@ -4,9 +4,9 @@ use Rattle.grid_base.specs.Point.{GridPoint}
 use Rattle.grid_base.specs.Drawing.{Drawing, HasViolation}
 use Rattle.grid_base.specs.declared.original.Original.{Original}
 use Rattle.grid_base.specs.declared.kinds.Step.{Step}
-use Rattle.realm_drawing.specs.Mending.{IsPermitted}
+use Rattle.hook_chain.specs.Mending.{IsPermitted}
 use Rattle.realm_drawing.specs.Found.{SomeLink, MendsPiece}
-use Rattle.realm_drawing.proofs.Mendings.{mending_is_violation, mending_is_permitted}
+use Rattle.chain_laws.proofs.Mendings.{mending_is_violation, mending_is_permitted}
 
 -- the link at which a step was found is a piece, so the step has its parts
 pub found_step : (d : Drawing) (k : ℕ) (o : Original) (chain : List GridPoint) (step : Step)

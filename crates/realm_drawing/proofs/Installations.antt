@@ -7,11 +7,12 @@ use Rattle.std.proofs.lemmas.List.{length-map, get_or-map, same_lists}
 use Rattle.std.proofs.lemmas.List.Elements.{All-head, All-tail}
 use Rattle.grid_base.specs.Point.{GridPoint}
 use Rattle.grid_base.specs.declared.original.Original.{Original}
-use Rattle.realm_drawing.specs.declared.redrawing.Redrawings.{Redrawings}
+use Rattle.chain_laws.specs.declared.redrawing.Redrawings.{Redrawings}
 use Rattle.realm_drawing.specs.declared.redrawing.Replacement.{Replacement}
 use Rattle.realm_drawing.specs.ById.{rechained}
-use Rattle.realm_drawing.specs.Redraws.{redrawn_original_by, IsReplacement, HasReplacement, AreReplacements}
-use Rattle.realm_drawing.proofs.Elements.{Any-cons_cases, Any-nil}
+use Rattle.chain_laws.specs.Redraws.{redrawn_original_by}
+use Rattle.realm_drawing.specs.Redraws.{IsReplacement, HasReplacement, AreReplacements}
+use Rattle.chain_laws.proofs.Elements.{Any-cons_cases, Any-nil}
 
 -- the original with this chain
 abbrev with_chain : Original → List GridPoint → Original

@@ -1,7 +1,6 @@
 -- This file shows that a drawing with one chain more, or without one, is kept where its registry follows.
-use Rattle.std.proofs.Common.{◌≡◌, ◌≢◌, ◌↔◌, ℕ, ◌<◌, List, [], ◌∷◌, ◌++◌, get_or, All, Any}
-use Rattle.std.proofs.Common.{Bool, true, false, not, ◌==◌, cond, zero, suc, true≢false}
-use Rattle.std.proofs.Common.{refl, sym, ap, ◌∙◌, subst, inl, inr, arith}
+use Rattle.std.proofs.Common.{◌≡◌, ◌≢◌, ℕ, ◌<◌, List, [], ◌∷◌, ◌++◌, get_or, All, false, not, ◌==◌, cond}
+use Rattle.std.proofs.Common.{sym, ap, ◌∙◌, subst, inl, inr, arith}
 use Rattle.std.specs.List.{filter}
 use Rattle.std.proofs.lemmas.Bool.Decides.{nat_tests}
 use Rattle.std.proofs.lemmas.List.{get_or_default, append-nil}
@@ -16,13 +15,14 @@ use Rattle.grid_base.proofs.Elements.{Contains-nil}
 use Rattle.hook_chain.specs.ValidChain.{ValidChain}
 use Rattle.component_registry.specs.Registry.{Holdings, IsSound}
 use Rattle.realm_drawing.specs.declared.shares.Share.{Share}
-use Rattle.realm_drawing.specs.Ids.{IsAscending, LacksId, IsChainOf}
-use Rattle.realm_drawing.specs.Chains.{HasValidChain}
+use Rattle.hook_chain.specs.Ids.{LacksId, IsChainOf}
+use Rattle.hook_chain.specs.StandingChains.{HasValidChain}
 use Rattle.realm_drawing.specs.Kept.{IsInOrder}
 use Rattle.realm_drawing.specs.Shares.{share_of, Held, HasMore, ListsAlso, IsOfChain}
 use Rattle.realm_drawing.specs.Leaving.{LosesShares}
-use Rattle.realm_drawing.proofs.Elements.{Any-head, Any-later, Any-nil, Any-single, Any-cons_cases, Any-append_cases}
-use Rattle.realm_drawing.proofs.Elements.{Any-append_left, Any-append_right, All-of_some}
+use Rattle.chain_laws.proofs.Elements.{Any-head, Any-single, Any-append_cases}
+use Rattle.chain_laws.proofs.Elements.{Any-append_left, Any-append_right, All-of_some}
+use Rattle.chain_laws.proofs.Filters.{Any-passes, other_id, none_to_remove}
 
 -- ---- one chain more
 -- the original with this chain
@@ -83,54 +83,7 @@ kept_with_chain points originals old new kept id s chain shares below valid list
       );
     }
 
--- ---- filters
--- x passes, and has P
-abbrev Passes : {X : Type 0} → (X → Bool) → (X → Type 0) → X → Type 0
-Passes p P x = (p x ≡ true) × P x
-
--- some element that passes has P where some element passes and has P
-Any-passes : {X : Type 0} (p : X → Bool) (P : X → Type 0) (xs : List X) → Any P (filter p xs) ↔ Any (Passes p P) xs
-Any-passes p P [] = (λ some. absurd (Any-nil P some), λ some. absurd (Any-nil (Passes p P) some))
-Any-passes p P (x ∷ xs) = by_first (p x) refl (Any-passes p P xs)
-  where
-    by_first : (b : Bool) → p x ≡ b → Any P (filter p xs) ↔ Any (Passes p P) xs
-        → Any P (cond b (x ∷ filter p xs) (filter p xs)) ↔ Any (Passes p P) (x ∷ xs)
-    by_first true is rest = (
-      λ some. elim (Any-cons_cases P x (filter p xs) some) [
-        | inl first ↦ Any-head (Passes p P) x xs (is, first)
-        | inr later ↦ Any-later (Passes p P) x xs (rest.0 later)
-      ],
-      λ some. elim (Any-cons_cases (Passes p P) x xs some) [
-        | inl first ↦ Any-head P x (filter p xs) first.1
-        | inr later ↦ Any-later P x (filter p xs) (rest.1 later)
-      ],
-    )
-    by_first false is rest = (
-      λ some. Any-later (Passes p P) x xs (rest.0 some),
-      λ some. elim (Any-cons_cases (Passes p P) x xs some) [
-        | inl first ↦ absurd (true≢false (sym first.0 ∙ is))
-        | inr later ↦ rest.1 later
-      ],
-    )
-
--- where all pass, all stay
-all_stay : {X : Type 0} (p : X → Bool) (xs : List X) → All (λ x. p x ≡ true) xs → filter p xs ≡ xs
-all_stay p [] all = refl
-all_stay p (x ∷ xs) all =
-    let rest = all_stay p xs (λ k d within. all (suc k) d (omega arith)) in
-    ap (λ b. cond b (x ∷ filter p xs) (filter p xs)) (all 0 x (omega arith)) ∙ ap (λ ys. x ∷ ys) rest
-
 -- ---- one chain less
--- what passes has another id
-other_id : (m n : ℕ) → (not (m == n) ≡ true) ↔ (m ≢ n)
-other_id m n = (λ passes same. grind (arith, nat_tests), λ other. grind (arith, nat_tests))
-
--- without an id that none has, the originals are the same
-pub none_to_remove : (originals : List Original) (id : ℕ) → LacksId originals id
-    → filter (λ o. not (o.id == id)) originals ≡ originals
-none_to_remove originals id lacks =
-    all_stay (λ o. not (o.id == id)) originals (λ k d within. (other_id (get_or originals k d).id id).1 (lacks k d within))
-
 -- an original that comes last and goes again leaves those that there were
 pub put_and_taken : (originals mid new : List Original) (o : Original) → All (λ p. p.id < o.id) originals
     → mid ≡ originals ++ o ∷ [] → new ≡ filter (λ p. not (p.id == o.id)) mid → new ≡ originals

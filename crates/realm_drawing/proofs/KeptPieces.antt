@@ -16,10 +16,10 @@ use Rattle.component_registry.specs.Registry.{Holding, Holdings, key_of, owners_
 use Rattle.component_registry.proofs.Registries.{piece_from_owner}
 use Rattle.component_registry.proofs.Uses.{sound_empty}
 use Rattle.realm_drawing.specs.Keyed as keyed_drawings
-use Rattle.realm_drawing.specs.Keyed.{KeyedPiece, KeyedDrawing, AreKeyed, keyed, empty_drawing, HasKey}
+use Rattle.realm_drawing.specs.Keyed.{KeyedPiece, AreKeyed, keyed, empty_drawing, HasKey}
 use Rattle.realm_drawing.specs.Kept.{drawn, IsInOrder}
 use Rattle.realm_drawing.specs.Shares.{KeepsKeys}
-use Rattle.realm_drawing.proofs.Elements.{Any-weaker, Any-nil}
+use Rattle.chain_laws.proofs.Elements.{Any-weaker, Any-nil}
 use Rattle.realm_drawing.proofs.Keys.{has_key}
 
 -- ---- the empty drawing

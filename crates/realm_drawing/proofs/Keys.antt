@@ -14,7 +14,7 @@ use Rattle.component_registry.specs.Registry.{Holding, Holdings, key_of}
 use Rattle.component_registry.proofs.Lookups.{this_segment_or_other, other_segment_passed}
 use Rattle.realm_drawing.specs.Keyed.{KeyedPiece, keyed}
 use Rattle.realm_drawing.specs.Kept.{keys_in}
-use Rattle.realm_drawing.proofs.Elements.{Contains-map, Contains-head}
+use Rattle.chain_laws.proofs.Elements.{Contains-map, Contains-head}
 
 abbrev Entry : Type 0
 Entry = GridSegment × Holding

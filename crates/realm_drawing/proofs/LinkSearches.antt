@@ -6,7 +6,7 @@ use Rattle.grid_base.specs.Point.{GridPoint}
 use Rattle.grid_base.specs.Segment.{GridSegment, segment_of}
 use Rattle.grid_base.specs.declared.kinds.Step.{Step}
 use Rattle.realm_drawing.specs.Found.{NoneBetween, SomeBetween, NoLink, SomeLink}
-use Rattle.realm_drawing.proofs.PathLinks.{no_link_at_first, link_more, link_from_take, made_between}
+use Rattle.chain_laws.proofs.PathLinks.{no_link_at_first, link_more, link_from_take, made_between}
 
 -- what is found of the segment that was made of two points is found between them
 pub found_between : (P : GridSegment → Type 0) (Q : Step → GridSegment → Type 0) (v w : GridPoint) (u : GridSegment)

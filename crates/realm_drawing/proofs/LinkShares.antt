@@ -7,8 +7,9 @@ use Rattle.grid_base.specs.Segment.{GridSegment, segment_of}
 use Rattle.grid_base.specs.Drawing.{HasLink}
 use Rattle.component_registry.specs.Registry.{Holdings}
 use Rattle.realm_drawing.specs.declared.shares.Share.{Share}
-use Rattle.realm_drawing.specs.Shares.{share_of, Held, ListsAlso, IsBetween, IsGained, IsOfChain}
-use Rattle.realm_drawing.proofs.PathLinks.{link_more, made_between}
+use Rattle.realm_drawing.specs.Shares.{share_of, Held, ListsAlso, IsGained, IsOfChain}
+use Rattle.hook_chain.specs.Chains.{IsBetween}
+use Rattle.chain_laws.proofs.PathLinks.{link_more, made_between}
 use Rattle.realm_drawing.proofs.ShareLists.{lists_one, lists_same, lists_both}
 
 -- ---- links

@@ -6,8 +6,9 @@ use Rattle.grid_base.specs.Segment.{GridSegment}
 use Rattle.grid_base.specs.Drawing.{IsLink, HasLink}
 use Rattle.hook_chain.specs.Redrawing.{redrawn}
 use Rattle.realm_drawing.specs.Passages.{IsPlaceAt, GoesFrom}
-use Rattle.realm_drawing.proofs.RedrawnLinks.{redrawn_without}
-use Rattle.realm_drawing.proofs.Stretches.{stretch, other_stretch}
+use Rattle.chain_laws.proofs.RedrawnLinks.{redrawn_without}
+use Rattle.chain_laws.specs.Stretches.{stretch}
+use Rattle.chain_laws.proofs.Stretches.{other_stretch}
 
 -- ---- places of links
 -- the link at k is t, one way or the other

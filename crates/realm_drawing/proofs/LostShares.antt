@@ -1,7 +1,6 @@
 -- This file shows that a registry loses the shares of a chain link by link, and that its pieces keep their keys then.
 use Rattle.std.proofs.Common.{◌≡◌, ◌⊎◌, ◌↔◌, ℕ, ◌+◌, ◌-◌, ◌<◌, ◌≤◌, List, [], ◌∷◌}
-use Rattle.std.proofs.Common.{length, get_or, Contains, Some}
-use Rattle.std.proofs.Common.{sym, ap, ap₂, ◌∙◌, inl, inr}
+use Rattle.std.proofs.Common.{length, get_or, Contains, Some, sym, ap, ap₂, ◌∙◌, inl, inr}
 use Rattle.std.specs.Option.{IsNone}
 use Rattle.std.proofs.lemmas.Option.{same_Some}
 use Rattle.grid_base.specs.Point.{GridPoint}
@@ -9,10 +8,11 @@ use Rattle.grid_base.specs.Segment.{GridSegment, segment_of}
 use Rattle.grid_base.proofs.Elements.{Contains-cases, Contains-nil}
 use Rattle.component_registry.specs.Registry.{Holdings, IsSound}
 use Rattle.realm_drawing.specs.declared.shares.Share.{Share}
-use Rattle.realm_drawing.specs.Shares.{share_of, KeepsKeys, HasFewer, IsBetween, IsOfChain}
+use Rattle.realm_drawing.specs.Shares.{share_of, KeepsKeys, HasFewer, IsOfChain}
+use Rattle.hook_chain.specs.Chains.{IsBetween}
 use Rattle.realm_drawing.specs.Leaving.{LosesShares}
-use Rattle.realm_drawing.proofs.Elements.{Contains-head}
-use Rattle.realm_drawing.proofs.PathLinks.{no_link_at_first, made_between}
+use Rattle.chain_laws.proofs.Elements.{Contains-head}
+use Rattle.chain_laws.proofs.PathLinks.{no_link_at_first, made_between}
 use Rattle.realm_drawing.proofs.LinkShares.{IsAmong, next_among, of_chain}
 use Rattle.realm_drawing.proofs.KeptKeys.{KeepsKeys-trans, piece_with_owners}
 

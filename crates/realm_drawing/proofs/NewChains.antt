@@ -7,15 +7,15 @@ use Rattle.grid_base.specs.Point.{GridPoint}
 use Rattle.grid_base.specs.declared.original.Original.{Original}
 use Rattle.component_registry.specs.Registry.{Holdings, owners_of}
 use Rattle.hook_chain.specs.Redrawing.{redrawn}
-use Rattle.realm_drawing.specs.declared.redrawing.Redrawing.{Redrawing}
-use Rattle.realm_drawing.specs.declared.redrawing.Redrawings.{Redrawings}
+use Rattle.chain_laws.specs.declared.redrawing.Redrawing.{Redrawing}
+use Rattle.chain_laws.specs.declared.redrawing.Redrawings.{Redrawings}
 use Rattle.realm_drawing.specs.declared.redrawing.Replacement.{Replacement}
 use Rattle.realm_drawing.specs.Kept.{HasOwnersOf}
-use Rattle.realm_drawing.specs.Redraws.{redrawn_also, redrawn_by, Becomes, AreRedrawings}
-use Rattle.realm_drawing.specs.Redraws.{IsReplacement, AreReplacements, AddsReplacements}
+use Rattle.chain_laws.specs.Redraws.{redrawn_also, redrawn_by, AreRedrawings}
+use Rattle.realm_drawing.specs.Redraws.{Becomes, IsReplacement, AreReplacements, AddsReplacements}
 use Rattle.realm_drawing.proofs.Owners.{owner_with, still_replaced}
-use Rattle.realm_drawing.proofs.RedrawnLinks.{has_link_or_not, redrawn_without}
-use Rattle.realm_drawing.proofs.StepLinks.{GoesWith}
+use Rattle.chain_laws.proofs.RedrawnLinks.{has_link_or_not, redrawn_without}
+use Rattle.chain_laws.proofs.StepLinks.{GoesWith}
 
 pub one_redrawing : (step : Redrawings) (originals : List Original) (r : Holdings) (list : List Replacement)
     → AreRedrawings step → HasOwnersOf originals r → step.second ≡ None

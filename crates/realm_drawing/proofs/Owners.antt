@@ -10,12 +10,13 @@ use Rattle.grid_base.specs.Drawing.{HasLink}
 use Rattle.grid_base.specs.declared.original.Original.{Original}
 use Rattle.grid_base.proofs.Elements.{Contains-nil}
 use Rattle.component_registry.specs.Registry.{Holdings, Owns}
-use Rattle.realm_drawing.specs.declared.redrawing.Redrawings.{Redrawings}
+use Rattle.chain_laws.specs.declared.redrawing.Redrawings.{Redrawings}
 use Rattle.realm_drawing.specs.declared.redrawing.Replacement.{Replacement}
-use Rattle.realm_drawing.specs.Ids.{LacksId, IsChainAmong}
+use Rattle.hook_chain.specs.Ids.{IsChainAmong}
 use Rattle.realm_drawing.specs.Kept.{HasOwnersOf}
-use Rattle.realm_drawing.specs.Redraws.{redrawn_by, IsReplacement, IsReplaced, AddsReplacements}
-use Rattle.realm_drawing.proofs.Elements.{Any-append_left}
+use Rattle.chain_laws.specs.Redraws.{redrawn_by}
+use Rattle.realm_drawing.specs.Redraws.{IsReplacement, IsReplaced, AddsReplacements}
+use Rattle.chain_laws.proofs.Elements.{Any-append_left}
 use Rattle.realm_drawing.proofs.OwnerShares.{Contains-next}
 
 -- ---- what is added

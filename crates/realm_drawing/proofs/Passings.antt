@@ -5,11 +5,12 @@ use Rattle.grid_base.specs.Point.{GridPoint}
 use Rattle.grid_base.specs.Segment.{GridSegment}
 use Rattle.grid_base.specs.Drawing.{HasLink}
 use Rattle.hook_chain.specs.Redrawing.{front, redrawn}
-use Rattle.realm_drawing.specs.Chains.{IsSomeChain}
+use Rattle.hook_chain.specs.StandingChains.{IsSomeChain}
 use Rattle.realm_drawing.specs.Passages.{IsPlaceAt, GoesFrom}
-use Rattle.realm_drawing.proofs.Progress.{one_place, chain_rises}
+use Rattle.chain_laws.proofs.Progress.{chain_rises}
+use Rattle.realm_drawing.proofs.Places.{one_place}
 use Rattle.realm_drawing.proofs.Links.{link_at, redrawn_at}
-use Rattle.realm_drawing.proofs.Stretches.{forth_stretch, back_stretch}
+use Rattle.chain_laws.proofs.Stretches.{forth_stretch, back_stretch}
 
 -- the next place
 at_next : (chain : List GridPoint) (k : ℕ) (d p : GridPoint) → IsPlaceAt chain p (k + 1) → get_or chain (suc k) d ≡ p

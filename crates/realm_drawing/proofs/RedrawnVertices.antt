@@ -6,10 +6,10 @@ use Rattle.grid_base.specs.Segment.{GridSegment}
 use Rattle.grid_base.proofs.Elements.{Contains-cases}
 use Rattle.hook_chain.specs.Chains.{RunsFrom}
 use Rattle.hook_chain.specs.Redrawing.{redrawn}
-use Rattle.realm_drawing.proofs.Elements.{Contains-head}
-use Rattle.realm_drawing.proofs.JoinedLinks.{BeginsWith}
-use Rattle.realm_drawing.proofs.RedrawnLinks.{redrawn_begins}
-use Rattle.realm_drawing.proofs.Stretches.{stretch}
+use Rattle.chain_laws.proofs.Elements.{Contains-head}
+use Rattle.chain_laws.proofs.JoinedLinks.{BeginsWith}
+use Rattle.chain_laws.proofs.RedrawnLinks.{redrawn_begins}
+use Rattle.chain_laws.specs.Stretches.{stretch}
 
 first_is_there : (v : GridPoint) (list : List GridPoint) → BeginsWith v list → Contains list v
 first_is_there v [] begins = absurd begins

@@ -14,7 +14,7 @@ use Rattle.component_registry.proofs.Lookups.{this_segment_or_other}
 use Rattle.component_registry.proofs.Registries.{same_from_owners}
 use Rattle.realm_drawing.specs.declared.shares.Share.{Share}
 use Rattle.realm_drawing.specs.Shares.{share_of, Held, KeepsKeys, HasMore, HasFewer}
-use Rattle.realm_drawing.proofs.Elements.{Contains-head}
+use Rattle.chain_laws.proofs.Elements.{Contains-head}
 use Rattle.realm_drawing.proofs.KeptKeys.{piece_with_owners, same_key, kept_with_more}
 
 -- ---- one share

@@ -1,17 +1,16 @@
 -- This file shows which shares are listed for a step.
-use Rattle.std.proofs.Common.{◌≡◌, Option, Some, None, List, [], All, Contains}
-use Rattle.std.proofs.Common.{sym, subst, inl, inr}
+use Rattle.std.proofs.Common.{◌≡◌, Option, Some, None, List, [], All, Contains, sym, subst, inl, inr}
 use Rattle.std.specs.Prelude.{IsSomeAnd}
 use Rattle.std.proofs.lemmas.List.Elements.{All-contains_itself, All-weaker}
 use Rattle.grid_base.proofs.Elements.{Contains-nil}
 use Rattle.component_registry.specs.Registry.{Holdings, owners_of}
-use Rattle.realm_drawing.specs.declared.redrawing.Redrawing.{Redrawing}
-use Rattle.realm_drawing.specs.declared.redrawing.Redrawings.{Redrawings}
+use Rattle.chain_laws.specs.declared.redrawing.Redrawing.{Redrawing}
+use Rattle.chain_laws.specs.declared.redrawing.Redrawings.{Redrawings}
 use Rattle.realm_drawing.specs.declared.shares.Share.{Share}
-use Rattle.realm_drawing.specs.Redraws.{AreRedrawings}
+use Rattle.chain_laws.specs.Redraws.{AreRedrawings, AnyOf}
 use Rattle.realm_drawing.specs.Shares.{Held, ListsAlso, IsGained}
-use Rattle.realm_drawing.specs.StepShares.{AnyOf, IsGainedBy, Lists}
-use Rattle.realm_drawing.proofs.StepLinks.{AnyOf-weaker, AnyOf-constant}
+use Rattle.realm_drawing.specs.StepShares.{IsGainedBy, Lists}
+use Rattle.chain_laws.proofs.StepLinks.{AnyOf-weaker, AnyOf-constant}
 
 -- the list has the shares with P by one redrawing, where there is no other
 pub listed_once : (P : Redrawing → Share → Type 0) (step : Redrawings) (list : List Share) → step.second ≡ None

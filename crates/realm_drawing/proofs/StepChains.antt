@@ -5,10 +5,10 @@ use Rattle.grid_base.specs.Segment.{GridSegment}
 use Rattle.grid_base.specs.Drawing.{HasLink}
 use Rattle.component_registry.proofs.Lookups.{this_segment_or_other}
 use Rattle.hook_chain.specs.Redrawing.{redrawn}
-use Rattle.realm_drawing.specs.Redraws.{IsPathFor, AreApart, IsRedrawn, redrawn_by}
-use Rattle.realm_drawing.specs.declared.redrawing.Redrawing.{Redrawing}
-use Rattle.realm_drawing.specs.declared.redrawing.Redrawings.{Redrawings}
-use Rattle.realm_drawing.proofs.RedrawnLinks.{redrawn_links}
+use Rattle.chain_laws.specs.Redraws.{IsPathFor, AreApart, IsRedrawn, redrawn_by}
+use Rattle.chain_laws.specs.declared.redrawing.Redrawing.{Redrawing}
+use Rattle.chain_laws.specs.declared.redrawing.Redrawings.{Redrawings}
+use Rattle.chain_laws.proofs.RedrawnLinks.{redrawn_links}
 use Rattle.realm_drawing.proofs.RedrawnVertices.{stays_in_redrawn}
 
 -- ---- one path

@@ -9,18 +9,18 @@ use Rattle.grid_base.specs.declared.original.Original.{Original}
 use Rattle.grid_base.proofs.Elements.{Contains-cases, Contains-nil, Contains-later}
 use Rattle.component_registry.specs.Registry.{Holdings, owners_of, Owns}
 use Rattle.component_registry.proofs.Lookups.{this_segment_or_other}
-use Rattle.realm_drawing.specs.declared.redrawing.Redrawings.{Redrawings}
-use Rattle.realm_drawing.specs.declared.redrawing.Redrawing.{Redrawing}
+use Rattle.chain_laws.specs.declared.redrawing.Redrawings.{Redrawings}
+use Rattle.chain_laws.specs.declared.redrawing.Redrawing.{Redrawing}
 use Rattle.realm_drawing.specs.declared.shares.Share.{Share}
 use Rattle.realm_drawing.specs.Kept.{HasOwnersOf}
-use Rattle.realm_drawing.specs.Redraws.{redrawn_by, redrawn_original_by, AreRedrawings}
+use Rattle.chain_laws.specs.Redraws.{redrawn_by, redrawn_original_by, AreRedrawings, AnyOf}
 use Rattle.realm_drawing.specs.Shares.{share_of, HasMore, HasFewer, IsGained, IsLost}
-use Rattle.realm_drawing.specs.StepShares.{AnyOf, IsGainedBy, IsLostBy, Lists}
-use Rattle.realm_drawing.proofs.Elements.{Any-weaker, Any-head, Any-later, Any-cons_cases, Any-nil}
-use Rattle.realm_drawing.proofs.Elements.{Contains-head}
-use Rattle.realm_drawing.proofs.RedrawnLinks.{has_link_or_not}
-use Rattle.realm_drawing.proofs.StepLinks.{AnyOf-weaker, AnyOf-constant, AnyOf-cases, AnyOf-decided, AnyOf-of_some}
-use Rattle.realm_drawing.proofs.StepLinks.{links_after, path_is_kept}
+use Rattle.realm_drawing.specs.StepShares.{IsGainedBy, IsLostBy, Lists}
+use Rattle.chain_laws.proofs.Elements.{Any-weaker, Any-head, Any-later, Any-cons_cases, Any-nil}
+use Rattle.chain_laws.proofs.Elements.{Contains-head}
+use Rattle.chain_laws.proofs.RedrawnLinks.{has_link_or_not}
+use Rattle.chain_laws.proofs.StepLinks.{AnyOf-weaker, AnyOf-constant, AnyOf-cases, AnyOf-decided, AnyOf-of_some}
+use Rattle.chain_laws.proofs.StepLinks.{links_after, path_is_kept}
 
 -- x is in the list or not
 in_list_or_not : (ids : List ℕ) (x : ℕ) → Contains ids x ⊎ (Contains ids x → ⊥)

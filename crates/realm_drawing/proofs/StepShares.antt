@@ -3,12 +3,12 @@ use Rattle.std.proofs.Common.{List, All, Contains, sym, subst}
 use Rattle.std.proofs.lemmas.List.Elements.{All-contains_itself, All-weaker}
 use Rattle.component_registry.specs.Registry.{Holdings, IsPiece, owners_of}
 use Rattle.component_registry.proofs.Registries.{piece_from_owner}
-use Rattle.realm_drawing.specs.declared.redrawing.Redrawings.{Redrawings}
+use Rattle.chain_laws.specs.declared.redrawing.Redrawings.{Redrawings}
 use Rattle.realm_drawing.specs.declared.shares.Share.{Share}
-use Rattle.realm_drawing.specs.Redraws.{AreRedrawings}
+use Rattle.chain_laws.specs.Redraws.{AreRedrawings}
 use Rattle.realm_drawing.specs.Shares.{IsLost}
 use Rattle.realm_drawing.specs.StepShares.{IsLostBy, Lists}
-use Rattle.realm_drawing.proofs.StepLinks.{AnyOf-weaker, AnyOf-constant}
+use Rattle.chain_laws.proofs.StepLinks.{AnyOf-weaker, AnyOf-constant}
 
 pub lost_were_pieces : (step : Redrawings) (r : Holdings) (list : List Share) → AreRedrawings step
     → Lists list (IsLostBy r step) → All (λ y. IsPiece r y.piece) list

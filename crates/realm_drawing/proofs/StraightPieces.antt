@@ -1,13 +1,12 @@
 -- This file shows what the vertices and the links of straight originals are.
-use Rattle.std.proofs.Common.{◌≡◌, [], ◌∷◌, Contains}
-use Rattle.std.proofs.Common.{sym, ap₂, subst, inl, inr}
+use Rattle.std.proofs.Common.{◌≡◌, [], ◌∷◌, Contains, sym, ap₂, subst, inl, inr}
 use Rattle.grid_base.specs.Point.{GridPoint, IsBefore}
 use Rattle.grid_base.specs.Segment.{GridSegment, IsEnd}
 use Rattle.grid_base.specs.Drawing.{HasLink}
 use Rattle.grid_base.specs.declared.original.Original.{Original}
 use Rattle.grid_base.proofs.Orders.{IsBefore-asym, segment_between}
 use Rattle.grid_base.proofs.Elements.{Contains-cases, Contains-nil}
-use Rattle.realm_drawing.specs.Straight.{IsStraight, along}
+use Rattle.hook_chain.specs.Straight.{IsStraight, along}
 
 -- ---- one original
 -- the link of an original, turned round, is no segment whose lesser end comes first

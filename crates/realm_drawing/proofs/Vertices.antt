@@ -10,11 +10,11 @@ use Rattle.grid_base.specs.declared.original.Original.{Original}
 use Rattle.grid_base.proofs.Elements.{Contains-later}
 use Rattle.component_registry.specs.Registry as registries
 use Rattle.component_registry.specs.Registry.{Holdings}
-use Rattle.realm_drawing.specs.Chains.{HasValidChain}
+use Rattle.hook_chain.specs.StandingChains.{HasValidChain}
 use Rattle.realm_drawing.specs.Kept.{IsInOrder}
-use Rattle.realm_drawing.proofs.Elements.{Contains-head}
+use Rattle.chain_laws.proofs.Elements.{Contains-head}
 use Rattle.realm_drawing.proofs.KeptPieces.{piece_of_registry}
-use Rattle.realm_drawing.proofs.PathEnds.{vertex_is_link_end}
+use Rattle.chain_laws.proofs.PathEnds.{vertex_is_link_end}
 
 -- ---- from a link to its ends
 -- the ends of a link are vertices of the chain

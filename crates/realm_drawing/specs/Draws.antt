@@ -1,17 +1,11 @@
 -- What a step draws: the pieces and the points that a drawing has once it is taken and may not have had before.
-use Rattle.std.specs.Prelude.{◌≡◌, ◌≢◌, ◌⊎◌, ℕ, List, Contains, Any, AllPairs}
+use Rattle.std.specs.Prelude.{◌≢◌, ◌⊎◌, ℕ, List, Contains, Any, AllPairs}
 use Rattle.grid_base.specs.Point.{GridPoint}
 use Rattle.grid_base.specs.Segment.{GridSegment, IsEnd}
 use Rattle.grid_base.specs.Drawing.{IsPoint, IsPiece}
 use Rattle.grid_base.specs.declared.kinds.Step.{Step}
-use Rattle.grid_base.specs.declared.kinds.Step.TheVariants.{Split, Meet, Corner}
+use Rattle.hook_chain.specs.Mending.{IsPieceOf}
 use Rattle.realm_drawing.specs.Keyed.{KeyedPiece, KeyedDrawing, keyed, HasKey}
-
--- s is a piece of the step
-abbrev pub IsPieceOf : Step → GridSegment → Type 0
-IsPieceOf (Split p t) s = s ≡ t
-IsPieceOf (Meet t u x) s = (s ≡ t) ⊎ (s ≡ u)
-IsPieceOf (Corner t u) s = (s ≡ t) ⊎ (s ≡ u)
 
 -- the step leads from the old drawing to the new one, and the list has the pieces that it draws anew, with their keys
 pub record DrawsAnew (step : Step) (old new : KeyedDrawing) (list : List KeyedPiece) : Type 0 where

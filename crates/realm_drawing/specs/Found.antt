@@ -6,8 +6,8 @@ use Rattle.grid_base.specs.Crossing.{Inside, Cross}
 use Rattle.grid_base.specs.Drawing.{Drawing, HasLink, IsPoint, IsPiece}
 use Rattle.grid_base.specs.declared.original.Original.{Original}
 use Rattle.grid_base.specs.declared.kinds.Step.{Step}
-use Rattle.realm_drawing.specs.Mending.{IsMending, HasParts}
-use Rattle.realm_drawing.specs.Shares.{IsBetween}
+use Rattle.hook_chain.specs.Mending.{IsMending, HasParts}
+use Rattle.hook_chain.specs.Chains.{IsBetween}
 
 -- the drawing with these explicit points and originals
 abbrev pub drawing_of : List GridPoint → List Original → Drawing

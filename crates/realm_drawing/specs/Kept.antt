@@ -6,8 +6,8 @@ use Rattle.grid_base.specs.Segment.{GridSegment}
 use Rattle.grid_base.specs.Drawing.{HasLink}
 use Rattle.grid_base.specs.declared.original.Original.{Original}
 use Rattle.component_registry.specs.Registry.{Holdings, IsSound, Owns}
-use Rattle.realm_drawing.specs.Ids.{IsAscending}
-use Rattle.realm_drawing.specs.Chains.{HasValidChain}
+use Rattle.hook_chain.specs.Ids.{IsAscending}
+use Rattle.hook_chain.specs.StandingChains.{HasValidChain}
 use Rattle.realm_drawing.specs.Keyed.{KeyedPiece, KeyedDrawing, keyed}
 
 -- the pieces of a registry with their keys

@@ -1,13 +1,9 @@
 -- Where a chain passes a point or a piece.
 use Rattle.std.specs.Prelude.{◌≡◌, ◌<◌, ◌+◌, ℕ, List, length, HoldsAt}
-use Rattle.grid_base.specs.Point.{GridPoint, gap}
+use Rattle.grid_base.specs.Point.{GridPoint}
 use Rattle.grid_base.specs.Segment.{GridSegment}
 use Rattle.realm_drawing.specs.declared.passages.Passage.{Passage}
 use Rattle.realm_drawing.specs.declared.passages.Passage.TheVariants.{Forth, Back}
-
--- how far a chain from a has come at p: each column counts one, and each row
-abbrev pub progress : GridPoint → GridPoint → ℕ
-progress a p = p.x + gap p.y a.y
 
 -- p stands at place k of the chain
 pub record IsPlaceAt (chain : List GridPoint) (p : GridPoint) (k : ℕ) : Type 0 where

@@ -2,7 +2,7 @@
 use Rattle.std.specs.Prelude.{◌≡◌, ◌⊎◌, ◌↔◌, ℕ, List, Contains, Some}
 use Rattle.grid_base.specs.Point.{GridPoint, IsBefore}
 use Rattle.grid_base.specs.Segment.{GridSegment}
-use Rattle.grid_base.specs.Drawing.{IsLink, HasLink}
+use Rattle.grid_base.specs.Drawing.{HasLink}
 use Rattle.component_registry.specs.Registry.{Holdings, key_of, Owns}
 use Rattle.realm_drawing.specs.declared.shares.Share.{Share}
 
@@ -33,10 +33,6 @@ HasFewer old new list =
 -- the new list has what the old one has, and each share with P
 abbrev pub ListsAlso : List Share → List Share → (Share → Type 0) → Type 0
 ListsAlso old new P = (y : Share) → Contains new y ↔ (Contains old y ⊎ P y)
-
--- t is the segment between v and w
-abbrev pub IsBetween : GridSegment → GridPoint → GridPoint → Type 0
-IsBetween t v w = IsLink t v w × IsBefore t.a t.b
 
 -- with the path one of the owners gains y: it is of a link of the path, and isn't held yet
 pub record IsGained (r : Holdings) (owners : List ℕ) (path : List GridPoint) (y : Share)

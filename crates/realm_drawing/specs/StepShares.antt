@@ -1,14 +1,10 @@
 -- Which shares a step adds and takes away. No public clause cites this file.
-use Rattle.std.specs.Prelude.{◌⊎◌, ◌↔◌, List, Contains, IsSomeAnd}
+use Rattle.std.specs.Prelude.{◌↔◌, List, Contains}
 use Rattle.component_registry.specs.Registry.{Holdings, owners_of}
-use Rattle.realm_drawing.specs.declared.redrawing.Redrawing.{Redrawing}
-use Rattle.realm_drawing.specs.declared.redrawing.Redrawings.{Redrawings}
+use Rattle.chain_laws.specs.Redraws.{AnyOf}
+use Rattle.chain_laws.specs.declared.redrawing.Redrawings.{Redrawings}
 use Rattle.realm_drawing.specs.declared.shares.Share.{Share}
 use Rattle.realm_drawing.specs.Shares.{IsGained, IsLost}
-
--- P holds of a redrawing of the step
-abbrev pub AnyOf : Redrawings → (Redrawing → Type 0) → Type 0
-AnyOf step P = P step.first ⊎ IsSomeAnd step.second P
 
 -- y is a share that an original gains by the step
 abbrev pub IsGainedBy : Holdings → Redrawings → Share → Type 0

@@ -2,7 +2,8 @@
 //! by one.
 ghost use Rattle.std.specs.Prelude.{◌≡◌};
 ghost use Rattle.component_registry.specs.Registry.{IsSound};
-ghost use Rattle.realm_drawing.specs.Shares.{KeepsKeys, IsBetween, IsOfChain};
+ghost use Rattle.realm_drawing.specs.Shares.{KeepsKeys, IsOfChain};
+ghost use Rattle.hook_chain.specs.Chains.{IsBetween};
 ghost use Rattle.realm_drawing.specs.Leaving.{LosesShares};
 
 use crate::shares::{Share, drop_shares};

@@ -2,7 +2,7 @@
 ghost use Rattle.std.specs.Prelude.{◌≡◌, ◌↔◌, ◌<◌, ◌==◌, ◌++◌, ◌∷◌, [], All, map, filter, not};
 ghost use Rattle.std.specs.Prelude.{IsNone, IfSome, IfOk, OnOk, OnErr};
 ghost use Rattle.std.specs.Map.Iter.{ShowsInOrder, deref};
-ghost use Rattle.realm_drawing.specs.Ids.{LacksId, IsChainAmong};
+ghost use Rattle.hook_chain.specs.Ids.{LacksId, IsChainAmong};
 ghost use Rattle.realm_drawing.specs.ById.{rechained};
 
 use grid_base::{Chain, NoMemory, Point, Segment};

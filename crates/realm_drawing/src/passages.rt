@@ -5,12 +5,12 @@ ghost use Rattle.std.specs.Prelude.{length, take, drop, reverse};
 ghost use Rattle.grid_base.specs.Drawing.{HasLink};
 ghost use Rattle.hook_chain.specs.Chains.{RunsFrom};
 ghost use Rattle.hook_chain.specs.Redrawing.{redrawn};
-ghost use Rattle.realm_drawing.specs.Chains.{IsSomeChain};
+ghost use Rattle.hook_chain.specs.StandingChains.{IsSomeChain};
 ghost use Rattle.realm_drawing.specs.Redraws.{Becomes};
-ghost use Rattle.realm_drawing.specs.Passages as passages;
+ghost use Rattle.hook_chain.specs.Measure as measure;
 ghost use Rattle.realm_drawing.specs.Passages.{IsPlaceAt, IsOnlyPlace, PassesAt};
 
-use crate::redrawing::Redrawing;
+use chain_laws::Redrawing;
 use grid_base::{Chain, NoMemory, Point, Segment};
 use std::alloc::Global;
 
@@ -126,7 +126,7 @@ fn is_before(chain: &[Point], place: usize, p: &Point) -> bool
 
 // How far a chain from `first` has come at `p`: each column counts one, and each row.
 fn progress(first: &Point, p: &Point) -> u32
-    ensures { result ≡ passages.progress first.now p.now }
+    ensures { result ≡ measure.progress first.now p.now }
 {
     p.x() + p.y().abs_diff(first.y())
 }

@@ -1,10 +1,10 @@
 //! The paths of a step, put in the place of its pieces in every chain that has them.
 ghost use Rattle.std.specs.Prelude.{◌≡◌, IfOk, OnOk, OnErr, All, Contains, map};
 ghost use Rattle.component_registry.specs.Registry.{owners_of};
-ghost use Rattle.realm_drawing.specs.Chains.{HasValidChain, IsSomeChain};
+ghost use Rattle.hook_chain.specs.StandingChains.{HasValidChain, IsSomeChain};
 ghost use Rattle.realm_drawing.specs.Kept.{AreKept};
-ghost use Rattle.realm_drawing.specs.Redraws.{redrawn_by, redrawn_original_by, Becomes, AreRedrawings};
-ghost use Rattle.realm_drawing.specs.Redraws.{AreReplacements, AddsReplacements};
+ghost use Rattle.chain_laws.specs.Redraws.{redrawn_by, redrawn_original_by, AreRedrawings};
+ghost use Rattle.realm_drawing.specs.Redraws.{Becomes, AreReplacements, AddsReplacements};
 ghost use Rattle.realm_drawing.specs.Shares.{KeepsKeys, ListsAlso, IsGained, IsLost};
 ghost use Rattle.realm_drawing.specs.Fresh.{ListsFresh};
 ghost use Rattle.realm_drawing.specs.StepShares.{Lists, IsGainedBy, IsLostBy};
@@ -14,23 +14,10 @@ use crate::originals::Originals;
 use crate::passages::with_path;
 use crate::shares;
 use crate::shares::{Share, add_shares, drop_shares, gained, lost};
+use chain_laws::{Redrawing, Redrawings};
 use component_registry::Registry;
-use grid_base::{Chain, NoMemory, Point, Segment};
+use grid_base::{Chain, NoMemory, Point};
 use std::alloc::Global;
-
-/// A piece, and the path that is to stand in its place, from its lesser end to its greater.
-#[derive(Drop)]
-pub(crate) struct Redrawing {
-    pub(crate) piece: Segment,
-    pub(crate) path: Chain,
-}
-
-/// The one or two redrawings of a step, the second after the first.
-#[derive(Drop)]
-pub(crate) struct Redrawings {
-    pub(crate) first: Redrawing,
-    pub(crate) second: Option<Redrawing>,
-}
 
 /// A chain that is to stand for the original with this id.
 #[derive(Drop)]

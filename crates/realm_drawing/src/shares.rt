@@ -5,7 +5,8 @@ ghost use Rattle.component_registry.specs.Registry as registries;
 ghost use Rattle.component_registry.specs.Registry.{IsPiece, IsSound, Owns};
 ghost use Rattle.grid_base.specs.Drawing.{HasLink, IsLink};
 ghost use Rattle.realm_drawing.specs.Shares.{share_of, Held, KeepsKeys, HasMore, HasFewer};
-ghost use Rattle.realm_drawing.specs.Shares.{ListsAlso, IsBetween, IsGained, IsLost, IsOfChain};
+ghost use Rattle.realm_drawing.specs.Shares.{ListsAlso, IsGained, IsLost, IsOfChain};
+ghost use Rattle.hook_chain.specs.Chains.{IsBetween};
 ghost use Rattle.realm_drawing.specs.Fresh.{ListsFresh, ListsIfNew};
 
 use crate::keyed::KeyedPiece;

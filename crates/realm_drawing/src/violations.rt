@@ -4,13 +4,13 @@ ghost use Rattle.std.specs.Prelude.{◌↔◌, MatchOption, IsNone, IfSome, All,
 ghost use Rattle.grid_base.specs.Point.{GridPoint};
 ghost use Rattle.grid_base.specs.Crossing.{Inside, Cross};
 ghost use Rattle.grid_base.specs.Drawing.{IsPoint, HasViolation};
-ghost use Rattle.realm_drawing.specs.Mending.{MendsCrossing, IsPermitted};
+ghost use Rattle.hook_chain.specs.Mending.{MendsCrossing, IsPermitted};
 ghost use Rattle.realm_drawing.specs.Found.{drawing_of, NoLink, SomeLink, NoneBetween, SomeBetween};
 ghost use Rattle.realm_drawing.specs.Found.{IsViolated, MendsPiece};
 
 use crate::explicit::ExplicitPoints;
-use crate::mending::crossing_step;
 use crate::originals::Originals;
+use chain_laws::crossing_step;
 use grid_base::{Point, Segment, Step, in_side};
 
 // A step that mends a violation, and may be taken; none where there is no violation.

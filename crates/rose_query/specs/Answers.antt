@@ -11,7 +11,7 @@ use Rattle.line_grammar.specs.declared.command.Query.{Query}
 use Rattle.line_grammar.specs.declared.command.Query.TheVariants.{Realm, Show, Chain, Eval, Trace, Ask, Faces}
 use Rattle.line_grammar.specs.declared.command.Query.TheVariants.{Sum, Decompose, Overlay, Fusion}
 use Rattle.line_grammar.specs.declared.command.Query.TheVariants.{Num as Measure}
-use Rattle.realm_drawing.specs.Ids.{LacksId, IsChainOf}
+use Rattle.hook_chain.specs.Ids.{LacksId, IsChainOf}
 use Rattle.realm_insert.specs.State.{State, kept_trace}
 use Rattle.realm_insert.specs.Operands.{LacksName, LacksOperand, HasWrongKinds, IsMadeOfNamed}
 use Rattle.realm_insert.specs.Values.{IsGeometryNamed}

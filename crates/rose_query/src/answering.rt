@@ -1,6 +1,6 @@
 //! What queries are answered. They read the engine and no file.
 ghost use Rattle.std.specs.Prelude.{◌≡◌, ◌↔◌, false, IfOk, IfSome, IsNone};
-ghost use Rattle.realm_drawing.specs.Ids.{LacksId, IsChainOf};
+ghost use Rattle.hook_chain.specs.Ids.{LacksId, IsChainOf};
 ghost use Rattle.line_grammar.specs.declared.command.Query.TheVariants.{Realm, Show, Chain, Trace};
 ghost use Rattle.rose_query.specs.Answers.{AnswersQuery};
 

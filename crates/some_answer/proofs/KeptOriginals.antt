@@ -6,9 +6,9 @@ use Rattle.grid_base.specs.Drawing.{Drawing}
 use Rattle.grid_base.specs.declared.kinds.Step.{Step}
 use Rattle.grid_base.specs.declared.original.Original.{Original}
 use Rattle.hook_chain.specs.Steps.{Permitted, Settles}
-use Rattle.realm_drawing.specs.Redraws.{redrawn_original_by}
-use Rattle.realm_drawing.proofs.RedrawnOriginals.{redrawn_ascending, redrawn_all_valid}
-use Rattle.realm_drawing.proofs.StepPaths.{step_paths}
+use Rattle.chain_laws.specs.Redraws.{redrawn_original_by}
+use Rattle.chain_laws.proofs.RedrawnOriginals.{redrawn_ascending, redrawn_all_valid}
+use Rattle.chain_laws.proofs.StepPaths.{step_paths}
 use Rattle.some_answer.proofs.OriginalsInRow.{AreInRow}
 
 -- what a step leaves as it is

@@ -8,7 +8,7 @@ use Rattle.grid_base.proofs.Signs.{natural_order}
 use Rattle.line_grammar.specs.Spellable.{IsSpellableChange}
 use Rattle.line_grammar.specs.declared.command.Change.{Change}
 use Rattle.hook_chain.specs.Steps.{Settles}
-use Rattle.realm_drawing.proofs.StandingChains.{all_stand}
+use Rattle.chain_laws.proofs.StandingChains.{all_stand}
 use Rattle.rose_predicates.proofs.Truths.{each}
 use Rattle.record_codec.specs.Traces.{IsTrace}
 use Rattle.realm_insert.specs.Next.{Next}

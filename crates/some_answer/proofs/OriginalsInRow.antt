@@ -10,11 +10,11 @@ use Rattle.grid_base.specs.Drawing.{Drawing, IsPoint}
 use Rattle.grid_base.specs.declared.original.Original.{Original}
 use Rattle.grid_base.proofs.Elements.{Contains-here, Contains-later}
 use Rattle.hook_chain.specs.Chains.{RunsFrom}
-use Rattle.realm_drawing.specs.Chains.{HasValidChain}
-use Rattle.realm_drawing.specs.Ids.{IsAscending}
-use Rattle.realm_drawing.specs.Straight.{straight, placed, along}
-use Rattle.realm_drawing.proofs.Boxes.{read_in_box}
-use Rattle.realm_drawing.proofs.StandingChains.{straight_is_valid}
+use Rattle.hook_chain.specs.StandingChains.{HasValidChain}
+use Rattle.hook_chain.specs.Ids.{IsAscending}
+use Rattle.hook_chain.specs.Straight.{straight, placed, along}
+use Rattle.chain_laws.proofs.Boxes.{read_in_box}
+use Rattle.chain_laws.proofs.StandingChains.{straight_is_valid}
 use Rattle.value_geometry.proofs.Counts.{AllPairs-head, AllPairs-tail}
 use Rattle.realm_insert.specs.Changes.{placed_all}
 use Rattle.realm_insert.specs.Snapshots.{IsValidState}

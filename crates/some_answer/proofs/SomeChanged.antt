@@ -1,7 +1,6 @@
 -- This file shows what a change makes of a drawing before the first step, and that it is on the grid.
 use Rattle.std.proofs.Common.{◌≢◌, ℕ, ◌+◌, ◌≤◌, not, ◌==◌, List, ◌++◌, length, All, AllPairs, refl, sym, ap}
-use Rattle.std.proofs.Common.{subst, inl, inr}
-use Rattle.std.proofs.Common.{arith}
+use Rattle.std.proofs.Common.{subst, inl, inr, arith}
 use Rattle.std.proofs.lemmas.List.Elements.{All-contains}
 use Rattle.std.proofs.lemmas.List.Sums.{length-filter, count_by-le-length}
 use Rattle.grid_base.specs.Point.{GridPoint, OnGrid, IsBefore}
@@ -10,7 +9,7 @@ use Rattle.grid_base.specs.declared.original.Original.{Original}
 use Rattle.grid_base.proofs.Ends.{same_or_not}
 use Rattle.line_grammar.specs.declared.command.Change.{Change}
 use Rattle.line_grammar.specs.declared.command.Change.TheVariants.{Unpoint, Delete}
-use Rattle.realm_drawing.specs.Changed.{without_id}
+use Rattle.hook_chain.specs.Changed.{without_id}
 use Rattle.rose_overlay.proofs.Picks.{either_append}
 use Rattle.rose_predicates.proofs.Truths.{each}
 use Rattle.realm_insert.specs.Changes.{IsChangedTo, IsExplicitAfter, placed_all}

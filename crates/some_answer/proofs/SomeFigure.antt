@@ -1,7 +1,6 @@
 -- This file shows that a change without a cause before the limits draws a figure, which is on the grid.
 use Rattle.std.proofs.Common.{◌≡◌, ◌↔◌, ℕ, ◌<◌, ◌≤◌, List, [], ◌∷◌, get_or, map, All, Any, Option, None}
-use Rattle.std.proofs.Common.{Result, Ok, Err}
-use Rattle.std.proofs.Common.{IfOk, refl, sym, subst, inl, inr}
+use Rattle.std.proofs.Common.{Result, Ok, Err, IfOk, refl, sym, subst, inl, inr}
 use Rattle.std.specs.Prelude.{option_map}
 use Rattle.std.proofs.lemmas.List.{get_or_default}
 use Rattle.std.proofs.lemmas.List.Elements.{All-nil, All-cons, All-map}
@@ -14,7 +13,7 @@ use Rattle.line_grammar.specs.declared.command.At.{At}
 use Rattle.line_grammar.specs.declared.command.Change.{Change}
 use Rattle.line_grammar.specs.declared.command.Change.TheVariants.{Point, Unpoint, Segment, Points}
 use Rattle.line_grammar.specs.declared.command.Change.TheVariants.{Lines, Regions, Let, Drop, Delete}
-use Rattle.realm_drawing.proofs.PathLinks.{segment_of-between}
+use Rattle.chain_laws.proofs.PathLinks.{segment_of-between}
 use Rattle.rose_values.specs.Geometry.{kind_of}
 use Rattle.rose_values.specs.Kinds.{result_kind_of}
 use Rattle.rose_values.specs.declared.geometry.Geometry.{Geometry}

@@ -12,8 +12,8 @@ use Rattle.grid_base.specs.declared.original.Original.{Original}
 use Rattle.grid_base.proofs.RealmLaw.{piece_ends}
 use Rattle.segment_envelope.proofs.MeetPoints.{meet_point_near}
 use Rattle.hook_chain.specs.Steps.{Permitted, Settles}
-use Rattle.realm_drawing.specs.Measure.{most_links}
-use Rattle.realm_drawing.specs.Straight.{along}
+use Rattle.hook_chain.specs.Measure.{most_links}
+use Rattle.hook_chain.specs.Straight.{along}
 use Rattle.record_codec.specs.Traces.{IsSegment, IsStep, IsTrace}
 use Rattle.drawing_settles.proofs.Settling.{short}
 use Rattle.some_answer.proofs.OriginalsInRow.{AreInRow, box_on_grid, drawn_on_grid}

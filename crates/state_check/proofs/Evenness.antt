@@ -13,7 +13,7 @@ use Rattle.grid_base.specs.Point.{GridPoint, IsBefore, is_point, point_cmp}
 use Rattle.grid_base.specs.Border.{is_end}
 use Rattle.grid_base.specs.declared.original.Original.{Original}
 use Rattle.grid_base.proofs.Orders.{point_cmp-total, point_cmp-Less, is_point-same, is_point-itself, IsBefore-asym}
-use Rattle.realm_drawing.specs.Straight.{along}
+use Rattle.hook_chain.specs.Straight.{along}
 use Rattle.value_geometry.proofs.Counts.{AllPairs-head, AllPairs-tail, count_first, count_yes, count_no}
 use Rattle.state_check.specs.Pairs.{are_pairs, times, IsEvenList, ends_of}
 

@@ -12,10 +12,10 @@ use Rattle.grid_base.specs.declared.original.Original.{Original}
 use Rattle.grid_base.proofs.Elements.{same_place}
 use Rattle.hook_chain.specs.Chains.{RunsFrom}
 use Rattle.hook_chain.specs.ValidChain.{ValidChain}
-use Rattle.realm_drawing.specs.Chains.{AllStand, IsChainFor}
-use Rattle.realm_drawing.specs.Ids.{IsAscending, IsChainOf, LacksId}
-use Rattle.realm_drawing.specs.Straight.{along}
-use Rattle.realm_drawing.proofs.Ends.{ends_by_leads}
+use Rattle.hook_chain.specs.StandingChains.{AllStand, IsChainFor}
+use Rattle.hook_chain.specs.Ids.{IsAscending, IsChainOf, LacksId}
+use Rattle.hook_chain.specs.Straight.{along}
+use Rattle.chain_laws.proofs.Ends.{ends_by_leads}
 use Rattle.value_geometry.specs.Parts.{AreOriginals, HasEvenOriginals}
 use Rattle.state_check.specs.Pairs.{HasEnds, HasEndsOf, IsEvenList, ends_of, times}
 use Rattle.state_check.proofs.Evenness.{times_among_ends}

@@ -1,7 +1,6 @@
 -- This file shows what a drawing has become where originals are placed with their chains, and points are made explicit.
 use Rattle.std.proofs.Common.{◌≡◌, ◌↔◌, ℕ, ◌+◌, ◌<◌, ◌≤◌, List, [], ◌∷◌, ◌++◌, length, get_or, take, take_all, All, AllPairs}
-use Rattle.std.proofs.Common.{Contains}
-use Rattle.std.proofs.Common.{refl, sym, ap, ap₂, subst, ◌∙◌, inl, inr, arith}
+use Rattle.std.proofs.Common.{Contains, refl, sym, ap, ap₂, subst, ◌∙◌, inl, inr, arith}
 use Rattle.std.proofs.lemmas.List.{take_more, get_or-take, length-take}
 use Rattle.std.proofs.lemmas.List.Elements.{Contains-append_left, Contains-push, Contains-push_cases}
 use Rattle.grid_base.specs.Point.{GridPoint, IsBefore}
@@ -12,12 +11,12 @@ use Rattle.grid_base.proofs.Elements.{same_place}
 use Rattle.grid_base.proofs.Orders.{IsBefore-asym, segment_between}
 use Rattle.hook_chain.specs.Chains.{RunsFrom}
 use Rattle.hook_chain.specs.ValidChain.{ValidChain}
-use Rattle.realm_drawing.specs.Changed.{PlacesChain, with_chain}
-use Rattle.realm_drawing.specs.Chains.{HasValidChain}
-use Rattle.realm_drawing.specs.Ids.{IsAscending}
+use Rattle.hook_chain.specs.Changed.{PlacesChain, with_chain}
+use Rattle.hook_chain.specs.StandingChains.{HasValidChain}
+use Rattle.hook_chain.specs.Ids.{IsAscending}
 use Rattle.realm_drawing.specs.Keyed.{KeyedDrawing, AddsPoint}
-use Rattle.realm_drawing.specs.Straight.{along}
-use Rattle.realm_drawing.proofs.Ends.{ends_by_leads}
+use Rattle.hook_chain.specs.Straight.{along}
+use Rattle.chain_laws.proofs.Ends.{ends_by_leads}
 use Rattle.rose_overlay.proofs.Sorts.{one_list}
 use Rattle.state_check.specs.Drawable.{drawing_with}
 use Rattle.state_check.specs.Pairs.{IsFromTo}

@@ -3,8 +3,8 @@ use Rattle.std.specs.Prelude.{List, AllPairs}
 use Rattle.grid_base.specs.Point.{GridPoint, IsBefore}
 use Rattle.grid_base.specs.Drawing.{Drawing}
 use Rattle.grid_base.specs.declared.original.Original.{Original}
-use Rattle.realm_drawing.specs.Chains.{AllValid}
-use Rattle.realm_drawing.specs.Ids.{IsAscending}
+use Rattle.hook_chain.specs.StandingChains.{AllValid}
+use Rattle.hook_chain.specs.Ids.{IsAscending}
 
 -- these explicit points and these originals
 abbrev pub drawing_with : List GridPoint → List Original → Drawing

@@ -1,9 +1,9 @@
 //! Drawings of given originals and explicit points.
 ghost use Rattle.std.specs.Prelude.{◌≡◌, ◌↔◌, ◌++◌, ◌∷◌, [], IsTrue, All, AllPairs, Err, IfOk, OnOk, MatchOption};
 ghost use Rattle.grid_base.specs.Point.{IsBefore};
-ghost use Rattle.realm_drawing.specs.Chains.{HasValidChain};
-ghost use Rattle.realm_drawing.specs.Ids.{IsAscending};
-ghost use Rattle.realm_drawing.specs.Straight.{AllBelow};
+ghost use Rattle.hook_chain.specs.StandingChains.{HasValidChain};
+ghost use Rattle.hook_chain.specs.Ids.{IsAscending};
+ghost use Rattle.hook_chain.specs.Straight.{AllBelow};
 ghost use Rattle.realm_drawing.specs.declared.errors.ChainError.TheVariants.{NotAChain};
 ghost use Rattle.state_check.specs.Drawable.{drawing_with, IsDrawable};
 ghost use Rattle.state_check.specs.Pairs.{IsFromTo};

@@ -1,6 +1,6 @@
 //! The ends of originals, as they were given.
 ghost use Rattle.std.specs.Prelude.{◌≡◌, IfOk, MatchOption};
-ghost use Rattle.realm_drawing.specs.Ids.{LacksId};
+ghost use Rattle.hook_chain.specs.Ids.{LacksId};
 ghost use Rattle.value_geometry.specs.Parts.{HasOriginals};
 ghost use Rattle.state_check.specs.Pairs.{HasEnds, HasEndsOf};
 

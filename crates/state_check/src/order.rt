@@ -1,7 +1,7 @@
 //! Whether lists are in order: each item is compared with the next.
 ghost use Rattle.std.specs.Prelude.{◌≡◌, ◌↔◌, ◌<◌, IsTrue, AllPairs};
 ghost use Rattle.grid_base.specs.Point.{IsBefore};
-ghost use Rattle.realm_drawing.specs.Ids.{IsAscending};
+ghost use Rattle.hook_chain.specs.Ids.{IsAscending};
 
 use grid_base::{Original, Point};
 

@@ -1,7 +1,6 @@
 -- This file shows which explicit points and which originals are listed one by one.
 use Rattle.std.proofs.Common.{◌≡◌, ◌↔◌, ℕ, ◌+◌, ◌<◌, ◌≤◌, nat_lt, Bool, true, false, cond, List, [], ◌∷◌, ◌++◌, length, get_or, take}
-use Rattle.std.proofs.Common.{take_all}
-use Rattle.std.proofs.Common.{All, AllPairs, Contains, refl, sym, ap, subst, ◌∙◌, inl, inr, arith}
+use Rattle.std.proofs.Common.{take_all, All, AllPairs, Contains, refl, sym, ap, subst, ◌∙◌, inl, inr, arith}
 use Rattle.std.specs.List.{filter}
 use Rattle.std.proofs.lemmas.Bool.{cases_lt}
 use Rattle.std.proofs.lemmas.List.{take_more, get_or-take, length-take}
@@ -13,7 +12,7 @@ use Rattle.grid_base.specs.Drawing.{Drawing}
 use Rattle.grid_base.specs.declared.original.Original.{Original}
 use Rattle.grid_base.proofs.Elements.{same_place, Contains-cases}
 use Rattle.grid_base.proofs.Orders.{IsBefore-asym}
-use Rattle.realm_drawing.specs.Ids.{IsAscending, LacksId}
+use Rattle.hook_chain.specs.Ids.{IsAscending, LacksId}
 use Rattle.record_codec.specs.Payload.{IsOriginal}
 use Rattle.rose_overlay.proofs.Sorts.{one_list}
 use Rattle.state_copies.specs.Copies.{HasAlso, HasOriginalToo}

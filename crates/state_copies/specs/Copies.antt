@@ -3,7 +3,7 @@ use Rattle.std.specs.Prelude.{◌≡◌, ◌⊎◌, ℕ, List, [], ◌∷◌, �
 use Rattle.grid_base.specs.Point.{GridPoint}
 use Rattle.grid_base.specs.Drawing.{Drawing}
 use Rattle.grid_base.specs.declared.original.Original.{Original}
-use Rattle.realm_drawing.specs.Ids.{LacksId}
+use Rattle.hook_chain.specs.Ids.{LacksId}
 use Rattle.record_codec.specs.Payload.{IsOriginal}
 
 -- p comes last where it is explicit, and else the list is as it was

@@ -2,7 +2,7 @@
 ghost use Rattle.std.specs.Prelude.{◌≡◌, ◌≤◌, ◌<◌, ◌^◌, All, IfOk, OnOk, MatchOption};
 ghost use Rattle.grid_base.specs.Point.{OnGrid};
 ghost use Rattle.grid_base.specs.declared.original.Original.{Original as Given};
-ghost use Rattle.realm_drawing.specs.Ids.{IsAscending, LacksId};
+ghost use Rattle.hook_chain.specs.Ids.{IsAscending, LacksId};
 ghost use Rattle.record_codec.specs.Fitting.{IsList};
 ghost use Rattle.record_codec.specs.Payload.{IsOriginal};
 ghost use Rattle.state_copies.specs.Copies.{IsCopyOf, HasOriginalToo};

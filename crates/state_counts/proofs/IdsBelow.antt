@@ -3,7 +3,7 @@ use Rattle.std.proofs.Common.{◌≡◌, ◌≢◌, ℕ, ◌+◌, ◌<◌, ◌�
 use Rattle.std.proofs.lemmas.Bool.{cases_lt}
 use Rattle.std.proofs.lemmas.List.Elements.{All-head, All-tail, All-cons}
 use Rattle.grid_base.specs.declared.original.Original.{Original}
-use Rattle.realm_drawing.specs.Ids.{IsAscending, LacksId}
+use Rattle.hook_chain.specs.Ids.{IsAscending, LacksId}
 use Rattle.value_geometry.proofs.Counts.{AllPairs-head, AllPairs-tail, count_yes, count_no}
 
 -- how many of the originals have an id below n

@@ -1,6 +1,6 @@
 //! The number of the originals. A drawing finds an original by its id alone, so the ids are gone through.
 ghost use Rattle.std.specs.Prelude.{◌≡◌, ◌≤◌, ◌^◌, ◌↔◌, IsTrue, length};
-ghost use Rattle.realm_drawing.specs.Ids.{IsAscending, LacksId};
+ghost use Rattle.hook_chain.specs.Ids.{IsAscending, LacksId};
 ghost use Rattle.realm_insert.specs.State.{HasIdsBelow};
 
 use realm_drawing::Drawing;

@@ -15,9 +15,9 @@ use Rattle.grid_base.proofs.Elements.{same_place}
 use Rattle.grid_base.proofs.Orders.{is_segment, is_segment-same, is_segment-itself}
 use Rattle.grid_base.proofs.Signs.{three_ways}
 use Rattle.grid_base.proofs.Turns.{leftward, rightward}
-use Rattle.realm_drawing.specs.Chains.{AllStand, IsChainFor}
-use Rattle.realm_drawing.specs.Ids.{IsAscending}
-use Rattle.realm_drawing.specs.Straight.{along}
+use Rattle.hook_chain.specs.StandingChains.{AllStand, IsChainFor}
+use Rattle.hook_chain.specs.Ids.{IsAscending}
+use Rattle.hook_chain.specs.Straight.{along}
 use Rattle.rose_values.specs.Border.{AreSegmentsAscending}
 use Rattle.side_parity.specs.Middle.{differ}
 use Rattle.side_parity.proofs.BothSides.{same_truth}

@@ -13,7 +13,7 @@ use Rattle.hook_chain.specs.Chains.{AllLinks, RunsFrom}
 use Rattle.hook_chain.specs.ValidChain.{IsMonotone}
 use Rattle.hook_chain.proofs.CloseParts.{steep_is}
 use Rattle.hook_chain.proofs.Exchange.{way}
-use Rattle.realm_drawing.specs.Chains.{IsChainFor}
+use Rattle.hook_chain.specs.StandingChains.{IsChainFor}
 use Rattle.segment_envelope.proofs.Ways.{exchanged_place}
 use Rattle.side_parity.specs.Middle.{differ}
 use Rattle.side_parity.proofs.Regions.{odd_count}

@@ -9,7 +9,7 @@ use Rattle.grid_base.specs.Plane.{as_place}
 use Rattle.grid_base.specs.SideOf.{as_rational}
 use Rattle.grid_base.specs.declared.original.Original.{Original}
 use Rattle.hook_chain.specs.Chains.{AllLinks}
-use Rattle.realm_drawing.specs.Straight.{along}
+use Rattle.hook_chain.specs.Straight.{along}
 use Rattle.rose_values.specs.declared.geometry.Geometry.{Geometry}
 use Rattle.rose_values.specs.declared.geometry.Geometry.TheVariants.{P, L, R}
 use Rattle.value_geometry.specs.Parts.{AreOriginals}

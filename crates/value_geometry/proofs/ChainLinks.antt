@@ -3,8 +3,7 @@
 use Rattle.std.proofs.Common.{◌≡◌, ◌≢◌, ◌↔◌, ℕ, zero, suc, ◌+◌, ◌-◌, ◌%◌, ◌<◌, ◌≤◌, ◌||◌, Bool, true, false, cond}
 use Rattle.std.proofs.Common.{if◌then◌else◌}
 use Rattle.std.proofs.Common.{List, [], ◌∷◌, ◌++◌, length, get_or, take, All, AllPairs, Contains, count_by}
-use Rattle.std.proofs.Common.{append_assoc}
-use Rattle.std.proofs.Common.{refl, sym, ap, ◌∙◌, subst, inl, inr, arith, add-one}
+use Rattle.std.proofs.Common.{append_assoc, refl, sym, ap, ◌∙◌, subst, inl, inr, arith, add-one}
 use Rattle.std.proofs.lemmas.List.{append-nil, get_or_default}
 use Rattle.std.proofs.lemmas.List.Elements.{All-contains, Contains-get_or, Contains-append_left}
 use Rattle.std.proofs.lemmas.List.Elements.{Contains-append_right, Contains-append_cases}
@@ -16,13 +15,12 @@ use Rattle.grid_base.specs.Drawing.{HasLink}
 use Rattle.grid_base.proofs.Elements.{Contains-here, Contains-later, Contains-cases, Contains-nil}
 use Rattle.grid_base.proofs.Ends.{not_before_itself}
 use Rattle.grid_base.proofs.Orders.{is_point-same, is_point-itself}
-use Rattle.hook_chain.specs.Chains.{RunsFrom}
+use Rattle.hook_chain.specs.Chains.{RunsFrom, IsBetween}
 use Rattle.hook_chain.specs.ValidChain.{ValidChain}
-use Rattle.realm_drawing.specs.Chains.{IsSomeChain}
-use Rattle.realm_drawing.specs.Shares.{IsBetween}
-use Rattle.realm_drawing.specs.Passages.{progress}
-use Rattle.realm_drawing.proofs.PathLinks.{segment_of-between, one_between}
-use Rattle.realm_drawing.proofs.Progress.{chain_rises}
+use Rattle.hook_chain.specs.StandingChains.{IsSomeChain}
+use Rattle.hook_chain.specs.Measure.{progress}
+use Rattle.chain_laws.proofs.PathLinks.{segment_of-between, one_between}
+use Rattle.chain_laws.proofs.Progress.{chain_rises}
 use Rattle.value_geometry.specs.Links.{between, links}
 use Rattle.value_geometry.proofs.Counts.{AllPairs-head, AllPairs-tail, count_first, count-append}
 

@@ -8,9 +8,9 @@ use Rattle.grid_base.specs.Point.{GridPoint}
 use Rattle.grid_base.specs.Segment.{GridSegment}
 use Rattle.grid_base.specs.Drawing.{Drawing}
 use Rattle.grid_base.specs.declared.original.Original.{Original}
-use Rattle.realm_drawing.specs.Chains.{AllStand, IsChainFor}
-use Rattle.realm_drawing.specs.Ids.{IsChainOf, LacksId}
-use Rattle.realm_drawing.specs.Straight.{along}
+use Rattle.hook_chain.specs.StandingChains.{AllStand, IsChainFor}
+use Rattle.hook_chain.specs.Ids.{IsChainOf, LacksId}
+use Rattle.hook_chain.specs.Straight.{along}
 use Rattle.value_geometry.specs.Links.{links, links_of, IsOnlyOne, AreLinksOf}
 use Rattle.value_geometry.specs.Parts.{AreOriginals}
 

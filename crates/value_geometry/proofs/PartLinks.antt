@@ -11,8 +11,8 @@ use Rattle.grid_base.specs.Drawing.{Drawing, HasLink}
 use Rattle.grid_base.specs.declared.original.Original.{Original}
 use Rattle.grid_base.proofs.Elements.{Contains-here, Contains-later, Contains-cases, Contains-nil}
 use Rattle.grid_base.proofs.Orders.{is_segment}
-use Rattle.realm_drawing.specs.Straight.{along}
-use Rattle.realm_drawing.proofs.Elements.{Any-head, Any-later, Any-cons_cases, Any-nil, All-of_some}
+use Rattle.hook_chain.specs.Straight.{along}
+use Rattle.chain_laws.proofs.Elements.{Any-head, Any-later, Any-cons_cases, Any-nil, All-of_some}
 use Rattle.value_geometry.specs.Geometry.{IsOnChainOf, AreThoseWith, IsOnOddly}
 use Rattle.value_geometry.specs.Links.{links, links_of, IsOnlyOne}
 use Rattle.value_geometry.proofs.Counts.{AllPairs-head, AllPairs-tail, AreAscending, same_length}

@@ -6,7 +6,7 @@ use Rattle.grid_base.specs.Border.{AreNoded}
 use Rattle.grid_base.specs.Drawing.{Drawing, HasLink, IsPoint, IsPiece, IsDrawnRealm}
 use Rattle.grid_base.specs.declared.original.Original.{Original}
 use Rattle.grid_base.proofs.Elements.{Contains-here, Contains-nil}
-use Rattle.realm_drawing.proofs.Elements.{Any-weaker}
+use Rattle.chain_laws.proofs.Elements.{Any-weaker}
 use Rattle.rose_values.specs.declared.geometry.Geometry.{Geometry}
 use Rattle.rose_values.specs.declared.geometry.Geometry.TheVariants.{P, L, R}
 use Rattle.rose_values.specs.Operators.{segments_of}

@@ -8,7 +8,7 @@ use Rattle.grid_base.specs.Border.{AreNoded, is_end, IsEvenBorder}
 use Rattle.grid_base.specs.Drawing.{Drawing, IsDrawnRealm}
 use Rattle.grid_base.specs.declared.original.Original.{Original}
 use Rattle.grid_base.proofs.Orders.{is_segment, segments_stay}
-use Rattle.realm_drawing.specs.Straight.{along}
+use Rattle.hook_chain.specs.Straight.{along}
 use Rattle.rose_values.specs.Border.{AreSegmentsAscending}
 use Rattle.value_geometry.specs.Geometry.{IsOnChainOf, IsOnOddly}
 use Rattle.value_geometry.specs.Links.{links_of, AreLinksOf}

@@ -5,7 +5,7 @@ use Rattle.grid_base.specs.Point.{GridPoint, is_point}
 use Rattle.grid_base.specs.Segment.{GridSegment, segment_of}
 use Rattle.grid_base.specs.Drawing.{Drawing}
 use Rattle.grid_base.specs.declared.original.Original.{Original}
-use Rattle.realm_drawing.specs.Chains.{HasValidChain}
+use Rattle.hook_chain.specs.StandingChains.{HasValidChain}
 use Rattle.value_geometry.specs.Parts.{AreOriginals}
 
 -- the segment between v and w, in a list, which is empty where they are one point

@@ -5,7 +5,7 @@ use Rattle.grid_base.specs.Drawing.{Drawing}
 use Rattle.grid_base.specs.declared.kinds.Kind.{Kind}
 use Rattle.grid_base.specs.declared.kinds.Kind.TheVariants.{Points as OfPoints, Lines as OfLines, Regions as OfRegions}
 use Rattle.grid_base.specs.declared.original.Original.{Original}
-use Rattle.realm_drawing.specs.Straight.{along}
+use Rattle.hook_chain.specs.Straight.{along}
 use Rattle.value_table.specs.declared.value.Parts.{Parts}
 use Rattle.value_table.specs.declared.value.Parts.TheVariants.{Points, Ids}
 

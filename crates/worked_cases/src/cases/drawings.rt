@@ -1,7 +1,8 @@
 //! Drawings, read off squared paper.
 use crate::paper::place;
+use chain_laws::crossing_step;
 use grid_base::{NoMemory, Point, Segment};
-use realm_drawing::{Drawing, crossing_step};
+use realm_drawing::Drawing;
 use segment_lists::segment_with;
 use std::alloc::Global;
 use std::process::Abort;

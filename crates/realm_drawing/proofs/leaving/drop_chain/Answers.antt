@@ -1,6 +1,6 @@
 use Rattle.std.proofs.Common.{◌≡◌}
 use Rattle.realm_drawing.specs.declared.shares.Share.{Share}
-use Rattle.realm_drawing.specs.Shares.{IsBetween}
+use Rattle.hook_chain.specs.Chains.{IsBetween}
 use Rattle.realm_drawing.proofs.LostShares.{KeepsKeys-itself, loses_no_link, loses_next_link, loses_chain, kept_with_loss}
 use Rattle.realm_drawing.proofs.leaving.drop_chain.Goals as goal
 

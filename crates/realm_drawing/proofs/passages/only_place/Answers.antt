@@ -1,7 +1,7 @@
 use Rattle.std.proofs.Common.{rules}
 use Rattle.std.proofs.lemmas.Fn.{always_returns_same}
-use Rattle.realm_drawing.specs.Passages.{progress}
-use Rattle.realm_drawing.proofs.Progress.{looked_up}
+use Rattle.hook_chain.specs.Measure.{progress}
+use Rattle.realm_drawing.proofs.Places.{looked_up}
 use Rattle.realm_drawing.proofs.passages.only_place.Goals as goal
 
 -- along the chain, how far it has come rises

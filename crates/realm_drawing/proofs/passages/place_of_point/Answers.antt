@@ -1,5 +1,5 @@
 use Rattle.std.proofs.Common.{true≢false, sym, ◌∙◌}
-use Rattle.realm_drawing.proofs.Progress.{nowhere}
+use Rattle.realm_drawing.proofs.Places.{nowhere}
 use Rattle.realm_drawing.proofs.passages.place_of_point.Goals as goal
 
 -- another point stands at the one place where it can be

@@ -4,7 +4,7 @@ use Rattle.grid_base.specs.Point.{GridPoint}
 use Rattle.hook_chain.specs.Redrawing.{redrawn}
 use Rattle.realm_drawing.specs.Passages.{PassesAt}
 use Rattle.realm_drawing.specs.Redraws.{Becomes}
-use Rattle.realm_drawing.proofs.RedrawnLinks.{redrawn_without}
+use Rattle.chain_laws.proofs.RedrawnLinks.{redrawn_without}
 use Rattle.realm_drawing.proofs.Passings.{redrawn_forth, redrawn_back}
 use Rattle.realm_drawing.proofs.Fronts.{some_point, front-take, front-reverse}
 use Rattle.realm_drawing.proofs.passages.with_path.Goals as goal

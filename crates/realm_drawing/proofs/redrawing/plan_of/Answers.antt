@@ -1,7 +1,7 @@
 use Rattle.std.proofs.Common.{sym, subst}
 use Rattle.component_registry.specs.Registry.{owners_of}
 use Rattle.realm_drawing.specs.declared.redrawing.Plan.{Plan}
-use Rattle.realm_drawing.specs.declared.redrawing.Redrawing.{Redrawing}
+use Rattle.chain_laws.specs.declared.redrawing.Redrawing.{Redrawing}
 use Rattle.realm_drawing.specs.declared.shares.Share.{Share}
 use Rattle.realm_drawing.specs.Redraws.{AreReplacements}
 use Rattle.realm_drawing.specs.Shares.{IsGained, IsLost}

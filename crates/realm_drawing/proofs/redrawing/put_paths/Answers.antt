@@ -5,7 +5,7 @@ use Rattle.realm_drawing.specs.Kept.{AreKept}
 use Rattle.realm_drawing.specs.Shares.{Held, HasMore, HasFewer}
 use Rattle.realm_drawing.proofs.FreshPieces.{fresh_left}
 use Rattle.realm_drawing.proofs.KeptKeys.{kept_with_fewer}
-use Rattle.realm_drawing.proofs.RedrawnOriginals.{redrawn_ascending, redrawn_all_valid}
+use Rattle.chain_laws.proofs.RedrawnOriginals.{redrawn_ascending, redrawn_all_valid}
 use Rattle.realm_drawing.proofs.SharesOfSteps.{gained_are_new}
 use Rattle.realm_drawing.proofs.StepShares.{lost_were_pieces}
 use Rattle.realm_drawing.proofs.StepOwners.{ChangesShares, owners_redrawn}

@@ -1,5 +1,6 @@
 use Rattle.std.proofs.Common.{subst}
-use Rattle.realm_drawing.specs.Redraws.{redrawn_by, Becomes}
+use Rattle.chain_laws.specs.Redraws.{redrawn_by}
+use Rattle.realm_drawing.specs.Redraws.{Becomes}
 use Rattle.realm_drawing.proofs.Owners.{replaced_for_id}
 use Rattle.realm_drawing.proofs.redrawing.replace_owner.Goals as goal
 

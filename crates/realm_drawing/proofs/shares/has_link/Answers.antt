@@ -1,5 +1,5 @@
 use Rattle.std.proofs.Common.{◌∙◌, ◌+◌, refl, sym, inl, inr, true≢false}
-use Rattle.realm_drawing.proofs.PathLinks.{link_more, link_from_take}
+use Rattle.chain_laws.proofs.PathLinks.{link_more, link_from_take}
 use Rattle.realm_drawing.proofs.shares.has_link.Goals as goal
 
 -- the link from the point before to this one is a link of the path

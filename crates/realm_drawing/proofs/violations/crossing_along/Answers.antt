@@ -1,5 +1,5 @@
 use Rattle.grid_base.specs.Crossing.{Cross}
-use Rattle.realm_drawing.specs.Mending.{MendsCrossing}
+use Rattle.hook_chain.specs.Mending.{MendsCrossing}
 use Rattle.realm_drawing.proofs.LinkSearches.{no_link_first, no_link_more, no_link_left, link_found}
 use Rattle.realm_drawing.proofs.violations.crossing_along.Goals as goal
 

@@ -2,7 +2,7 @@ use Rattle.std.proofs.Common.{◌↔◌, Option, Some, None, MatchOption, IsNone
 use Rattle.grid_base.specs.Segment.{GridSegment}
 use Rattle.grid_base.specs.Crossing.{Cross}
 use Rattle.grid_base.specs.declared.kinds.Step.{Step}
-use Rattle.realm_drawing.specs.Mending.{MendsCrossing}
+use Rattle.hook_chain.specs.Mending.{MendsCrossing}
 use Rattle.realm_drawing.proofs.LinkSearches.{found_between}
 use Rattle.realm_drawing.proofs.violations.crossing_between.Goals as goal
 

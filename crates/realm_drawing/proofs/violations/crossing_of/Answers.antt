@@ -1,8 +1,8 @@
 use Rattle.std.proofs.Common.{rules, ◌≡◌, sym, subst}
 use Rattle.grid_base.specs.Crossing.{Cross}
-use Rattle.realm_drawing.specs.Mending.{MendsCrossing}
+use Rattle.hook_chain.specs.Mending.{MendsCrossing}
 use Rattle.realm_drawing.specs.Found.{NoLink, SomeLink}
-use Rattle.realm_drawing.proofs.Elements.{Any-weaker}
+use Rattle.chain_laws.proofs.Elements.{Any-weaker}
 use Rattle.realm_drawing.proofs.ChainSearches.{IsSearching, search_begins, search_goes_on, search_found}
 use Rattle.realm_drawing.proofs.violations.crossing_of.Goals as goal
 

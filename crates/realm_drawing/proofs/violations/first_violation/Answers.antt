@@ -1,6 +1,6 @@
 use Rattle.std.proofs.Common.{rules, ◌≡◌, true≢false, sym, subst}
 use Rattle.grid_base.specs.Drawing.{HasViolation}
-use Rattle.realm_drawing.specs.Mending.{IsPermitted}
+use Rattle.hook_chain.specs.Mending.{IsPermitted}
 use Rattle.realm_drawing.specs.Found.{drawing_of, NoLink, IsViolated}
 use Rattle.realm_drawing.proofs.FoundSteps.{found_step}
 use Rattle.realm_drawing.proofs.ChainSearches.{IsSearching, search_begins, search_goes_on, search_found}

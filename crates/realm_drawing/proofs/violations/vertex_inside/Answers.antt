@@ -1,6 +1,6 @@
 use Rattle.std.proofs.Common.{rules, ◌≡◌, All, Contains, sym, subst}
 use Rattle.grid_base.specs.Crossing.{Inside}
-use Rattle.realm_drawing.proofs.Elements.{Any-weaker}
+use Rattle.chain_laws.proofs.Elements.{Any-weaker}
 use Rattle.realm_drawing.proofs.ChainSearches.{IsSearching, search_begins, search_goes_on, search_found}
 use Rattle.realm_drawing.proofs.violations.vertex_inside.Goals as goal
 

@@ -1,7 +1,7 @@
 use Rattle.std.proofs.Common.{◌≡◌, ◌++◌, ◌∷◌, [], sym, subst, true≢false, ◌∙◌}
 use Rattle.std.proofs.lemmas.Result.{IfOk-weaker}
-use Rattle.realm_drawing.specs.Changed.{PlacesChain}
-use Rattle.realm_drawing.specs.Chains.{HasValidChain}
+use Rattle.hook_chain.specs.Changed.{PlacesChain}
+use Rattle.hook_chain.specs.StandingChains.{HasValidChain}
 use Rattle.state_check.specs.Drawable.{drawing_with}
 use Rattle.state_check.specs.Pairs.{IsFromTo}
 use Rattle.state_check.proofs.Placed.{placed_with_its_ends, from_its_ends}

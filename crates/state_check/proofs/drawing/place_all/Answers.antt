@@ -2,7 +2,7 @@ use Rattle.std.proofs.Common.{◌<◌, All, sym, subst, take_all}
 use Rattle.std.proofs.lemmas.List.Elements.{All-nil, All-more}
 use Rattle.grid_base.specs.Drawing.{Drawing}
 use Rattle.grid_base.specs.declared.original.Original.{Original}
-use Rattle.realm_drawing.specs.Chains.{HasValidChain}
+use Rattle.hook_chain.specs.StandingChains.{HasValidChain}
 use Rattle.state_check.proofs.Placed.{next_is_above, one_more_there}
 use Rattle.state_check.proofs.drawing.place_all.Goals as goal
 

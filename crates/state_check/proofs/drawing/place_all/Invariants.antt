@@ -1,5 +1,5 @@
 use Rattle.std.proofs.Common.{◌≡◌, [], take, All}
-use Rattle.realm_drawing.specs.Chains.{HasValidChain}
+use Rattle.hook_chain.specs.StandingChains.{HasValidChain}
 use Rattle.state_check.specs.Drawable.{drawing_with}
 use Rattle.state_check.proofs.drawing.place_all.Given as goal
 

@@ -1,5 +1,5 @@
 use Rattle.std.proofs.Common.{◌≡◌, ℕ, sym, subst, arith}
-use Rattle.realm_drawing.specs.Ids.{IsAscending}
+use Rattle.hook_chain.specs.Ids.{IsAscending}
 use Rattle.record_codec.specs.Payload.{IsOriginal}
 use Rattle.state_check.proofs.Copying.{fits_as_list}
 use Rattle.state_copies.proofs.Listing.{AreBelow, none_listed, one_id_more, all_ids}

@@ -1,6 +1,6 @@
 -- The ids begin at 1, and all are below the next one.
 use Rattle.std.proofs.Common.{◌≡◌, ◌+◌, true, false, sym, ap, ◌∙◌, arith}
-use Rattle.realm_drawing.specs.Ids.{LacksId}
+use Rattle.hook_chain.specs.Ids.{LacksId}
 use Rattle.state_counts.proofs.IdsBelow.{ids_below, ids_below-none, ids_below-all, ids_below-lacks, ids_below-has}
 use Rattle.state_counts.proofs.originals.count_originals.Goals as goal
 use Rattle.state_counts.proofs.originals.count_originals.Goals.{then-not-lacks_id, else-not-lacks_id}

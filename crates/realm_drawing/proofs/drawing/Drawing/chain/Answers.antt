@@ -1,4 +1,4 @@
-use Rattle.realm_drawing.proofs.StandingChains.{all_stand}
+use Rattle.chain_laws.proofs.StandingChains.{all_stand}
 use Rattle.realm_drawing.proofs.drawing.Drawing.chain.Goals as goal
 
 -- all chains are valid

@@ -1,4 +1,4 @@
-use Rattle.realm_drawing.proofs.Mendings.{mending_is_permitted, permitted_mends}
+use Rattle.chain_laws.proofs.Mendings.{mending_is_permitted, permitted_mends}
 use Rattle.realm_drawing.proofs.drawing.Drawing.permits.Goals as goal
 
 -- a step that mends, and whose parts are there, is permitted, and no other

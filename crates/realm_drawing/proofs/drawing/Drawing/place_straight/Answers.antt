@@ -1,5 +1,5 @@
 use Rattle.realm_drawing.proofs.KeptPieces.{KeepsKeys-itself}
-use Rattle.realm_drawing.proofs.StandingChains.{straight_is_valid}
+use Rattle.chain_laws.proofs.StandingChains.{straight_is_valid}
 use Rattle.realm_drawing.proofs.drawing.Drawing.place_straight.Goals as goal
 
 -- where memory fails all is as it was

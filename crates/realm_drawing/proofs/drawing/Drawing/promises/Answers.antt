@@ -1,5 +1,5 @@
 use Rattle.realm_drawing.proofs.KeptPieces.{KeepsKeys-itself, kept_keyed}
-use Rattle.realm_drawing.proofs.StandingChains.{all_stand}
+use Rattle.chain_laws.proofs.StandingChains.{all_stand}
 use Rattle.realm_drawing.proofs.drawing.Drawing.promises.Goals as goal
 
 -- each fact is one of what is kept

@@ -1,7 +1,8 @@
 use Rattle.std.proofs.Common.{List, refl, sym, ap}
 use Rattle.grid_base.specs.declared.original.Original.{Original}
 use Rattle.realm_drawing.specs.Kept.{drawn}
-use Rattle.realm_drawing.proofs.KeptChanges.{kept_without, none_to_remove}
+use Rattle.chain_laws.proofs.Filters.{none_to_remove}
+use Rattle.realm_drawing.proofs.KeptChanges.{kept_without}
 use Rattle.realm_drawing.proofs.KeptPieces.{KeepsKeys-itself, keys_are_kept}
 use Rattle.realm_drawing.proofs.drawing.Drawing.remove.Goals as goal
 

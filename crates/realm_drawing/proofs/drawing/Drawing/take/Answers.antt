@@ -5,8 +5,8 @@ use Rattle.grid_base.specs.declared.original.Original.{Original}
 use Rattle.hook_chain.specs.Steps.{Permitted}
 use Rattle.realm_drawing.proofs.DrawnAnew.{kept_with_points, draws_anew_if}
 use Rattle.realm_drawing.proofs.KeptPieces.{KeepsKeys-itself, keys_are_kept, kept_keyed}
-use Rattle.realm_drawing.proofs.Mendings.{permitted_mends}
-use Rattle.realm_drawing.proofs.StandingChains.{all_stand}
+use Rattle.chain_laws.proofs.Mendings.{permitted_mends}
+use Rattle.chain_laws.proofs.StandingChains.{all_stand}
 use Rattle.realm_drawing.proofs.drawing.Drawing.take.Goals as goal
 
 -- a step that is permitted mends

@@ -6,8 +6,8 @@ use Rattle.std.proofs.lemmas.Iterator.Consumers.{YieldsList-from_rest}
 use borrow.Author.Tests.{tests}
 use Rattle.grid_base.specs.Point.{GridPoint, point_cmp}
 use Rattle.grid_base.specs.Crossing.{Inside}
-use Rattle.realm_drawing.proofs.PointSets.{least_corner, greatest_corner, is_between_corners}
-use Rattle.realm_drawing.proofs.ColumnSearches.{first_between}
+use Rattle.chain_laws.proofs.PointSets.{least_corner, greatest_corner, is_between_corners}
+use Rattle.chain_laws.proofs.ColumnSearches.{first_between}
 use Rattle.realm_drawing.proofs.explicit.ExplicitPoints.first_inside.Goals as goal
 
 -- what is searched is the points between the least corner of the box and the greatest

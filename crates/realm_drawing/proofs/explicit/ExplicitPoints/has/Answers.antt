@@ -1,4 +1,4 @@
-use Rattle.realm_drawing.proofs.PointSets.{set_has}
+use Rattle.chain_laws.proofs.PointSets.{set_has}
 use Rattle.realm_drawing.proofs.explicit.ExplicitPoints.has.Goals as goal
 
 -- the look-up finds what the list has

@@ -4,8 +4,8 @@ use Rattle.std.specs.declared.ops.Bound.TheVariants.{Included}
 use Rattle.std.specs.Map.Iter.{deref}
 use Rattle.std.proofs.lemmas.Map.Iter.{iter_end}
 use Rattle.grid_base.specs.Point.{GridPoint, point_cmp}
-use Rattle.realm_drawing.proofs.PointSets.{is_in_box, out_of_box_fails, filter_skips, is_between_corners}
-use Rattle.realm_drawing.proofs.PointSets.{least_corner, greatest_corner, box_members, box_ascends, set_ascends}
+use Rattle.chain_laws.proofs.PointSets.{is_in_box, out_of_box_fails, filter_skips, is_between_corners}
+use Rattle.chain_laws.proofs.PointSets.{least_corner, greatest_corner, box_members, box_ascends, set_ascends}
 use Rattle.realm_drawing.proofs.explicit.ExplicitPoints.in_box_of.Goals as goal
 
 -- a point out of the box is left out

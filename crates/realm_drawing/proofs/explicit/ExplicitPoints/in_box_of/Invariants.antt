@@ -1,6 +1,6 @@
 use Rattle.std.proofs.Common.{◌≡◌, map, filter}
 use Rattle.std.specs.Map.Iter.{deref}
-use Rattle.realm_drawing.proofs.PointSets.{is_in_box}
+use Rattle.chain_laws.proofs.PointSets.{is_in_box}
 use Rattle.realm_drawing.proofs.explicit.ExplicitPoints.in_box_of.Given as goal
 
 -- the list has what of the points so far is in the box

@@ -1,4 +1,4 @@
-use Rattle.realm_drawing.proofs.PointSets.{set_ascends, set_lacks, put_members}
+use Rattle.chain_laws.proofs.PointSets.{set_ascends, set_lacks, put_members}
 use Rattle.realm_drawing.proofs.explicit.ExplicitPoints.put.Goals as goal
 
 pub invariant_of-self-2 : goal.invariant_of-self-2

@@ -1,4 +1,4 @@
-use Rattle.realm_drawing.proofs.PointSets.{set_ascends, set_has, take_members}
+use Rattle.chain_laws.proofs.PointSets.{set_ascends, set_has, take_members}
 use Rattle.realm_drawing.proofs.explicit.ExplicitPoints.take.Goals as goal
 
 pub invariant_of-self : goal.invariant_of-self

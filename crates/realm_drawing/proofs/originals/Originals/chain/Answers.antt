@@ -1,5 +1,5 @@
-use Rattle.std.proofs.Common.{refl, true≢false, sym, ◌∙◌}
-use Rattle.realm_drawing.specs.Ids.{LacksId, IsChainAmong}
+use Rattle.std.proofs.Common.{refl, true≢false, sym}
+use Rattle.hook_chain.specs.Ids.{IsChainAmong}
 use Rattle.realm_drawing.proofs.ById.{none_found, some_found, found_not_lacking}
 use Rattle.realm_drawing.proofs.originals.Originals.chain.Goals as goal
 

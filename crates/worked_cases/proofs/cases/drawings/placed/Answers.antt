@@ -1,6 +1,6 @@
 use Rattle.std.proofs.Common.{◌<◌, arith}
 use Rattle.std.proofs.lemmas.List.Elements.{All-push, All-weaker}
-use Rattle.realm_drawing.specs.Straight.{straight}
+use Rattle.hook_chain.specs.Straight.{straight}
 use Rattle.worked_cases.proofs.cases.drawings.placed.Goals as goal
 
 -- the next id is greater than the one that was given, and so than all before it

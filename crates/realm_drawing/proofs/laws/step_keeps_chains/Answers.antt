@@ -1,6 +1,0 @@
-use Rattle.realm_drawing.proofs.StepsKeep.{step_keeps_chains}
-use Rattle.realm_drawing.proofs.laws.step_keeps_chains.Goals as goal
-
--- the lemma is the law itself
-pub returns : goal.returns
-returns c = step_keeps_chains

@@ -1,9 +1,0 @@
-use Rattle.realm_drawing.proofs.StepOutcomes.{no_violation_no_step, permitted_is_one}
-use Rattle.realm_drawing.proofs.laws.step_mends.Goals as goal
-
--- the lemmas are the law itself
-pub returns-clause-only_there : goal.returns-clause-only_there
-returns-clause-only_there c = no_violation_no_step
-
-pub returns-clause-one : goal.returns-clause-one
-returns-clause-one c = permitted_is_one

@@ -1,6 +1,0 @@
-use Rattle.realm_drawing.proofs.StandingChains.{stands_for}
-use Rattle.realm_drawing.proofs.laws.valid_chain_stands.Goals as goal
-
--- the lemma is the law itself
-pub returns : goal.returns
-returns c = stands_for
