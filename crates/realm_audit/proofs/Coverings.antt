@@ -8,7 +8,7 @@ use Rattle.grid_base.specs.Drawing.{Drawing, IsPoint, IsPiece, HasViolation}
 use Rattle.grid_base.specs.Realm.Violation.{PointInside, TwoCross}
 use Rattle.grid_base.specs.declared.original.Original.{Original}
 use Rattle.grid_base.proofs.RealmLaw.{piece_ends}
-use Rattle.realm_audit.specs.Chains.{HasValidChain}
+use Rattle.hook_chain.specs.StandingChains.{HasValidChain}
 use Rattle.realm_audit.specs.Kept.{drawing_of, HasSharesOf, AreCovered, Clash}
 use Rattle.realm_audit.specs.Clashes.{IsOwned, AreClashes, HasClash, IsExplicitInPiece}
 use Rattle.grid_base.specs.declared.memory.NoMemory.{NoMemory}

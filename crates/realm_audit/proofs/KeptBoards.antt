@@ -1,31 +1,34 @@
 -- This file shows that a board stays as it is to be, whatever comes or goes.
-use Rattle.std.proofs.Common.{◌≡◌, ◌⊎◌, ◌↔◌, ◌==◌, not, ℕ, ◌<◌, List, [], ◌∷◌, ◌++◌, Contains, All, AllPairs, map}
-use Rattle.std.proofs.Common.{refl, sym, ap, subst, inl, inr, arith}
-use Rattle.std.specs.List.{filter}
+use Rattle.std.proofs.Common.{◌≡◌, ◌⊎◌, ◌↔◌, ◌==◌, not, ℕ, ◌<◌, List, [], ◌∷◌, ◌++◌, Contains, All, AllPairs, map, get_or}
+use Rattle.std.proofs.Common.{IsPermutation, refl, sym, ap, subst, inl, inr, arith}
+use Rattle.std.specs.List.{filter, dedup}
 use Rattle.std.proofs.lemmas.List.{length-map, get_or-map}
-use Rattle.std.proofs.lemmas.List.Elements.{All-push, All-filter, All-nil, Contains-append_left, Contains-push}
+use Rattle.std.proofs.lemmas.List.Elements.{All-push, All-filter, All-nil, All-map, Contains-append_left, Contains-push}
 use Rattle.std.proofs.lemmas.List.Kept.{AllPairs-filter}
+use Rattle.std.proofs.lemmas.List.Sorted.{Contains-permutation}
 use Rattle.std.proofs.lemmas.List.Quantifiers.{all_pairs_push}
 use Rattle.grid_base.specs.Point.{GridPoint, IsBefore}
 use Rattle.grid_base.specs.Segment.{GridSegment}
-use Rattle.grid_base.specs.Drawing.{IsPiece, HasViolation}
+use Rattle.grid_base.specs.Drawing.{Drawing, IsPiece, HasViolation}
 use Rattle.grid_base.specs.declared.original.Original.{Original}
 use Rattle.grid_base.proofs.Elements.{Contains-nil}
+use Rattle.grid_base.proofs.Orders.{is_segment, segments_stay}
 use Rattle.hook_chain.specs.ValidChain.{ValidChain}
-use Rattle.realm_audit.specs.Ids.{IsAscending, LacksId, IsChainAmong}
-use Rattle.realm_audit.specs.Chains.{HasValidChain}
+use Rattle.hook_chain.specs.Ids.{IsAscending, LacksId, IsChainAmong}
+use Rattle.hook_chain.specs.StandingChains.{HasValidChain, AllValid}
+use Rattle.hook_chain.specs.Straight.{along}
 use Rattle.realm_audit.specs.Shelves.{HasShare}
 use Rattle.realm_audit.specs.ShareChanges.{HasMore, HasFewer, IsLinkOf, ListsAlso}
 use Rattle.realm_audit.specs.Kept.{drawing_of, HasSharesOf, AreCovered, IsInOrder}
-use Rattle.realm_audit.specs.Redraws.{IsPathFor, redrawn_original_by}
-use Rattle.realm_audit.specs.declared.redrawing.Redrawing.{Redrawing}
+use Rattle.chain_laws.specs.Redraws.{IsPathFor}
+use Rattle.realm_audit.specs.Redraws.{redraw_by, redrawn_original_by}
+use Rattle.chain_laws.specs.declared.redrawing.Redrawing.{Redrawing}
 use Rattle.realm_audit.specs.declared.shares.Share.{Share}
-use Rattle.realm_audit.proofs.Elements.{Any-nil}
-use Rattle.realm_audit.proofs.Filters.{none_to_remove}
+use Rattle.chain_laws.proofs.Elements.{Any-nil}
+use Rattle.chain_laws.proofs.Filters.{none_to_remove}
 use Rattle.realm_audit.proofs.SharedPieces.{shared_piece}
 use Rattle.realm_audit.proofs.KeptShares.{with_id, shares_with, shares_without, shares_redrawn}
 use Rattle.realm_audit.proofs.Coverings.{covered_with_pieces, covered_with_points, covered_by_none}
-use Rattle.realm_audit.proofs.StepsKeep.{redraw_keeps}
 
 -- ---- at first
 pub kept_empty : (points : List GridPoint) (originals : List Original) (shares : List Share) (pieces : List GridSegment)
@@ -168,6 +171,11 @@ kept_without_none points originals shares pieces fresh id lacks kept =
     subst (λ (l : List Original). IsInOrder points l shares pieces fresh) (sym (none_to_remove originals id lacks)) kept
 
 -- ---- a path
+-- a path that may stand for its piece keeps all chains valid
+redraw_keeps : (r : Redrawing) (d : Drawing) → IsPathFor r → AllValid d → AllValid (redraw_by r d)
+redraw_keeps r d path valid = All-map HasValidChain (redrawn_original_by r) d.originals
+    (λ k o within. path.keeps (along (get_or d.originals k o)) (get_or d.originals k o).chain (valid k o within))
+
 ids_stay : (r : Redrawing) (originals : List Original) → IsAscending originals → IsAscending (map (redrawn_original_by r) originals)
 ids_stay r originals rise = λ i j d before within.
     let f = redrawn_original_by r in
@@ -220,6 +228,20 @@ kept_redrawn points originals old mid new pieces later fresh r owners losing gai
     (subst (λ (ids : List ℕ). HasFewer old mid (λ s x. (s ≡ r.piece) × Contains ids x)) is_losing fewer)
     (subst (λ (l : List GridPoint). HasMore mid new (λ s x. IsLinkOf l s × Contains owners x)) is_shared by_owners)
     (subst (λ (l : List GridPoint). ListsAlso pieces later (IsLinkOf l)) is_listed lists)
+
+-- ---- what is fresh, each once
+pub kept_each_once : (points : List GridPoint) (originals : List Original) (shares : List Share)
+    (pieces sorted : List GridSegment) (fresh : List GridPoint) → IsPermutation pieces sorted
+    → IsInOrder points originals shares pieces fresh → IsInOrder points originals shares (dedup is_segment sorted) fresh
+kept_each_once points originals shares pieces sorted fresh moved kept = record {
+  points_ascend = kept.points_ascend;
+  ids_rise = kept.ids_rise;
+  all_valid = kept.all_valid;
+  shares_are = kept.shares_are;
+  covered = covered_with_pieces (drawing_of points originals) (drawing_of points originals) pieces (dedup is_segment sorted) fresh
+      refl (λ s has. (segments_stay sorted s).1 (Contains-permutation pieces sorted s moved has)) (λ s piece. inl piece)
+      kept.covered;
+}
 
 -- ---- no violation
 pub kept_settled : (points : List GridPoint) (originals : List Original) (shares : List Share)

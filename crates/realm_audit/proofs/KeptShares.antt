@@ -8,18 +8,19 @@ use Rattle.grid_base.specs.Point.{GridPoint, IsBefore}
 use Rattle.grid_base.specs.Segment.{GridSegment}
 use Rattle.grid_base.specs.Drawing.{HasLink}
 use Rattle.grid_base.specs.declared.original.Original.{Original}
-use Rattle.realm_audit.specs.Ids.{IsChainAmong}
+use Rattle.hook_chain.specs.Ids.{IsChainAmong}
 use Rattle.realm_audit.specs.Shelves.{HasShare}
 use Rattle.realm_audit.specs.ShareChanges.{HasMore, HasFewer, IsLinkOf}
 use Rattle.realm_audit.specs.Kept.{HasSharesOf}
-use Rattle.realm_audit.specs.Redraws.{IsPathFor, AreReplacements, AddsReplacements, redrawn_original_by, IsReplacement}
-use Rattle.realm_audit.specs.declared.redrawing.Redrawing.{Redrawing}
+use Rattle.chain_laws.specs.Redraws.{IsPathFor}
+use Rattle.realm_audit.specs.Redraws.{AreReplacements, AddsReplacements, redrawn_original_by, IsReplacement}
+use Rattle.chain_laws.specs.declared.redrawing.Redrawing.{Redrawing}
 use Rattle.realm_audit.specs.declared.redrawing.Replacement.{Replacement}
 use Rattle.realm_audit.specs.declared.shares.Share.{Share}
-use Rattle.realm_audit.proofs.Elements.{Any-head, Any-nil, Any-later, Any-single, Any-cons_cases, Any-append_cases}
-use Rattle.realm_audit.proofs.Elements.{Any-append_left, Any-append_right, Any-map}
-use Rattle.realm_audit.proofs.Filters.{Any-passes, other_id}
-use Rattle.realm_audit.proofs.RedrawnLinks.{redrawn_links, has_link_or_not, redrawn_without}
+use Rattle.chain_laws.proofs.Elements.{Any-head, Any-nil, Any-later, Any-single, Any-cons_cases, Any-append_cases}
+use Rattle.chain_laws.proofs.Elements.{Any-append_left, Any-append_right, Any-map}
+use Rattle.chain_laws.proofs.Filters.{Any-passes, other_id}
+use Rattle.chain_laws.proofs.RedrawnLinks.{redrawn_links, has_link_or_not, redrawn_without}
 
 -- the original has the id x and the piece s
 abbrev HasIt : GridSegment → ℕ → Original → Type 0

@@ -16,7 +16,7 @@ use Rattle.grid_rational.proofs.Crossings.{crossing_is_place}
 use Rattle.hook_chain.proofs.HookLaw.{one_hook}
 use Rattle.hook_chain.specs.Redrawing.{redraw, round_corner, cut_at}
 use Rattle.hook_chain.specs.Steps.{Permitted}
-use Rattle.realm_audit.specs.Changed.{with_chain}
+use Rattle.hook_chain.specs.Changed.{with_chain}
 use Rattle.realm_audit.specs.Audits.{Audit, first_audit, next_count, Accepts, LineHolds, Runs}
 use Rattle.realm_audit.specs.Verdicts.{AllAccepted, LeadsTo, FailsAt, IsVerdict}
 use Rattle.realm_audit.specs.declared.item.Item.{Item}
@@ -25,7 +25,7 @@ use Rattle.realm_audit.specs.declared.item.Item.TheVariants as items
 use Rattle.realm_audit.specs.declared.phase.Phase.TheVariants.{Stepping, Ended}
 use Rattle.realm_audit.specs.declared.verdict.Verdict.{Verdict}
 use Rattle.realm_audit.specs.declared.verdict.Verdict.TheVariants.{Sound, Unsound}
-use Rattle.realm_audit.proofs.Ends.{one_segment}
+use Rattle.chain_laws.proofs.Ends.{one_segment}
 use Rattle.realm_audit.proofs.OneItems.{one_item}
 
 -- ---- ascending points

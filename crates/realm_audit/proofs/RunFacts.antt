@@ -5,15 +5,15 @@ use Rattle.grid_base.specs.Point.{IsBefore}
 use Rattle.grid_base.specs.Segment.{GridSegment}
 use Rattle.grid_base.specs.declared.original.Original.{Original as AnOriginal}
 use Rattle.hook_chain.specs.Chains.{RunsFrom}
-use Rattle.realm_audit.specs.Straight.{along}
-use Rattle.realm_audit.specs.Chains.{HasValidChain, AllValid, StaysInEnvelope}
+use Rattle.hook_chain.specs.Straight.{along}
+use Rattle.hook_chain.specs.StandingChains.{HasValidChain, AllValid, StaysInEnvelope}
 use Rattle.realm_audit.specs.Audits.{Audit, first_audit, LineHolds, Runs}
 use Rattle.realm_audit.specs.declared.item.Item.{Item}
 use Rattle.realm_audit.specs.declared.item.Item.TheVariants.{Point, Unpoint, Original, Change, Remove, Segment, End}
 use Rattle.realm_audit.specs.declared.item.Item.TheVariants as items
-use Rattle.realm_audit.proofs.ChainEnvelope.{chain_in_envelope}
-use Rattle.realm_audit.proofs.StraightChains.{straight_is_valid}
-use Rattle.realm_audit.proofs.StepsKeep.{step_keeps_chains}
+use Rattle.chain_laws.proofs.ChainEnvelope.{chain_in_envelope}
+use Rattle.chain_laws.proofs.StandingChains.{straight_is_valid}
+use Rattle.chain_laws.proofs.StepsKeep.{step_keeps_chains}
 
 -- so it is with the audit's drawing
 abbrev HasAllValid : Audit → Type 0

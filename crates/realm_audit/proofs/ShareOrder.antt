@@ -1,6 +1,6 @@
 -- This file shows how shares compare: by level, column and row, then by piece, then by id; and what lies in ranges of them.
-use Rattle.std.proofs.Common.{◌≡◌, ℕ, ◌<◌, ◌≤◌, false, Ordering, Less, Equal, Greater, nat_cmp}
-use Rattle.std.proofs.Common.{refl, sym, ap, subst, ◌∙◌, arith}
+use Rattle.std.proofs.Common.{◌≡◌, ℕ, ◌≤◌, false, Ordering, Less, Equal, Greater, nat_cmp}
+use Rattle.std.proofs.Common.{◌⊎◌, refl, sym, ap, subst, ◌∙◌, inl, inr, arith}
 use Rattle.std.specs.Cmp.{IsTotalOrder}
 use Rattle.std.specs.Ordering.{ordering_then, ordering_reverse, is_gt}
 use Rattle.std.proofs.lemmas.Cmp.{nat_cmp_total, on_total, then_total, tied_itself}
@@ -8,7 +8,7 @@ use Rattle.std.proofs.lemmas.Bool.Decides.{nat_tests}
 use Rattle.grid_base.specs.Segment.{GridSegment, segment_cmp}
 use Rattle.grid_base.proofs.Orders.{segment_cmp-total, segment_cmp-Equal}
 use Rattle.realm_audit.specs.Shelves.{shelf_of, share_of}
-use Rattle.realm_audit.specs.Ranges.{shelf_cmp, share_cmp}
+use Rattle.realm_audit.specs.Ranges.{shelf_cmp, share_cmp, IsUpTo}
 use Rattle.realm_audit.specs.declared.shelves.Shelf.{Shelf}
 use Rattle.realm_audit.specs.declared.shares.Share.{Share}
 
@@ -72,24 +72,6 @@ pub share_of-same : (s t : GridSegment) (x w : ℕ) → share_of s x ≡ share_o
 share_of-same s t x w same = (ap (λ (y : Share). y.piece) same, ap (λ (y : Share). y.id) same)
 
 -- ---- what comes before what
-then-first : (o r : Ordering) → o ≡ Less → ordering_then o r ≡ Less
-then-first o r less = ap (λ (p : Ordering). ordering_then p r) less
-
--- by the row, on one level and in one column
-pub less_by_row : (y z : Share) → y.shelf.level ≡ z.shelf.level → y.shelf.column ≡ z.shelf.column
-    → y.shelf.row < z.shelf.row → share_cmp y z ≡ Less
-less_by_row y z levels columns rows = then-first _ _ (by_shelf y.shelf z.shelf levels columns rows)
-  where
-    by_shelf : (p q : Shelf) → p.level ≡ q.level → p.column ≡ q.column → p.row < q.row → shelf_cmp p q ≡ Less
-    by_shelf p q levels columns rows = grind (arith, nat_tests)
-
--- by the column, on one level
-pub less_by_column : (y z : Share) → y.shelf.level ≡ z.shelf.level → y.shelf.column < z.shelf.column → share_cmp y z ≡ Less
-less_by_column y z levels columns = then-first _ _ (by_shelf y.shelf z.shelf levels columns)
-  where
-    by_shelf : (p q : Shelf) → p.level ≡ q.level → p.column < q.column → shelf_cmp p q ≡ Less
-    by_shelf p q levels columns = grind (arith, nat_tests)
-
 -- what isn't behind isn't at a shelf behind
 then-not_greater : (o r : Ordering) → is_gt (ordering_then o r) ≡ false → is_gt o ≡ false
 then-not_greater Less r h = refl
@@ -99,12 +81,7 @@ then-not_greater Greater r h = h
 pub shelf_not_behind : (y z : Share) → is_gt (share_cmp y z) ≡ false → is_gt (shelf_cmp y.shelf z.shelf) ≡ false
 shelf_not_behind y z h = then-not_greater _ _ h
 
--- p isn't behind q, in numbers
-pub record IsUpTo (p q : Shelf) : Type 0 where
-  pub level : p.level ≤ q.level
-  pub column : p.level ≡ q.level → p.column ≤ q.column
-  pub row : p.level ≡ q.level → p.column ≡ q.column → p.row ≤ q.row
-
+-- what that means in numbers
 pub up_to : (p q : Shelf) → is_gt (shelf_cmp p q) ≡ false → IsUpTo p q
 up_to p q h = record {
   level = grind (arith, nat_tests);
@@ -112,11 +89,23 @@ up_to p q h = record {
   row = λ levels columns. grind (arith, nat_tests);
 }
 
-pub less_not_greater : (o : Ordering) → o ≡ Less → is_gt o ≡ false
-less_not_greater o less = ap is_gt less
+-- a share isn't behind the place, or comes behind it
+pub up_to_or_behind : (at z : Share) → (is_gt (share_cmp z at) ≡ false) ⊎ (share_cmp at z ≡ Less)
+up_to_or_behind at z = by_case (share_cmp z at) (share_cmp at z) refl (share_cmp-total.antisymm at z)
+  where
+    by_case : (o r : Ordering) → share_cmp z at ≡ o → r ≡ ordering_reverse o → (is_gt o ≡ false) ⊎ (r ≡ Less)
+    by_case Less r is e = inl refl
+    by_case Equal r is e = inl refl
+    by_case Greater r is e = inr e
 
-pub less_up_to : (y z : Share) → share_cmp y z ≡ Less → IsUpTo y.shelf z.shelf
-less_up_to y z less = up_to y.shelf z.shelf (shelf_not_behind y z (less_not_greater (share_cmp y z) less))
+-- what comes behind the place comes behind what isn't behind the place
+pub less_through : (x y z : Share) → is_gt (share_cmp x y) ≡ false → share_cmp y z ≡ Less → share_cmp x z ≡ Less
+less_through x y z first second = by_case (share_cmp x y) refl first
+  where
+    by_case : (o : Ordering) → share_cmp x y ≡ o → is_gt o ≡ false → share_cmp x z ≡ Less
+    by_case Less is f = share_cmp-total.trans x y z is second
+    by_case Equal is f = share_cmp-total.congr x y z is ∙ second
+    by_case Greater is f = cc
 
 -- ---- the shares of one piece
 -- two keys are one where neither is behind the other

@@ -2,7 +2,7 @@
 use Rattle.std.proofs.Common.{◌≡◌, ◌⊎◌, ◌↔◌, ℕ, true, false, List, [], ◌∷◌, map, Contains, All, IsTrue, true≢false, Option, Some, None, MatchOption}
 use Rattle.std.proofs.Common.{get_or, refl, sym, ap, subst, ◌∙◌, inl, inr, arith}
 use Rattle.std.specs.BTreeMap.Range.{range_contains}
-use Rattle.std.specs.declared.ops.Bound.TheVariants.{Included, Excluded}
+use Rattle.std.specs.declared.ops.Bound.TheVariants.{Included, Excluded, Unbounded}
 use Rattle.std.specs.BTreeSet.{BTreeSet, Updates, contains, IsKeyRangeOf}
 use Rattle.std.specs.Option.{option_copied}
 use denote.Ref.{Bor}
@@ -11,10 +11,10 @@ use Rattle.std.proofs.lemmas.List.Elements.{All-contains, Contains-get_or}
 use Rattle.grid_base.specs.Segment.{GridSegment}
 use Rattle.realm_audit.specs.Shelves.{share_of, IsShelved, HasShare}
 use Rattle.realm_audit.specs.declared.shares.Share.{Share}
-use Rattle.realm_audit.proofs.Elements.{Contains-map}
-use Rattle.realm_audit.proofs.Lookups.{same_or_other, passed_over}
-use Rattle.realm_audit.proofs.PointSets.{Contains-filter}
-use Rattle.realm_audit.specs.Ranges.{share_cmp, among, NoneBetween, IsFirstBetween}
+use Rattle.chain_laws.proofs.Elements.{Contains-map}
+use Rattle.chain_laws.proofs.Lookups.{same_or_other, passed_over}
+use Rattle.chain_laws.proofs.PointSets.{Contains-filter}
+use Rattle.realm_audit.specs.Ranges.{share_cmp, among, NoneBehind, IsFirstBehind}
 use Rattle.realm_audit.proofs.ShareOrder.{share_cmp-total, share_exact, shelved_is, share_of-same, of_piece, in_order}
 
 -- ---- one change
@@ -139,19 +139,19 @@ owner_ids keys s x all =
           ids.1 (k, share_of s x, within, is, refl),
     )
 
--- ---- the first of a range
+-- ---- the first behind a place
 -- what a range gives first is the first that lies in it
-pub first_found : (s : BTreeSet Share) (from to : Share) (r : List Share) (n : Option (Bor Share)) (t : List Share)
-    → IsKeyRangeOf share_cmp (Included from) (Excluded to) s r
+pub first_found : (s : BTreeSet Share) (at : Share) (r : List Share) (n : Option (Bor Share)) (t : List Share)
+    → IsKeyRangeOf share_cmp (Excluded at) Unbounded s r
     → MatchOption n ((r ≡ []) × (t ≡ [])) (λ w. r ≡ w.now ∷ t)
-    → MatchOption (option_copied n) (NoneBetween s.keys from to) (IsFirstBetween s.keys from to)
-first_found s from to r None t of_range first = λ z between there.
-    true≢false (sym (has_by_test s z there) ∙ of_range.5 first.0 z between)
-first_found s from to r (Some w) t of_range first =
+    → MatchOption (option_copied n) (NoneBehind s.keys at) (IsFirstBehind s.keys at)
+first_found s at r None t of_range first = λ z behind there.
+    true≢false (sym (has_by_test s z there) ∙ of_range.5 first.0 z (behind, tt))
+first_found s at r (Some w) t of_range first =
     let whole = rw first at of_range in
     let this = whole.0 0 w.now (omega arith) in
     record {
       there = (set_has s w.now).0 this.1;
-      between = this.0;
-      first = λ z between there. whole.2 z between (has_by_test s z there);
+      behind = this.0.0;
+      first = λ z behind there. whole.2 z (behind, tt) (has_by_test s z there);
     }

@@ -8,9 +8,10 @@ use Rattle.grid_base.specs.Segment.{GridSegment, segment_of}
 use Rattle.grid_base.specs.Drawing.{HasLink}
 use Rattle.grid_base.proofs.Elements.{Contains-nil}
 use Rattle.realm_audit.specs.Shelves.{HasShare}
-use Rattle.realm_audit.specs.ShareChanges.{HasMore, HasFewer, IsBetween, IsLinkOf, ListsAlso}
+use Rattle.realm_audit.specs.ShareChanges.{HasMore, HasFewer, IsLinkOf, ListsAlso}
+use Rattle.hook_chain.specs.Chains.{IsBetween}
 use Rattle.realm_audit.specs.declared.shares.Share.{Share}
-use Rattle.realm_audit.proofs.PathLinks.{link_more, made_between, no_link_at_first}
+use Rattle.chain_laws.proofs.PathLinks.{link_more, made_between, no_link_at_first}
 use Rattle.realm_audit.proofs.OwnerIds.{Contains-next}
 
 -- ---- one change after another

@@ -7,12 +7,12 @@ use Rattle.grid_base.specs.Segment.{GridSegment, IsEnd}
 use Rattle.grid_base.specs.Drawing.{HasLink, IsPiece}
 use Rattle.grid_base.specs.declared.original.Original.{Original}
 use Rattle.grid_base.proofs.Elements.{Contains-later}
-use Rattle.realm_audit.specs.Chains.{HasValidChain}
+use Rattle.hook_chain.specs.StandingChains.{HasValidChain}
 use Rattle.realm_audit.specs.Kept.{drawing_of, HasSharesOf}
 use Rattle.realm_audit.specs.Clashes.{IsOwned}
 use Rattle.realm_audit.specs.declared.shares.Share.{Share}
-use Rattle.realm_audit.proofs.Elements.{Contains-head}
-use Rattle.realm_audit.proofs.PathEnds.{vertex_is_link_end}
+use Rattle.chain_laws.proofs.Elements.{Contains-head}
+use Rattle.chain_laws.proofs.PathEnds.{vertex_is_link_end}
 
 -- ---- pieces
 pub shared_piece : (points : List GridPoint) (originals : List Original) (shares : List Share) → HasSharesOf originals shares

@@ -7,8 +7,8 @@ use Rattle.grid_base.specs.declared.kinds.Step.{Step}
 use Rattle.grid_base.proofs.RealmLaw.{drawn_realm_by}
 use Rattle.hook_chain.specs.Chains.{RunsFrom}
 use Rattle.hook_chain.specs.Steps.{Settles}
-use Rattle.realm_audit.specs.Straight.{along}
-use Rattle.realm_audit.specs.Chains.{StaysInEnvelope}
+use Rattle.hook_chain.specs.Straight.{along}
+use Rattle.hook_chain.specs.StandingChains.{StaysInEnvelope}
 use Rattle.realm_audit.specs.Items.{IsTextOf}
 use Rattle.realm_audit.specs.Audits.{Audit, first_audit, TakesPoints, LineHolds, Runs}
 use Rattle.realm_audit.specs.Verdicts.{IsVerdict}

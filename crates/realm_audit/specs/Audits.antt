@@ -4,9 +4,9 @@ use Rattle.std.specs.Prelude.{◌≡◌, ◌≢◌, ◌⊎◌, ◌↔◌, ℕ, �
 use Rattle.grid_base.specs.Point.{GridPoint, IsBefore}
 use Rattle.grid_base.specs.Drawing.{Drawing, HasViolation}
 use Rattle.hook_chain.specs.Steps.{Permitted}
-use Rattle.realm_audit.specs.Straight.{placed}
-use Rattle.realm_audit.specs.Ids.{LacksId}
-use Rattle.realm_audit.specs.Changed.{PlacesChain, without_id}
+use Rattle.hook_chain.specs.Straight.{placed}
+use Rattle.hook_chain.specs.Ids.{LacksId}
+use Rattle.hook_chain.specs.Changed.{PlacesChain, without_id}
 use Rattle.realm_audit.specs.Items.{IsTextOf}
 use Rattle.realm_audit.specs.declared.item.Item.{Item}
 use Rattle.realm_audit.specs.declared.item.Item.TheVariants.{Point, Unpoint, Original, Change, Remove, Segment, End}

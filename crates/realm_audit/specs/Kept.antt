@@ -5,8 +5,8 @@ use Rattle.grid_base.specs.Segment.{GridSegment}
 use Rattle.grid_base.specs.Crossing.{Inside, Cross}
 use Rattle.grid_base.specs.Drawing.{Drawing, HasLink, IsPiece}
 use Rattle.grid_base.specs.declared.original.Original.{Original}
-use Rattle.realm_audit.specs.Ids.{IsAscending}
-use Rattle.realm_audit.specs.Chains.{HasValidChain}
+use Rattle.hook_chain.specs.Ids.{IsAscending}
+use Rattle.hook_chain.specs.StandingChains.{HasValidChain}
 use Rattle.realm_audit.specs.Shelves.{HasShare}
 use Rattle.realm_audit.specs.declared.shares.Share.{Share}
 

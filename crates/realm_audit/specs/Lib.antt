@@ -8,28 +8,16 @@ pub mod Verdicts
 pub mod Facts
 -- what the items of a sound text tell
 pub mod SoundLists
--- what a step asks, and what it puts in the place of its pieces
-pub mod Mending
--- drawings with valid chains
-pub mod Chains
--- straight originals
-pub mod Straight
--- drawings with one original more or less
-pub mod Changed
--- originals by their ids
-pub mod Ids
--- lists that lead from end to end
-pub mod Courses
 -- paths in the place of pieces
 pub mod Redraws
--- what stands for one link
-pub mod Stretches
 -- originals in a map
 pub mod ById
 -- where shares stand
 pub mod Shelves
 -- ranges of shares
 pub mod Ranges
+-- the shelves of pieces that reach a box
+pub mod Windows
 -- lists of shares that change
 pub mod ShareChanges
 -- pieces and points in violations

@@ -1,14 +1,10 @@
 -- Paths that stand for pieces, drawn in every chain. No public clause cites this file.
-use Rattle.std.specs.Prelude.{◌≡◌, ◌⊎◌, ℕ, Option, Some, None, MatchOption, List, All, Any}
-use Rattle.grid_base.specs.Point.{GridPoint, IsBefore}
-use Rattle.grid_base.specs.Segment.{GridSegment}
+use Rattle.std.specs.Prelude.{◌≡◌, ◌⊎◌, ℕ, List, All, Any}
+use Rattle.grid_base.specs.Point.{GridPoint}
 use Rattle.grid_base.specs.Drawing.{Drawing}
 use Rattle.grid_base.specs.declared.original.Original.{Original}
-use Rattle.hook_chain.specs.Chains.{RunsFrom}
 use Rattle.hook_chain.specs.Redrawing.{redraw, redrawn, redrawn_original}
-use Rattle.hook_chain.specs.ValidChain.{ValidChain}
-use Rattle.realm_audit.specs.declared.redrawing.Redrawing.{Redrawing}
-use Rattle.realm_audit.specs.declared.redrawing.Redrawings.{Redrawings}
+use Rattle.chain_laws.specs.declared.redrawing.Redrawing.{Redrawing}
 use Rattle.realm_audit.specs.declared.redrawing.Replacement.{Replacement}
 
 -- the chain with the path
@@ -19,31 +15,9 @@ redrawn_by r chain = redrawn r.piece r.path chain
 abbrev pub redrawn_original_by : Redrawing → Original → Original
 redrawn_original_by r o = redrawn_original r.piece r.path o
 
--- the path may stand for the piece: it leads from its lesser end to its greater, and a chain that may stand for
--- its original still may with the path in it
-pub record IsPathFor (r : Redrawing) : Type 0 where
-  pub ordered : IsBefore r.piece.a r.piece.b
-  pub leads : RunsFrom r.piece.a r.piece.b r.path
-  pub keeps : (o : GridSegment) (chain : List GridPoint) → ValidChain o chain
-      → ValidChain o (redrawn r.piece r.path chain)
-
--- the paths may stand for the pieces
-pub record AreRedrawings (step : Redrawings) : Type 0 where
-  pub first : IsPathFor step.first
-  pub second : MatchOption step.second (Unit {0}) IsPathFor
-
 -- the drawing with the path in the place of the piece
 abbrev pub redraw_by : Redrawing → Drawing → Drawing
 redraw_by r d = redraw r.piece r.path d
-
--- the drawing with the second path, where there is a second
-abbrev pub redraw_also : Option Redrawing → Drawing → Drawing
-redraw_also None d = d
-redraw_also (Some r) d = redraw_by r d
-
--- the drawing with the paths of the step, the second after the first
-abbrev pub redrawn_drawing : Redrawings → Drawing → Drawing
-redrawn_drawing step d = redraw_also step.second (redraw_by step.first d)
 
 -- r has the chain with the path for the original with its id
 abbrev pub IsReplacement : Redrawing → List Original → Replacement → Type 0

@@ -2,7 +2,7 @@
 use Rattle.std.specs.Prelude.{◌⊎◌, ◌↔◌, ℕ, List, Contains}
 use Rattle.grid_base.specs.Point.{GridPoint, IsBefore}
 use Rattle.grid_base.specs.Segment.{GridSegment}
-use Rattle.grid_base.specs.Drawing.{HasLink, IsLink}
+use Rattle.grid_base.specs.Drawing.{HasLink}
 use Rattle.realm_audit.specs.Shelves.{HasShare}
 use Rattle.realm_audit.specs.declared.shares.Share.{Share}
 
@@ -13,10 +13,6 @@ HasMore old new P = (s : GridSegment) (x : ℕ) → HasShare new s x ↔ (HasSha
 -- the new list has the shares of the old one but those with P
 abbrev pub HasFewer : List Share → List Share → (GridSegment → ℕ → Type 0) → Type 0
 HasFewer old new P = (s : GridSegment) (x : ℕ) → HasShare new s x ↔ (HasShare old s x × (P s x → ⊥))
-
--- s is the segment between v and w
-abbrev pub IsBetween : GridSegment → GridPoint → GridPoint → Type 0
-IsBetween s v w = IsLink s v w × IsBefore s.a s.b
 
 -- s is a link of the path, its lesser end first
 abbrev pub IsLinkOf : List GridPoint → GridSegment → Type 0

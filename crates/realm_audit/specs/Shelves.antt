@@ -1,7 +1,6 @@
 -- Where the share of a piece stands, so that pieces are found by their boxes. No public clause cites this file.
-use Rattle.std.specs.Prelude.{◌≡◌, ◌⊎◌, ℕ, ◌+◌, ◌-◌, ◌/◌, ◌^◌, ◌<◌, ◌≤◌, min, max, List, Contains}
+use Rattle.std.specs.Prelude.{◌≡◌, ℕ, ◌+◌, ◌-◌, ◌*◌, ◌/◌, ◌^◌, ◌<◌, ◌≤◌, min, max, List, Contains}
 use Rattle.std.specs.Int.{leading_zeros, w32}
-use Rattle.grid_base.specs.Grid.{grid_bits}
 use Rattle.grid_base.specs.Point.{GridPoint, IsBefore}
 use Rattle.grid_base.specs.Segment.{GridSegment, width, height}
 use Rattle.realm_audit.specs.declared.shelves.Shelf.{Shelf}
@@ -12,9 +11,17 @@ use Rattle.realm_audit.specs.declared.shares.Share.{Share}
 abbrev pub extent : GridSegment → ℕ
 extent s = max (width s) (height s)
 
--- the level of a piece: its extent is below 2 to this power
+-- the side of the cells of a level
+abbrev pub side_of : ℕ → ℕ
+side_of level = 2 ^ (2 * level)
+
+-- the greatest level, whose cells are no narrower than the grid
+abbrev pub top_level : ℕ
+top_level = 15
+
+-- the level of a piece: its extent is below the side of the cells of this level
 abbrev pub level_of : GridSegment → ℕ
-level_of s = 32 - leading_zeros w32 (extent s)
+level_of s = (33 - leading_zeros w32 (extent s)) / 2
 
 -- its lowest row
 abbrev pub lowest : GridSegment → ℕ
@@ -27,11 +34,7 @@ highest s = max s.a.y s.b.y
 -- Its shelf: on its level, in the column of cells that its lesser end is in, at its lowest row. Rows are counted from
 -- 1 here, so that row 0 comes before all.
 abbrev pub shelf_of : GridSegment → Shelf
-shelf_of s = record { level = level_of s; column = s.a.x / 2 ^ level_of s; row = lowest s + 1 }
-
--- the column of its shelf
-abbrev pub column_of : GridSegment → ℕ
-column_of s = (shelf_of s).column
+shelf_of s = record { level = level_of s; column = s.a.x / side_of (level_of s); row = lowest s + 1 }
 
 -- the share of s and x
 abbrev pub share_of : GridSegment → ℕ → Share
@@ -40,8 +43,8 @@ share_of s x = record { shelf = shelf_of s; piece = s; id = x }
 -- the share stands where it should, and its piece reaches less far than a cell of its level
 pub record IsShelved (y : Share) : Type 0 where
   pub shelf_is : y.shelf ≡ shelf_of y.piece
-  pub fits : extent y.piece < 2 ^ level_of y.piece
-  pub level_within : level_of y.piece ≤ grid_bits
+  pub fits : extent y.piece < side_of (level_of y.piece)
+  pub level_within : level_of y.piece ≤ top_level
   pub small_id : y.id < 2 ^ 32
   pub ordered : IsBefore y.piece.a y.piece.b
 
@@ -70,30 +73,6 @@ pub record MeetsBounds (b : Bounds) (s : GridSegment) : Type 0 where
   pub from_below : lowest s ≤ b.high
   pub to_above : b.low ≤ highest s
 
--- s stands on this level, in one of these columns
-pub record StandsIn (level first last : ℕ) (s : GridSegment) : Type 0 where
-  pub level_is : level_of s ≡ level
-  pub from_first : first ≤ column_of s
-  pub to_last : column_of s ≤ last
-
--- s stands on this level, in a column from the first on and before this one
-pub record StandsBefore (level first column : ℕ) (s : GridSegment) : Type 0 where
-  pub level_is : level_of s ≡ level
-  pub from_first : first ≤ column_of s
-  pub before : column_of s < column
-
--- s stands on this level, in this column
-pub record StandsAt (level column : ℕ) (s : GridSegment) : Type 0 where
-  pub level_is : level_of s ≡ level
-  pub column_is : column_of s ≡ column
-
--- the new list has all of the old one, and pieces of shares alone
-pub record ListsPieces (shares : List Share) (old new : List GridSegment) : Type 0 where
-  pub stay : (s : GridSegment) → Contains old s → Contains new s
-  pub shared : (s : GridSegment) → Contains new s → Contains old s ⊎ ((x : ℕ) × HasShare shares s x)
-
--- and all pieces with P that reach the bounds
-pub record ListsReached (shares : List Share) (b : Bounds) (P : GridSegment → Type 0) (old new : List GridSegment)
-    : Type 0 where
-  pub lists : ListsPieces shares old new
-  pub all : (s : GridSegment) (x : ℕ) → HasShare shares s x → P s → MeetsBounds b s → Contains new s
+-- the list has pieces of shares alone
+abbrev pub ListsPieces : List Share → List GridSegment → Type 0
+ListsPieces shares list = (s : GridSegment) → Contains list s → (x : ℕ) × HasShare shares s x

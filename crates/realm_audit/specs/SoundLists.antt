@@ -5,8 +5,8 @@ use Rattle.grid_base.specs.Drawing.{Drawing, IsDrawnRealm}
 use Rattle.grid_base.specs.declared.kinds.Step.{Step}
 use Rattle.hook_chain.specs.Chains.{RunsFrom}
 use Rattle.hook_chain.specs.Steps.{Settles}
-use Rattle.realm_audit.specs.Straight.{along}
-use Rattle.realm_audit.specs.Chains.{StaysInEnvelope}
+use Rattle.hook_chain.specs.Straight.{along}
+use Rattle.hook_chain.specs.StandingChains.{StaysInEnvelope}
 use Rattle.realm_audit.specs.Audits.{Audit, first_audit, Runs}
 use Rattle.realm_audit.specs.Facts.{IsClosing, is_change, is_step}
 use Rattle.realm_audit.specs.declared.item.Item.{Item}

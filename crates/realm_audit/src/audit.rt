@@ -9,10 +9,10 @@ ghost use Rattle.realm_audit.specs.Outcomes.{LeadsBy, LeadsByText};
 ghost use Rattle.realm_audit.specs.declared.item.Item.TheVariants as items;
 
 use crate::board::Board;
-use crate::courses::original_of;
 use crate::item::Item;
 use crate::phase::Phase;
 use crate::reading::read_item;
+use chain_laws::original_of;
 use grid_base::{Chain, NoMemory, Point, Segment, Step};
 use std::alloc::Global;
 use std::marker::Model;

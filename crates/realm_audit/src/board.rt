@@ -6,20 +6,21 @@ ghost use Rattle.grid_base.specs.Segment.{GridSegment};
 ghost use Rattle.grid_base.specs.Drawing.{Drawing, IsPoint, IsPiece, HasViolation};
 ghost use Rattle.hook_chain.specs.ValidChain.{ValidChain};
 ghost use Rattle.hook_chain.specs.Steps.{Permitted};
-ghost use Rattle.realm_audit.specs.Straight.{AllBelow, placed};
-ghost use Rattle.realm_audit.specs.Ids.{LacksId};
-ghost use Rattle.realm_audit.specs.Changed.{with_chain, without_id};
-ghost use Rattle.realm_audit.specs.Redraws.{IsPathFor, redraw_by};
-ghost use Rattle.realm_audit.specs.Mending.{IsMending, HasParts};
+ghost use Rattle.hook_chain.specs.Straight.{AllBelow, placed};
+ghost use Rattle.hook_chain.specs.Ids.{LacksId};
+ghost use Rattle.hook_chain.specs.Changed.{with_chain, without_id};
+ghost use Rattle.chain_laws.specs.Redraws.{IsPathFor};
+ghost use Rattle.realm_audit.specs.Redraws.{redraw_by};
+ghost use Rattle.hook_chain.specs.Mending.{IsMending, HasParts};
 ghost use Rattle.realm_audit.specs.Audits.{GainsPoint, LosesPoint};
 
 use crate::explicit::ExplicitPoints;
 use crate::fresh::{have_clash, is_vertex};
 use crate::links::{list_links, put_links, put_owners, take_links, take_owners};
-use crate::mending::{is_mending, redrawings_of};
 use crate::originals::Originals;
-use crate::redrawing::{Redrawing, install, replacements};
+use crate::redrawing::{install, replacements};
 use crate::shares::Shares;
+use chain_laws::{Redrawing, is_mending, redrawings_of};
 use grid_base::{Chain, NoMemory, Point, Segment, Step};
 use std::alloc::Global;
 use std::marker::Model;
@@ -282,6 +283,37 @@ impl Board {
 
     // The board of the same drawing, with nothing fresh; none where there is a violation.
     pub(crate) fn settled(self) -> Result<Option<Board>, NoMemory>
+        ensures { IfOk result (λ found. MatchOption found (HasViolation self) (λ b. (b ≡ self) × (HasViolation b → ⊥))) }
+    {
+        self.with_each_once().cleared()
+    }
+
+    // The board of the same drawing, where each fresh piece is listed once, and near ones one after the other.
+    fn with_each_once(self) -> Board
+        ensures { result ≡ self }
+    {
+        let Board {
+            explicit,
+            originals,
+            shares,
+            mut fresh_pieces,
+            fresh_points,
+            alloc,
+        } = self;
+        fresh_pieces.sort_unstable();
+        fresh_pieces.dedup();
+        Board {
+            explicit,
+            originals,
+            shares,
+            fresh_pieces,
+            fresh_points,
+            alloc,
+        }
+    }
+
+    // The same as `settled`, where each fresh piece is looked at as often as it is listed.
+    fn cleared(self) -> Result<Option<Board>, NoMemory>
         ensures { IfOk result (λ found. MatchOption found (HasViolation self) (λ b. (b ≡ self) × (HasViolation b → ⊥))) }
     {
         if self.is_violated()? {

@@ -11,5 +11,6 @@ pub(crate) struct Bounds {
     pub(crate) high: u32,
     ghost across: { left ≤ right },
     ghost right_on_grid: { right < grid_side },
+    ghost low_on_grid: { low < grid_side },
     ghost high_on_grid: { high < grid_side },
 }

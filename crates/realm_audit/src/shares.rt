@@ -1,21 +1,22 @@
 //! Shares: each is a piece and the id of an original whose chain has it. They are one ordered set, by their shelves, so that
-//! the pieces near a box are found on each level by a few ranges of it.
-ghost use Rattle.std.specs.Prelude.{◌≡◌, ◌⊎◌, ◌↔◌, ◌+◌, ◌-◌, ◌/◌, ◌^◌, ◌<◌, ◌≤◌, ℕ, [], All, Contains, IsTrue, false};
+//! a search for the pieces near a box jumps over most of it.
+ghost use Rattle.std.specs.Prelude.{◌≡◌, ◌⊎◌, ◌↔◌, ℕ, [], All, Contains, IsTrue, false};
 ghost use Rattle.std.specs.Prelude.{MatchOption, IfOk, OnOk};
-ghost use Rattle.grid_base.specs.Grid.{grid_bits, grid_side};
-ghost use Rattle.grid_base.specs.Point.{IsBefore, point_at};
-ghost use Rattle.grid_base.specs.Segment.{GridSegment, segment_of};
-ghost use Rattle.realm_audit.specs.Shelves.{HasShare, IsShelved, MeetsBounds, StandsIn, StandsAt, ListsPieces, ListsReached};
-ghost use Rattle.realm_audit.specs.Shelves.{level_of, column_of};
-ghost use Rattle.realm_audit.specs.Ranges.{share_cmp, ids_among, pieces_among, NoneBetween, IsFirstBetween};
+ghost use Rattle.grid_base.specs.Point.{IsBefore};
+ghost use Rattle.grid_base.specs.Segment.{GridSegment};
+ghost use Rattle.realm_audit.specs.Shelves.{HasShare, IsShelved, MeetsBounds, ListsPieces};
+ghost use Rattle.realm_audit.specs.Windows.{PassesOwn, AddsReached};
+ghost use Rattle.realm_audit.specs.Ranges.{share_cmp, ids_among, NoneBehind, IsFirstBehind};
 ghost use Rattle.std.specs.Ordering.{is_gt};
 
 use crate::bounds::Bounds;
-use crate::shelves::{LEVELS, Shelf, cell_side, shelf_of};
+use crate::shelves::{Shelf, reaches, shelf_of};
+use crate::window::next_shelf;
 use grid_base::{NoMemory, Point, Segment};
 use std::alloc::Global;
 use std::collections::BTreeSet;
 use std::marker::Model;
+use std::ops::Bound;
 
 /// A piece and the id of an original that has it, at the shelf of the piece.
 #[derive(Clone, Copy, PartialEq, Eq, PartialOrd, Ord)]
@@ -119,113 +120,77 @@ impl Shares {
         Ok(!owners.is_empty())
     }
 
-    // Pieces that originals have: among them all whose boxes reach the bounds.
+    // The pieces that originals have, each once, whose boxes reach the bounds. A search goes from share to share, and over
+    // all levels, columns, rows and further shares of a piece among which none reaches them.
     pub(crate) fn around(&self, bounds: &Bounds) -> Result<Vec<Segment>, NoMemory>
-        ensures shared { IfOk result (λ v. (s : GridSegment) → Contains v.items s
-            → (x : ℕ) × HasShare self.now s x) }
+        ensures shared { IfOk result (λ v. ListsPieces self.now v.items) }
         ensures all { IfOk result (λ v. (s : GridSegment) (x : ℕ) → HasShare self.now s x
             → MeetsBounds bounds.now s → Contains v.items s) }
         ensures ordered { (s : GridSegment) (x : ℕ) → HasShare self.now s x → IsBefore s.a s.b }
     {
         let mut list = Vec::new(self.alloc);
-        for level in 0..LEVELS {
-            self.on_level(level, bounds, &mut list)?;
+        let mut at = fence(Shelf {
+            level: 0,
+            column: 0,
+            row: 0,
+        });
+        while let Some(share) = self.first_behind(&at) {
+            add_reached(bounds, &share.piece, &mut list)?;
+            at = place_behind(bounds, &share);
         }
         Ok(list)
     }
 
-    // Adds those of one level.
-    fn on_level(&self, level: u32, bounds: &Bounds, list: &mut Vec<Segment>) -> Result<(), NoMemory>
-        requires { level ≤ grid_bits }
-        ensures { OnOk result
-            (ListsReached self.now bounds.now (λ s. level_of s ≡ level) list.old.items list.new.items) }
-    {
-        let side = cell_side(level);
-        let mut column = bounds.left.saturating_sub(side) / side;
-        let last = bounds.right / side;
-        while let Some(next) = self.next_column(level, column, last) {
-            self.in_column(level, next, bounds, list)?;
-            column = next + 1;
-        }
-        Ok(())
-    }
-
-    // The first of the columns from `first` to `last` in which pieces stand on this level.
-    fn next_column(&self, level: u32, first: u32, last: u32) -> Option<u32>
-        requires forward { first ≤ last + 1 }
-        requires on_grid { last < grid_side }
-        ensures shelved { All IsShelved self.now }
-        ensures next { MatchOption result
-            ((s : GridSegment) (x : ℕ) → HasShare self.now s x → StandsIn level first last s → ⊥)
-            (λ n. (first ≤ n) × (n ≤ last) × ((s : GridSegment) (x : ℕ) → HasShare self.now s x
-            → StandsIn level first last s → n ≤ column_of s)) }
-    {
-        let share = self.first_between(fence(level, first, 0), fence(level, last + 1, 0))?;
-        Some(share.shelf.column)
-    }
-
-    // The first share from the one up to the other.
-    fn first_between(&self, from: Share, to: Share) -> Option<Share>
-        requires forward { is_gt (share_cmp from to) ≡ false }
-        ensures first { MatchOption result (NoneBetween self.now from to) (IsFirstBetween self.now from to) }
+    // The first share behind the place.
+    fn first_behind(&self, at: &Share) -> Option<Share>
+        ensures first { MatchOption result (NoneBehind self.now at.now) (IsFirstBehind self.now at.now) }
         ensures shelved { All IsShelved self.now }
     {
-        self.set.range(from..to).next().copied()
-    }
-
-    // The pieces of the shares from the one up to the other.
-    fn pieces_between(&self, from: Share, to: Share) -> Result<Vec<Segment>, NoMemory>
-        requires forward { is_gt (share_cmp from to) ≡ false }
-        ensures pieces { IfOk result (λ v. v.items ≡ pieces_among self.now from to) }
-        ensures shelved { All IsShelved self.now }
-    {
-        Ok(
-            self.set
-                .range(from..to)
-                .map(|share| share.piece)
-                .collect(self.alloc)?,
-        )
-    }
-
-    // Adds the pieces of one column whose lowest rows are neither above the bounds nor by a side or more below them.
-    fn in_column(
-        &self,
-        level: u32,
-        column: u32,
-        bounds: &Bounds,
-        list: &mut Vec<Segment>,
-    ) -> Result<(), NoMemory>
-        requires level { level ≤ grid_bits }
-        ensures { OnOk result
-            (ListsReached self.now bounds.now (StandsAt level column) list.old.items list.new.items) }
-    {
-        let low = bounds.low.saturating_sub(cell_side(level));
-        let from = fence(level, column, low.min(bounds.high));
-        let to = fence(level, column, bounds.high + 2);
-        let found = self.pieces_between(from, to)?;
-        list.extend_from_slice(found.as_slice())?;
-        Ok(())
+        self.set
+            .range((Bound::Excluded(*at), Bound::Unbounded))
+            .next()
+            .copied()
     }
 }
 
-// A share that isn't kept, but stands between those of the rows before `row` and those of the rows behind it.
-fn fence(level: u32, column: u32, row: u32) -> Share
-    ensures level { result.shelf.level ≡ level }
-    ensures column { result.shelf.column ≡ column }
-    ensures row { result.shelf.row ≡ row }
-    ensures piece { result.piece ≡ segment_of (point_at 0 0) (point_at 0 1) }
-    ensures id { result.id ≡ 0 }
+// Adds the piece, if it reaches the bounds.
+fn add_reached(bounds: &Bounds, piece: &Segment, list: &mut Vec<Segment>) -> Result<(), NoMemory>
+    ensures { OnOk result (AddsReached bounds.now piece.now list.old.items list.new.items) }
+{
+    if reaches(bounds, piece) {
+        list.push(*piece)?;
+    }
+    Ok(())
+}
+
+// Where a search for pieces that reach the bounds goes on behind a share.
+fn place_behind(bounds: &Bounds, share: &Share) -> Share
+    requires { IsShelved share.now }
+    ensures ahead { is_gt (share_cmp share.now result) ≡ false }
+    ensures passed { PassesOwn bounds.now share.now result }
+{
+    match next_shelf(bounds, &share.shelf) {
+        Some(shelf) => fence(shelf),
+        None => Share {
+            shelf: share.shelf,
+            piece: share.piece,
+            id: u32::MAX,
+        },
+    }
+}
+
+// A place at a shelf.
+fn fence(shelf: Shelf) -> Share
+    ensures { result.shelf ≡ shelf }
 {
     Share {
-        shelf: Shelf { level, column, row },
+        shelf,
         piece: some_piece(),
         id: 0,
     }
 }
 
-fn some_piece() -> Segment
-    ensures { result ≡ segment_of (point_at 0 0) (point_at 0 1) }
-{
+fn some_piece() -> Segment {
     match Segment::new(Point::at(0, 0), Point::at(0, 1)) {
         Some(piece) => piece,
         None => unreachable!(),

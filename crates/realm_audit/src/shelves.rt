@@ -1,14 +1,15 @@
-//! Where the share of a piece stands. A piece whose box is less than 2^k wide and high has its shelf on the level k, in one
-//! of the columns of cells with a side of 2^k, at its lowest row. So on each level the pieces that reach a box begin in its
-//! columns or in the one before, and no lower than the side of a cell below it.
-ghost use Rattle.std.specs.Prelude.{◌≡◌, ◌^◌, ◌<◌, ◌≤◌};
-ghost use Rattle.grid_base.specs.Grid.{grid_bits, grid_side};
+//! Where the share of a piece stands. A piece whose box is less than 4^k wide and high has its shelf on the level k, in one
+//! of the columns of cells with a side of 4^k, at its lowest row. So on each level the pieces that reach a box begin in its
+//! columns or in the one before, and no lower than the side of a cell below it. With sides of 2^k there would be twice as
+//! many levels, and more columns beside a box in which pieces stand.
+ghost use Rattle.std.specs.Prelude.{◌≡◌, ◌<◌, ◌≤◌, ◌↔◌, IsTrue};
+ghost use Rattle.grid_base.specs.Grid.{grid_side};
 ghost use Rattle.grid_base.specs.Point.{IsBefore};
 ghost use Rattle.realm_audit.specs.Shelves as shelves;
-ghost use Rattle.realm_audit.specs.Shelves.{extent, AreBoundsOf, AreBoundsAt};
+ghost use Rattle.realm_audit.specs.Shelves.{extent, side_of, top_level, AreBoundsOf, AreBoundsAt, MeetsBounds};
 
 use crate::bounds::Bounds;
-use grid_base::{GRID_BITS, Point, Segment};
+use grid_base::{Point, Segment};
 
 /// The shelf of a share.
 #[derive(Clone, Copy, PartialEq, Eq, PartialOrd, Ord)]
@@ -18,17 +19,16 @@ pub(crate) struct Shelf {
     pub(crate) row: u32,
 }
 
-// How many levels there are.
-pub(crate) const LEVELS: u32 = GRID_BITS + 1;
+// The greatest level, whose cells are no narrower than the grid.
+pub(crate) const TOP_LEVEL: u32 = 15;
 
 // The side of the cells of a level.
 pub(crate) fn cell_side(level: u32) -> u32
-    requires { level ≤ grid_bits }
-    ensures side { result ≡ 2 ^ level }
+    requires { level ≤ top_level }
+    ensures side { result ≡ side_of level }
     ensures some { 0 < result }
-    ensures below { result ≤ grid_side }
 {
-    1 << level
+    1 << (2 * level)
 }
 
 // How far the piece reaches across and up, whichever is more.
@@ -44,17 +44,17 @@ fn extent_of(piece: &Segment) -> u32
 // The level of the piece.
 fn level_of(piece: &Segment) -> u32
     ensures level { result ≡ shelves.level_of piece.now }
-    ensures fits { extent piece.now < 2 ^ result }
-    ensures below { result ≤ grid_bits }
+    ensures fits { extent piece.now < side_of result }
+    ensures below { result ≤ top_level }
 {
-    32 - extent_of(piece).leading_zeros()
+    (33 - extent_of(piece).leading_zeros()) / 2
 }
 
 // The shelf of the piece.
 pub(crate) fn shelf_of(piece: &Segment) -> Shelf
     ensures shelf { result ≡ shelves.shelf_of piece.now }
-    ensures fits { extent piece.now < 2 ^ shelves.level_of piece.now }
-    ensures level_within { shelves.level_of piece.now ≤ grid_bits }
+    ensures fits { extent piece.now < side_of (shelves.level_of piece.now) }
+    ensures level_within { shelves.level_of piece.now ≤ top_level }
     ensures ordered { IsBefore piece.now.a piece.now.b }
 {
     let level = level_of(piece);
@@ -90,4 +90,14 @@ pub(crate) fn bounds_at(p: &Point) -> Bounds
         low: p.y(),
         high: p.y(),
     }
+}
+
+// Whether the box of the piece and the bounds have a common point.
+pub(crate) fn reaches(bounds: &Bounds, piece: &Segment) -> bool
+    ensures { IsTrue result ↔ MeetsBounds bounds.now piece.now }
+{
+    let (a, b) = (piece.a(), piece.b());
+    let across = a.x() <= bounds.right && bounds.left <= b.x();
+    let up = a.y().min(b.y()) <= bounds.high && bounds.low <= a.y().max(b.y());
+    across && up
 }

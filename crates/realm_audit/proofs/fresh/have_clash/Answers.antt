@@ -1,6 +1,6 @@
 use Rattle.std.proofs.Common.{refl, sym, ◌∙◌, inl, inr, true≢false}
 use Rattle.realm_audit.specs.Clashes.{HasClash, IsExplicitInPiece}
-use Rattle.realm_audit.proofs.Elements.{Any-nil}
+use Rattle.chain_laws.proofs.Elements.{Any-nil}
 use Rattle.realm_audit.proofs.Sought.{none_more, none_at_end, some_here}
 use Rattle.realm_audit.proofs.fresh.have_clash.Goals as goal
 

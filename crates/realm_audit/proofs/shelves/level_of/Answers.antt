@@ -1,13 +1,14 @@
-use Rattle.std.proofs.Common.{ℕ, ◌-◌, ◌^◌, ◌<◌, subst}
+use Rattle.std.proofs.Common.{ℕ, ◌-◌, ◌/◌, ◌<◌, subst}
 use Rattle.std.specs.Int.{leading_zeros, w32}
+use Rattle.realm_audit.specs.Shelves.{side_of}
 use Rattle.realm_audit.proofs.Levels.{level_fits, level_within}
 use Rattle.realm_audit.proofs.shelves.level_of.Goals as goal
 
--- the level is how many binary digits the extent has
+-- the level is half of how many binary digits the extent has
 pub returns-clause-fits : goal.returns-clause-fits
 returns-clause-fits c =
     let reach = c.extent_of.result in
-    subst (λ (n : ℕ). n < 2 ^ (32 - leading_zeros w32 reach)) c.extent_of.ensures.extent
+    subst (λ (n : ℕ). n < side_of ((33 - leading_zeros w32 reach) / 2)) c.extent_of.ensures.extent
     (level_fits reach c.extent_of.ensures.below)
 
 pub returns-clause-below : goal.returns-clause-below

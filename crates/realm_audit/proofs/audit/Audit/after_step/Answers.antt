@@ -1,5 +1,5 @@
 use Rattle.std.proofs.Common.{sym, ◌∙◌, true≢false}
-use Rattle.realm_audit.proofs.Mendings.{permitted_mends}
+use Rattle.chain_laws.proofs.Mendings.{permitted_mends}
 use Rattle.realm_audit.proofs.SoundAudits.{step_keeps_ids}
 use Rattle.realm_audit.proofs.audit.Audit.after_step.Goals as goal
 use Rattle.realm_audit.proofs.audit.Audit.after_step.Goals.{then-not-takes_steps-via-then-not-takes_steps, then-not-takes_steps-via-else-not-takes_steps+in_ok-permits+then-not-branch}

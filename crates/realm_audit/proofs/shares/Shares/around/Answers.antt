@@ -1,24 +1,26 @@
-use Rattle.std.proofs.Common.{◌<◌, [], All}
-use Rattle.realm_audit.specs.Shelves.{level_of, IsShelved}
-use Rattle.realm_audit.proofs.Searches.{reached_none, none_below, next_level_too, all_levels_shared, all_levels_listed}
+use Rattle.realm_audit.proofs.Searches.{none_yet, next_listed, all_listed, fewer_left}
 use Rattle.realm_audit.proofs.shares.Shares.around.Goals as goal
 
--- no level yet
-pub loop-level-init : goal.loop-level-init
-loop-level-init c = rw c.new-list.ensures.items
-    (reached_none c.args.self.now c.args.bounds.now (λ s. level_of s < 0) [] none_below)
+-- no share stands before the first place
+pub loop-share-init : goal.loop-share-init
+loop-share-init c = rw c.new-list.ensures.items
+    (none_yet c.args.self.now c.args.bounds.now c.fence-at.result c.fence-at.ensures)
 
--- one level more
-pub loop-level-preserved : goal.loop-level-preserved
-loop-level-preserved c =
-    next_level_too c.args.self.now c.args.bounds.now c.loop-level.level [] _ _ c.loop-level.invariant c.in_ok-on_level.ensures
+-- one share more
+pub loop-share-preserved : goal.loop-share-preserved
+loop-share-preserved c =
+    next_listed c.args.self.now c.args.bounds.now c.loop-share.at c.in-Some.share c.place_behind-at.result
+    c.loop-share.list.items c.add_reached.new.list.items c.in-Some.ensures.shelved c.in-Some.ensures.first
+    c.place_behind-at.ensures.passed c.loop-share.invariant c.in_ok-add_reached.ensures
 
--- at the end all of them
-pub returns-clause-shared : goal.returns-clause-shared
-returns-clause-shared c = all_levels_shared c.args.self.now c.args.bounds.now c.loop-level.level _ c.loop-level.invariant
+-- it was behind the place, and isn't any more
+pub loop-share-smaller : goal.loop-share-smaller
+loop-share-smaller c =
+    fewer_left c.args.self.now c.loop-share.at c.in-Some.share c.place_behind-at.result c.in-Some.ensures.first
+    c.place_behind-at.ensures.ahead
 
+-- at the end none is left
 pub returns-clause-all : goal.returns-clause-all
 returns-clause-all c =
-    let shelved : All IsShelved c.args.self.now = rw (← c.self.view_is) c.self.invariant in
-    all_levels_listed c.args.self.now c.args.bounds.now c.loop-level.level _ shelved c.loop-level-test.false
-    c.loop-level.invariant
+    all_listed c.args.self.now c.args.bounds.now c.loop-share.at c.loop-share.list.items c.in_default.ensures.first
+    c.loop-share.invariant

@@ -1,7 +1,12 @@
-use Rattle.std.proofs.Common.{◌<◌, []}
-use Rattle.realm_audit.specs.Shelves.{level_of, ListsReached}
+use Rattle.std.proofs.Common.{length}
+use Rattle.realm_audit.specs.Ranges.{shares_behind}
+use Rattle.realm_audit.specs.Windows.{ListsUpTo}
 use Rattle.realm_audit.proofs.shares.Shares.around.Given as goal
 
--- the pieces of the levels so far that reach the bounds are listed
-abbrev pub invariant-loop-level : goal.invariant-loop-level
-invariant-loop-level l = ListsReached l.self l.bounds (λ s. level_of s < l.level) [] l.list.items
+-- the pieces up to the place that reach the bounds are listed
+abbrev pub invariant-loop-share : goal.invariant-loop-share
+invariant-loop-share l = ListsUpTo l.self l.bounds l.at l.list.items
+
+-- fewer shares are left behind it each time
+abbrev pub decreases-loop-share : goal.decreases-loop-share
+decreases-loop-share l = length (shares_behind l.self l.at)

@@ -1,0 +1,52 @@
+-- The columns and rows in which pieces that reach a box stand, level by level. No public clause cites this file.
+use Rattle.std.specs.Prelude.{◌≡◌, ◌⊎◌, ℕ, ◌+◌, ◌-◌, ◌/◌, ◌<◌, ◌≤◌, false, List, Contains}
+use Rattle.realm_audit.specs.declared.bounds.Bounds.{Bounds}
+use Rattle.realm_audit.specs.declared.shelves.Shelf.{Shelf}
+use Rattle.realm_audit.specs.declared.window.Window.{Window}
+use Rattle.realm_audit.specs.declared.shares.Share.{Share}
+use Rattle.realm_audit.specs.Shelves.{side_of, share_of, IsShelved, HasShare, MeetsBounds, ListsPieces}
+use Rattle.realm_audit.specs.Ranges.{share_cmp, IsUpTo}
+use Rattle.std.specs.Ordering.{is_gt}
+use Rattle.grid_base.specs.Segment.{GridSegment}
+
+-- the window of the bounds on a level
+abbrev pub window_at : Bounds → ℕ → Window
+window_at b level = record {
+  first = (b.left - side_of level) / side_of level;
+  last = b.right / side_of level;
+  below = b.low - side_of level;
+  top = b.high + 1;
+}
+
+-- the shelf is in the window, on whose level it is
+pub record IsWithin (w : Window) (q : Shelf) : Type 0 where
+  pub from_first : w.first ≤ q.column
+  pub to_last : q.column ≤ w.last
+  pub above : w.below < q.row
+  pub to_top : q.row ≤ w.top
+
+-- the shelf is in the window of the bounds on its level
+abbrev pub IsInWindow : Bounds → Shelf → Type 0
+IsInWindow b q = IsWithin (window_at b q.level) q
+
+-- no shelf from p up to next is in its window
+abbrev pub NoneUpTo : Bounds → Shelf → Shelf → Type 0
+NoneUpTo b p next = (q : Shelf) → IsUpTo p q → IsUpTo q next → IsInWindow b q → ⊥
+
+-- a share from y on up to the place, of a piece that reaches the bounds, is of the piece of y
+abbrev pub PassesOwn : Bounds → Share → Share → Type 0
+PassesOwn b y place = (s : GridSegment) (x : ℕ) → IsShelved (share_of s x)
+    → is_gt (share_cmp y (share_of s x)) ≡ false → is_gt (share_cmp (share_of s x) place) ≡ false
+    → MeetsBounds b s → s ≡ y.piece
+
+-- the list has pieces of shares alone, and of those up to the place all that reach the bounds
+pub record ListsUpTo (shares : List Share) (b : Bounds) (place : Share) (list : List GridSegment) : Type 0 where
+  pub lists : ListsPieces shares list
+  pub all : (s : GridSegment) (x : ℕ) → HasShare shares s x → is_gt (share_cmp (share_of s x) place) ≡ false
+      → MeetsBounds b s → Contains list s
+
+-- the new list has what the old one had, and the piece where it reaches the bounds, and nothing else
+pub record AddsReached (b : Bounds) (piece : GridSegment) (old new : List GridSegment) : Type 0 where
+  pub stay : (s : GridSegment) → Contains old s → Contains new s
+  pub own : MeetsBounds b piece → Contains new piece
+  pub only : (s : GridSegment) → Contains new s → Contains old s ⊎ (s ≡ piece)

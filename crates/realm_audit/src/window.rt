@@ -1,0 +1,90 @@
+//! The window of a box: on each level the columns and the rows in which pieces that reach the box stand, and where a search
+//! goes on behind a shelf.
+ghost use Rattle.std.specs.Prelude.{◌≡◌, ◌+◌, ◌<◌, ◌≤◌, IfSome};
+ghost use Rattle.std.specs.declared.cmp.Ordering.TheVariants.{Less};
+ghost use Rattle.grid_base.specs.Grid.{grid_side};
+ghost use Rattle.realm_audit.specs.Shelves.{top_level};
+ghost use Rattle.realm_audit.specs.Windows.{window_at, NoneUpTo};
+ghost use Rattle.realm_audit.specs.Ranges.{shelf_cmp};
+
+use crate::bounds::Bounds;
+use crate::shelves::{Shelf, TOP_LEVEL, cell_side};
+
+/// The columns of a level from `first` to `last`, and its rows behind `below` up to `top`.
+#[derive(Clone, Copy)]
+pub(crate) struct Window {
+    pub(crate) first: u32,
+    pub(crate) last: u32,
+    pub(crate) below: u32,
+    pub(crate) top: u32,
+}
+
+// The window of the bounds on a level.
+fn window_of(bounds: &Bounds, level: u32) -> Window
+    requires { level ≤ top_level }
+    ensures window { result ≡ window_at bounds.now level }
+    ensures last_on_grid { result.last < grid_side }
+{
+    let side = cell_side(level);
+    Window {
+        first: bounds.left.saturating_sub(side) / side,
+        last: bounds.right / side,
+        below: bounds.low.saturating_sub(side),
+        top: bounds.high + 1,
+    }
+}
+
+// Where a search goes on behind a shelf: none where that shelf is in the window of its level.
+pub(crate) fn next_shelf(bounds: &Bounds, at: &Shelf) -> Option<Shelf>
+    requires { at.now.level ≤ top_level }
+    ensures ahead { IfSome result (λ next. shelf_cmp at.now next ≡ Less) }
+    ensures none_between { IfSome result (NoneUpTo bounds.now at.now) }
+{
+    let Shelf { level, column, row } = *at;
+    let window = window_of(bounds, level);
+    if column < window.first {
+        Some(Shelf {
+            level,
+            column: window.first,
+            row: window.below,
+        })
+    } else if column > window.last {
+        Some(first_shelf(bounds, level + 1))
+    } else if row < window.below {
+        Some(Shelf {
+            level,
+            column,
+            row: window.below,
+        })
+    } else if row > window.top {
+        Some(Shelf {
+            level,
+            column: column + 1,
+            row: window.below,
+        })
+    } else {
+        None
+    }
+}
+
+// Where a search begins on a level, or behind all levels.
+fn first_shelf(bounds: &Bounds, level: u32) -> Shelf
+    requires { level ≤ top_level + 1 }
+    ensures level { result.level ≡ level }
+    ensures column { result.column ≡ (window_at bounds.now level).first }
+    ensures row { result.row ≡ (window_at bounds.now level).below }
+{
+    if level > TOP_LEVEL {
+        return Shelf {
+            level,
+            column: 0,
+            row: 0,
+        };
+    }
+    let window = window_of(bounds, level);
+    Shelf {
+        level,
+        column: window.first,
+        row: window.below,
+    }
+}
