@@ -14,7 +14,7 @@ use Rattle.realm_index.specs.Square.{whole_grid}
 use Rattle.realm_index.specs.Bounds.{Bounds, bounds_of, meets, holds, is_near, fits, home}
 use Rattle.realm_index.specs.Branch.{Branch, if_met, if_near, AddsKeys, count_near, HasMore, Lacks}
 use Rattle.realm_index.specs.Index.{Entries, HasKeysWhere, HasCountWhere}
-use Rattle.realm_index.specs.Kept.{HoldsEntries}
+use Rattle.realm_index.specs.Kept.{HasEntriesOf, HoldsEntries}
 use Rattle.realm_index.specs.declared.tree.Entry.{Entry}
 use Rattle.realm_index.proofs.Homes.{fits_from}
 use Rattle.realm_index.proofs.Sums.{fails, all_pass, none_fails}
@@ -69,44 +69,44 @@ is_taken mid new e true some taken none = taken
 is_taken mid new e false some taken none = let lacks = none_there mid e none in absurd (omega (arith, some, lacks))
 
 -- ---- answers
-module _ (tree : Branch) (segments : Entries) (kept : HoldsEntries tree segments) (w : Bounds) where
-  -- whether the box of the segment meets w, and whether its home is near it
-  abbrev is_met : ℕ × GridSegment → Bool
-  is_met e = meets w (bounds_of e.1)
+-- whether the box of the segment meets w, and whether its home is near it
+abbrev is_met : Bounds → ℕ × GridSegment → Bool
+is_met w e = meets w (bounds_of e.1)
 
-  abbrev is_home_near : ℕ × GridSegment → Bool
-  is_home_near e = is_near w (home (bounds_of e.1))
+abbrev is_home_near : Bounds → ℕ × GridSegment → Bool
+is_home_near w e = is_near w (home (bounds_of e.1))
 
-  met_sums : (ks : List ℕ) → AddsKeys w tree.entries [] ks → HasSameSums ks (picks is_met (map.entries segments))
+module _ (entries : List Entry) (segments : Entries) (have : HasEntriesOf entries segments) (w : Bounds) where
+  met_sums : (ks : List ℕ) → AddsKeys w entries [] ks → HasSameSums ks (picks (is_met w) (map.entries segments))
   met_sums ks adds f =
       let found = adds f in
-      let same = kept.same (if_met w f) in
-      let picked = sum_picks is_met f (map.entries segments) in
+      let same = have (if_met w f) in
+      let picked = sum_picks (is_met w) f (map.entries segments) in
       omega (arith, found, same, picked)
 
   pub met_keys : (P : GridSegment → Type 0) → ((t : GridSegment) → IsTrue (meets w (bounds_of t)) ↔ P t) → (ks : List ℕ)
-      → AddsKeys w tree.entries [] ks → IsNonDecreasing ks → HasKeysWhere P segments ks
+      → AddsKeys w entries [] ks → IsNonDecreasing ks → HasKeysWhere P segments ks
   met_keys P decides ks adds up =
-      let all = sorted_picks is_met (map.entries segments) (entries_ascend segments) in
-      let same = same_sorted ks (picks is_met (map.entries segments)) up (non_decreasing_from_sorted (picks is_met (map.entries segments)) all)
-      (met_sums ks adds) in
-      subst (HasKeysWhere P segments) (sym same)
-      (picked_of_map segments P is_met (λ k t there. decides t))
+      let met = picks (is_met w) (map.entries segments) in
+      let all = sorted_picks (is_met w) (map.entries segments) (entries_ascend segments) in
+      let same = same_sorted ks met up (non_decreasing_from_sorted met all) (met_sums ks adds) in
+      subst (HasKeysWhere P segments) (sym same) (picked_of_map segments P (is_met w) (λ k t there. decides t))
 
-  module _ (held : All (λ e. IsTrue (holds tree.square e.bounds)) tree.entries) where
-    on_grid : (k : ℕ) (t : GridSegment) → Contains (map.entries segments) (k, t) → IsTrue (fits grid_bits (bounds_of t))
-    on_grid k t there =
-        let none = none_fails (λ (e : Entry). holds tree.square e.bounds) tree.entries held in
-        let same = kept.same (fails (λ (e : Entry). holds tree.square e.bounds)) in
-        let all = all_pass (λ (e : ℕ × GridSegment). holds tree.square (bounds_of e.1)) (map.entries segments) (sym same ∙ none) in
-        let here = All-contains (λ (e : ℕ × GridSegment). IsTrue (holds tree.square (bounds_of e.1))) (map.entries segments) (k, t) all there in
-        fits_from whole_grid (bounds_of t) (subst (λ q. IsTrue (holds q (bounds_of t))) kept.whole here)
+module _ (tree : Branch) (segments : Entries) (kept : HoldsEntries tree segments) (w : Bounds)
+    (held : All (λ e. IsTrue (holds tree.square e.bounds)) tree.entries) where
+  on_grid : (k : ℕ) (t : GridSegment) → Contains (map.entries segments) (k, t) → IsTrue (fits grid_bits (bounds_of t))
+  on_grid k t there =
+      let none = none_fails (λ (e : Entry). holds tree.square e.bounds) tree.entries held in
+      let same = kept.same (fails (λ (e : Entry). holds tree.square e.bounds)) in
+      let all = all_pass (λ (e : ℕ × GridSegment). holds tree.square (bounds_of e.1)) (map.entries segments) (sym same ∙ none) in
+      let here = All-contains (λ (e : ℕ × GridSegment). IsTrue (holds tree.square (bounds_of e.1))) (map.entries segments) (k, t) all there in
+      fits_from whole_grid (bounds_of t) (subst (λ q. IsTrue (holds q (bounds_of t))) kept.whole here)
 
-    pub near_count : (P : GridSegment → Type 0)
-        → ((t : GridSegment) → IsTrue (fits grid_bits (bounds_of t)) → IsTrue (is_near w (home (bounds_of t))) ↔ P t)
-        → HasCountWhere P segments (count_near w tree.entries)
-    near_count P decides = record {
-      keys = picks is_home_near (map.entries segments);
-      these = picked_of_map segments P is_home_near (λ k t there. decides t (on_grid k t there));
-      count = length_picks is_home_near (map.entries segments) ∙ sym (kept.same (if_near w));
-    }
+  pub near_count : (P : GridSegment → Type 0)
+      → ((t : GridSegment) → IsTrue (fits grid_bits (bounds_of t)) → IsTrue (is_near w (home (bounds_of t))) ↔ P t)
+      → HasCountWhere P segments (count_near w tree.entries)
+  near_count P decides = record {
+    keys = picks (is_home_near w) (map.entries segments);
+    these = picked_of_map segments P (is_home_near w) (λ k t there. decides t (on_grid k t there));
+    count = length_picks (is_home_near w) (map.entries segments) ∙ sym (kept.same (if_near w));
+  }

@@ -22,3 +22,9 @@ pub mod Found
 pub mod Counts
 -- what the guards of differences tell
 mod Guards
+-- the entries of parts, and what they lack
+pub mod Parts
+-- what a cover tells of the boxes that it covers
+pub mod Covers
+-- a cluster and its changes
+pub mod Clusters

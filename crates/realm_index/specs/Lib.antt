@@ -6,6 +6,8 @@ pub mod Square
 pub mod Bounds
 -- trees of squares, for this crate's own proofs
 pub mod Branch
+-- clusters of entries, for this crate's own proofs
+pub mod Cluster
 -- segments at the places that their keys count, for this crate's own proofs
 pub mod Slots
 -- how the tree of an index stands by its map, for this crate's own proofs

@@ -261,7 +261,7 @@ fn take_own(own: &mut Own, entry: &Entry) -> bool
 }
 
 // Where the entry is in the list.
-fn place_among(own: &[Entry], entry: &Entry) -> Option<usize>
+pub(crate) fn place_among(own: &[Entry], entry: &Entry) -> Option<usize>
     ensures { MatchOption result (Lacks own.now entry.now)
         (λ place. (place < length own.now) × ((d : Item) → get_or own.now place d ≡ entry.now)) }
 {

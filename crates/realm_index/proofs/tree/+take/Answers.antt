@@ -1,25 +1,20 @@
 -- This file shows that an entry is taken from its place, whether from the square itself or from below it.
-use Rattle.std.proofs.Common.{◌≡◌, ℕ, ◌<◌, ◌+◌, Vec, Global, Bool, true, false, IsTrue, sym, ap, subst, ◌∙◌, arith}
-use Rattle.std.proofs.Common.{List, [], ◌∷◌, ◌++◌, length, take, get_or, All}
-use Rattle.std.specs.Bool.{OnTrue, OnFalse}
+use Rattle.std.proofs.Common.{◌≡◌, ℕ, ◌<◌, Vec, Global, Bool, false, IsTrue, sym, ap, subst, ◌∙◌, arith}
+use Rattle.std.proofs.Common.{List, ◌++◌, length, All}
 use Rattle.std.proofs.lemmas.Bool.{OnTrue_at, OnFalse_at, OnTrue_from, OnFalse_from, ltb-true, both_ways}
-use Rattle.std.proofs.lemmas.List.Elements.{All-append, All-weaker, All-head, All-tail, All-more}
+use Rattle.std.proofs.lemmas.List.Elements.{All-append, All-weaker}
 use Rattle.grid_base.specs.Grid.{grid_bits}
 use Rattle.realm_index.specs.Square.{GridSquare}
-use Rattle.std.specs.List.{slice_set, sum_by}
-use Rattle.std.proofs.lemmas.List.{set-get_or, take_all}
+use Rattle.std.specs.List.{slice_set}
+use Rattle.std.proofs.lemmas.List.{take_all}
 use Rattle.realm_index.specs.Bounds.{home, holds}
-use Rattle.realm_index.specs.Branch.{Branch, branch_of, flatten, is_below, IsBranch, HasMore, HasSame, Lacks}
+use Rattle.realm_index.specs.Branch.{Branch, branch_of, flatten, is_below, IsBranch, HasMore, Lacks}
 use Rattle.realm_index.specs.declared.tree.Entry.{Entry}
 use Rattle.realm_index.proofs.Homes.{least_le, fits_from}
-use Rattle.realm_index.proofs.Sums.{branch_own_fewer, branch_parts_fewer, more_in_front, more_behind, fewer_in_part}
+use Rattle.realm_index.proofs.Sums.{branch_own_fewer, branch_parts_fewer, more_in_front, more_behind}
+use Rattle.realm_index.proofs.Parts.{either_bool, flatten_lacks, put_back, fewer, fewer_still, more_lack}
 use Rattle.realm_index.proofs.tree.+take.Goals.{take_below-else-holds-via-then-holds+else-take, take_below-else-holds-via-else-holds}
 use Rattle.realm_index.proofs.tree.+take.Goals as goal
-
--- whichever the answer
-either_bool : {A B C : Type 0} (b : Bool) → OnTrue b A → OnFalse b B → (A → C) → (B → C) → C
-either_bool true a b f g = f a
-either_bool false a b f g = g b
 
 -- entries with homes below a level lack one whose home isn't
 lack_below : (es : List Entry) (n : ℕ) (e : Entry) → All (λ x. IsTrue (is_below n x)) es → (home e.bounds).level ≡ n → Lacks es e
@@ -112,35 +107,11 @@ Tree::take-returns-in-Some-clause-unchanged t c = OnFalse_from c.take_below.resu
     ∙ c.self.view_is)
 
 -- ---- from the parts
--- what all parts lack
-flatten_lacks : (cs : List Branch) (e : Entry) → All (λ c. Lacks c.entries e) cs → Lacks (flatten cs) e
-flatten_lacks [] e all = λ k d within. absurd (omega (arith, within))
-flatten_lacks (c ∷ cs) e all = All-append (λ x. x ≡ e → ⊥) c.entries (flatten cs)
-    (All-head (λ (b : Branch). Lacks b.entries e) c cs all)
-    (flatten_lacks cs e (All-tail (λ (b : Branch). Lacks b.entries e) c cs all))
-
 -- a part whose square doesn't hold the box lacks the entry
 part_lacks : (c : Branch) (e : Entry) → All (λ x. IsTrue (holds c.square x.bounds)) c.entries → holds c.square e.bounds ≡ false
     → Lacks c.entries e
 part_lacks c e all none = All-weaker (λ x. IsTrue (holds c.square x.bounds)) (λ x. x ≡ e → ⊥)
     (λ x h same. both_ways (holds c.square x.bounds) (ap {B = Bool} (λ (y : Entry). holds c.square y.bounds) same ∙ none) h) c.entries all
-
--- a part that is put back as it was
-put_back : (xs ys : List Branch) (i : ℕ) (x : Branch) → ys ≡ slice_set xs i x → x ≡ get_or xs i x → ys ≡ xs
-put_back xs ys i x set at = set ∙ ap (λ y. slice_set xs i y) at ∙ set-get_or xs i x
-
-fewer : (xs ys : List Branch) (i : ℕ) (old new : Branch) (e : Entry) → xs ≡ ys → i < length ys → old ≡ get_or xs i old
-    → HasMore new.entries old.entries e → HasMore (flatten (slice_set xs i new)) (flatten ys) e
-fewer xs ys i old new e same within at more f =
-    let here = subst (λ n. i < n) (ap (λ (l : List Branch). length l) (sym same)) within in
-    let part = subst (λ (b : Branch). HasMore new.entries b.entries e) at more in
-    let less = fewer_in_part xs i old new e here part f in
-    let whole = ap (λ (l : List Branch). sum_by f (flatten l)) same in
-    omega (arith, less, whole)
-
--- what is dropped had nothing
-fewer_still : (xs ys zs : List Entry) (e : Entry) → HasMore xs ys e → HasSame xs zs → HasMore zs ys e
-fewer_still xs ys zs e more same f = let a = more f in let b = same f in omega (arith, a, b)
 
 pub take_below-returns-then-take-clause-taken : goal.take_below-returns-then-take-clause-taken
 take_below-returns-then-take-clause-taken t c =
@@ -150,14 +121,6 @@ take_below-returns-then-take-clause-taken t c =
     c.loop-i.invariant.parts (omega (arith, c.loop-i-test.true, c.len-i-end.ensures)) c.index_mut-part.ensures.value
     c.if-take.ensures.taken)
     c.drop_bare.ensures.same
-
--- one part more that lacks it
-more_lack : (xs ys : List Branch) (i : ℕ) (old : Branch) (e : Entry) → ys ≡ xs → i < length xs → old ≡ get_or xs i old
-    → All (λ c. Lacks c.entries e) (take i xs) → Lacks old.entries e → All (λ c. Lacks c.entries e) (take (i + 1) ys)
-more_lack xs ys i old e same within at all one =
-    let here = subst (λ (b : Branch). Lacks b.entries e) at one in
-    subst (λ l. All (λ (b : Branch). Lacks b.entries e) (take (i + 1) l)) (sym same)
-    (All-more (λ (b : Branch). Lacks b.entries e) xs i old within all here)
 
 pub take_below-loop-i-preserved : goal.take_below-loop-i-preserved
 take_below-loop-i-preserved t c =

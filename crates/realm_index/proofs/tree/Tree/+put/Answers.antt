@@ -1,5 +1,5 @@
 -- This file shows that an entry comes into its place, whether into the square itself or below it.
-use Rattle.std.proofs.Common.{◌≡◌, IsTrue, sym, ap, subst, arith, ◌<◌, ℕ, get_or, length, List, [], ◌∷◌, ◌++◌}
+use Rattle.std.proofs.Common.{◌≡◌, IsTrue, sym, ap, subst, arith, ◌<◌, ℕ, [], ◌∷◌, ◌++◌}
 use Rattle.std.proofs.lemmas.Result.{MatchResult-from_err, MatchResult-weaker}
 use Rattle.std.specs.List.{slice_set}
 use Rattle.std.proofs.lemmas.List.Elements.{All-set}
@@ -9,9 +9,9 @@ use Rattle.std.proofs.lemmas.Bool.{lt-ltb}
 use Rattle.realm_index.specs.Bounds.{holds, home}
 use Rattle.realm_index.proofs.Homes.{least_le, fits_from}
 use Rattle.realm_index.specs.Branch.{Branch, flatten, HasMore, HasSame}
-use Rattle.realm_index.specs.declared.tree.Entry.{Entry}
-use Rattle.realm_index.proofs.Sums.{either, branch_own_more, branch_parts_more, branch_parts_same, more_in_part, same_in_part}
+use Rattle.realm_index.proofs.Sums.{either, branch_own_more, branch_parts_more, branch_parts_same}
 use Rattle.realm_index.proofs.Sums.{same_then_more, same_then_same, more_behind, same_behind, more_before}
+use Rattle.realm_index.proofs.Parts.{more_parts, same_parts}
 use Rattle.realm_index.proofs.tree.Tree.+put.Goals as goal
 
 -- the entry is the square's own
@@ -59,17 +59,6 @@ put-requires t c =
     let held = subst (λ (b : Branch). IsTrue (holds b.square c.args.entry.bounds)) (sym at)
     (c.in_ok-place.ensures.place.held c.index_mut-below.result.now) in
     (omega (arith, less, level, c.decreases), held)
-
--- what became of the part is what becomes of all parts
-more_parts : (parts : List Branch) (i : ℕ) (old new : Branch) (e : Entry) → i < length parts → old ≡ get_or parts i old
-    → HasMore old.entries new.entries e → HasMore (flatten parts) (flatten (slice_set parts i new)) e
-more_parts parts i old new e within at more =
-    more_in_part parts i old new e within (subst (λ (b : Branch). HasMore b.entries new.entries e) at more)
-
-same_parts : (parts : List Branch) (i : ℕ) (old new : Branch) → i < length parts → old ≡ get_or parts i old
-    → HasSame old.entries new.entries → HasSame (flatten parts) (flatten (slice_set parts i new))
-same_parts parts i old new within at same =
-    same_in_part parts i old new within (subst (λ (b : Branch). HasSame b.entries new.entries) at same)
 
 pub invariant_of-self-2 : goal.invariant_of-self-2
 invariant_of-self-2 t c =
