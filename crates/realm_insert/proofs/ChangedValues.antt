@@ -10,8 +10,8 @@ use Rattle.grid_base.specs.Segment.{GridSegment}
 use Rattle.grid_base.specs.Drawing.{Drawing}
 use Rattle.line_grammar.specs.declared.command.Change.{Change}
 use Rattle.line_grammar.specs.declared.command.Change.TheVariants.{Unpoint, Delete}
-use Rattle.realm_drawing.specs.Changed.{without_id}
-use Rattle.realm_drawing.proofs.Stretches.{apart_by_test}
+use Rattle.hook_chain.specs.Changed.{without_id}
+use Rattle.chain_laws.proofs.Stretches.{apart_by_test}
 use Rattle.value_table.specs.Table.{NamedValues}
 use Rattle.value_table.specs.Value.{points_among, names_id, names_point}
 use Rattle.value_table.specs.declared.value.Value.{Value}

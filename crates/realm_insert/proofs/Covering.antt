@@ -15,8 +15,8 @@ use Rattle.grid_base.proofs.Elements.{Contains-nil}
 use Rattle.realm_drawing.specs.Draws.{DrawsAnew}
 use Rattle.realm_drawing.specs.Keyed.{KeyedDrawing, AreKeyed, keyed as keyed_with}
 use Rattle.realm_drawing.specs.declared.keyed.KeyedPiece.{KeyedPiece}
-use Rattle.realm_drawing.proofs.Elements.{Any-nil, Any-single, Any-append_cases, Any-append_left, Any-append_right}
-use Rattle.realm_drawing.proofs.Elements.{Any-map, Contains-map}
+use Rattle.chain_laws.proofs.Elements.{Any-nil, Any-single, Any-append_cases, Any-append_left, Any-append_right}
+use Rattle.chain_laws.proofs.Elements.{Any-map, Contains-map}
 use Rattle.realm_insert.specs.Work.{IsCoveredBy, IsClean}
 
 -- ---- after a step

@@ -6,7 +6,7 @@ use Rattle.line_grammar.specs.declared.command.At.{At}
 use Rattle.line_grammar.specs.declared.command.Change.{Change}
 use Rattle.line_grammar.specs.declared.command.Change.TheVariants.{Point, Unpoint, Segment, Points}
 use Rattle.line_grammar.specs.declared.command.Change.TheVariants.{Lines, Regions, Let, Drop, Delete}
-use Rattle.realm_drawing.proofs.Elements.{Any-nil, Any-head, Any-later, Any-cons_cases, Any-single, Any-append_cases, Any-weaker}
+use Rattle.chain_laws.proofs.Elements.{Any-nil, Any-head, Any-later, Any-cons_cases, Any-single, Any-append_cases, Any-weaker}
 use Rattle.realm_insert.specs.declared.asked.Ends.{Ends}
 use Rattle.realm_insert.specs.Lines.{IsOffGrid, HasPlaceOffGrid, IsDrawable, ends, neighbours, neighbours_round, drawn_between}
 

@@ -13,7 +13,7 @@ use Rattle.grid_base.proofs.Elements.{Contains-nil, Contains-here, Contains-late
 use Rattle.grid_base.proofs.RealmLaw.{piece_ends, realm_settled}
 use Rattle.line_grammar.specs.declared.command.Change.{Change}
 use Rattle.line_grammar.specs.declared.command.Change.TheVariants.{Let}
-use Rattle.realm_drawing.specs.Straight.{placed}
+use Rattle.hook_chain.specs.Straight.{placed}
 use Rattle.realm_drawing.proofs.Additions.{piece_is_old_or_new, point_is_old_or_end, piece_stays}
 use Rattle.rose_values.specs.declared.geometry.Geometry.{Geometry}
 use Rattle.rose_values.specs.declared.geometry.Geometry.TheVariants.{P, L, R}

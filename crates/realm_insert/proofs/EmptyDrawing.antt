@@ -8,9 +8,9 @@ use Rattle.grid_base.specs.Realm.{PointInside, TwoCross}
 use Rattle.grid_base.specs.Drawing.{HasViolation, HasLink}
 use Rattle.grid_base.specs.declared.original.Original.{Original}
 use Rattle.grid_base.proofs.Elements.{Contains-nil}
-use Rattle.realm_drawing.specs.Chains.{HasValidChain}
+use Rattle.hook_chain.specs.StandingChains.{HasValidChain}
 use Rattle.realm_drawing.specs.Keyed.{KeyedDrawing, empty_drawing, keyed}
-use Rattle.realm_drawing.proofs.Elements.{Any-nil}
+use Rattle.chain_laws.proofs.Elements.{Any-nil}
 use Rattle.realm_index.specs.Index.{Entries}
 use Rattle.record_codec.specs.Traces.{IsTrace}
 use Rattle.state_check.specs.Tabled.{AreAscending}

@@ -4,9 +4,9 @@ use Rattle.std.proofs.Common.{◌∷◌, ◌++◌, length, get_or, take, drop, r
 use Rattle.std.proofs.lemmas.List.{take_more, take_all, drop_more, take-append-drop, length-take-le, append-nil}
 use Rattle.grid_base.specs.Drawing.{Drawing, HasViolation}
 use Rattle.grid_base.specs.declared.kinds.Step.{Step}
-use Rattle.realm_drawing.specs.Mending.{IsPermitted}
+use Rattle.hook_chain.specs.Mending.{IsPermitted}
 use Rattle.hook_chain.specs.Steps.{Permitted, Settles}
-use Rattle.realm_drawing.proofs.StepOutcomes.{no_violation_no_step, permitted_is_one}
+use Rattle.chain_laws.proofs.StepOutcomes.{no_violation_no_step, permitted_is_one}
 use Rattle.realm_insert.specs.Misfits.{LeadsBy, IsStuck, Misfits}
 use Rattle.realm_insert.proofs.StepsTaken.{leads_on}
 

@@ -7,7 +7,7 @@ use Rattle.grid_base.specs.Drawing.{Drawing, IsPiece}
 use Rattle.grid_base.proofs.Elements.{Contains-cases, Contains-nil}
 use Rattle.realm_drawing.specs.Keyed.{keyed}
 use Rattle.realm_drawing.specs.declared.keyed.KeyedPiece.{KeyedPiece}
-use Rattle.realm_drawing.proofs.Elements.{Contains-head}
+use Rattle.chain_laws.proofs.Elements.{Contains-head}
 use Rattle.realm_index.specs.Index.{Entries}
 use Rattle.realm_insert.specs.Indexing.{ForgetsGone}
 use Rattle.realm_insert.proofs.IndexKeys.{IsTakenOut}

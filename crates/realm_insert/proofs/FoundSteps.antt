@@ -6,8 +6,8 @@ use Rattle.grid_base.specs.Crossing.{Inside, Cross}
 use Rattle.grid_base.specs.Drawing.{Drawing, IsPoint, IsPiece}
 use Rattle.grid_base.specs.declared.kinds.Step.{Step}
 use Rattle.grid_base.specs.declared.kinds.Step.TheVariants.{Split}
-use Rattle.realm_drawing.specs.Mending.{IsPermitted, MendsCrossing}
-use Rattle.realm_drawing.proofs.Mendings.{mending_is_permitted}
+use Rattle.hook_chain.specs.Mending.{IsPermitted, MendsCrossing}
+use Rattle.chain_laws.proofs.Mendings.{mending_is_permitted}
 use Rattle.realm_insert.specs.Clashes.{HasNoEndInside, NoClash}
 
 -- what it means that nothing was found may be weakened

@@ -6,10 +6,11 @@ use Rattle.grid_base.specs.Point.{IsBefore}
 use Rattle.grid_base.specs.Segment.{GridSegment}
 use Rattle.grid_base.specs.Drawing.{Drawing, IsPiece}
 use Rattle.grid_base.specs.declared.kinds.Step.{Step}
-use Rattle.realm_drawing.specs.Draws.{DrawsAnew, IsPieceOf}
+use Rattle.realm_drawing.specs.Draws.{DrawsAnew}
+use Rattle.hook_chain.specs.Mending.{IsPieceOf}
 use Rattle.realm_drawing.specs.Keyed.{KeyedDrawing, HasKey, KeepsKeys, AreKeyed}
 use Rattle.realm_drawing.specs.declared.keyed.KeyedPiece.{KeyedPiece}
-use Rattle.realm_drawing.specs.Straight.{placed}
+use Rattle.hook_chain.specs.Straight.{placed}
 use Rattle.realm_drawing.proofs.Additions.{piece_is_old_or_new, piece_stays}
 use Rattle.realm_index.specs.Index.{Entries}
 use Rattle.realm_insert.specs.Indexing.{ListsKeyed, ForgetsGone, AddsEntries, HasPiecesOnly, AddsPiece}

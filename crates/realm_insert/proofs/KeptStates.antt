@@ -10,7 +10,7 @@ use Rattle.grid_base.specs.declared.kinds.Kind.TheVariants as kinds
 use Rattle.grid_base.specs.declared.kinds.Step.{Step}
 use Rattle.grid_base.proofs.RealmLaw.{drawn_realm_by}
 use Rattle.line_grammar.specs.Spellable.{IsName}
-use Rattle.realm_drawing.specs.Ids.{IsAscending}
+use Rattle.hook_chain.specs.Ids.{IsAscending}
 use Rattle.realm_drawing.specs.Keyed.{KeyedDrawing}
 use Rattle.realm_index.specs.Index.{Entries}
 use Rattle.record_codec.specs.Payload.{AreOfKind, IsKeptTrace}

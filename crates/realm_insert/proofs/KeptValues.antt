@@ -18,12 +18,12 @@ use Rattle.grid_base.specs.declared.kinds.Kind.{Kind}
 use Rattle.grid_base.specs.declared.kinds.Kind.TheVariants as kinds
 use Rattle.grid_base.specs.declared.kinds.Step.{Step}
 use Rattle.grid_base.specs.declared.original.Original.{Original}
-use Rattle.realm_drawing.specs.Changed.{without_id}
-use Rattle.realm_drawing.specs.Redraws.{redrawn_by}
+use Rattle.hook_chain.specs.Changed.{without_id}
+use Rattle.chain_laws.specs.Redraws.{redrawn_by}
 use Rattle.hook_chain.specs.Steps.{Permitted, Settles}
-use Rattle.realm_drawing.specs.Straight.{straight, placed, along}
-use Rattle.realm_drawing.proofs.Elements.{Contains-map}
-use Rattle.realm_drawing.proofs.StepPaths.{step_paths}
+use Rattle.hook_chain.specs.Straight.{straight, placed, along}
+use Rattle.chain_laws.proofs.Elements.{Contains-map}
+use Rattle.chain_laws.proofs.StepPaths.{step_paths}
 use Rattle.value_geometry.specs.Parts.{AreOriginals, HasParts}
 use Rattle.value_table.specs.Table.{NamedValues, value_named}
 use Rattle.value_table.specs.Value.{ids_among, points_among}

@@ -50,6 +50,8 @@ pub mod RemovedOriginals
 pub mod NotedLinks
 -- drawings that a change has become, before the first step
 pub mod PreparedChanges
+-- which points become explicit by a change
+pub mod NewPoints
 -- ids in a row
 pub mod RisingIds
 -- values after each part of a change

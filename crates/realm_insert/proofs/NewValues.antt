@@ -13,7 +13,7 @@ use Rattle.grid_base.specs.declared.original.Original.{Original}
 use Rattle.line_grammar.specs.Spellable.{IsName, IsSpellableChange}
 use Rattle.line_grammar.specs.declared.command.Change.{Change}
 use Rattle.line_grammar.specs.declared.command.Change.TheVariants.{Points, Lines, Regions, Let, Drop}
-use Rattle.realm_drawing.specs.Straight.{straight, placed, along}
+use Rattle.hook_chain.specs.Straight.{straight, placed, along}
 use Rattle.rose_values.specs.declared.geometry.Geometry.{Geometry}
 use Rattle.rose_values.specs.declared.geometry.Geometry.TheVariants.{P, L, R}
 use Rattle.rose_values.specs.declared.operators.Op.{Op}

@@ -5,11 +5,11 @@ use Rattle.std.specs.Option.{IsNone}
 use Rattle.grid_base.specs.Point.{GridPoint}
 use Rattle.grid_base.specs.Segment.{GridSegment, segment_of}
 use Rattle.grid_base.specs.Drawing.{HasLink}
-use Rattle.realm_drawing.specs.Ids.{IsChainOf}
+use Rattle.hook_chain.specs.Ids.{IsChainOf}
 use Rattle.realm_drawing.specs.Keyed.{KeyedDrawing, HasKey, keyed}
 use Rattle.realm_drawing.specs.declared.keyed.KeyedPiece.{KeyedPiece}
 use Rattle.grid_base.proofs.Elements.{Contains-nil}
-use Rattle.realm_drawing.proofs.PathLinks.{link_more, no_link_at_first, made_between}
+use Rattle.chain_laws.proofs.PathLinks.{link_more, no_link_at_first, made_between}
 use Rattle.value_geometry.specs.Geometry.{IsOnChainOf}
 use Rattle.realm_insert.specs.Indexing.{ListsWithKey, ListsKeyed}
 use Rattle.realm_insert.specs.Work.{ListsLink, ListsLinks}

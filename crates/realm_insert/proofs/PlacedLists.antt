@@ -9,12 +9,12 @@ use Rattle.grid_base.specs.Crossing.{Inside}
 use Rattle.grid_base.specs.Realm.{PointInside, TwoCross}
 use Rattle.grid_base.specs.Drawing.{Drawing, IsPiece, HasViolation}
 use Rattle.grid_base.specs.declared.original.Original.{Original}
-use Rattle.realm_drawing.specs.Chains.{AllValid, HasValidChain}
-use Rattle.realm_drawing.specs.Straight.{placed}
+use Rattle.hook_chain.specs.StandingChains.{AllValid, HasValidChain}
+use Rattle.hook_chain.specs.Straight.{placed}
 use Rattle.realm_drawing.specs.Keyed.{KeyedDrawing, AddsPoint}
 use Rattle.realm_drawing.proofs.Additions.{piece_is_old_or_new, point_is_old_or_end}
 use Rattle.grid_base.proofs.Elements.{Contains-nil}
-use Rattle.realm_drawing.proofs.Elements.{Any-head, Any-append_left, Any-append_right, Contains-head}
+use Rattle.chain_laws.proofs.Elements.{Any-head, Any-append_left, Any-append_right, Contains-head}
 use Rattle.realm_insert.specs.Changes.{placed_all}
 use Rattle.realm_insert.specs.Work.{IsCoveredBy, AddsPoints}
 use Rattle.realm_insert.proofs.MarkedPoints.{marked_piece, marked_point}

@@ -4,8 +4,8 @@ use Rattle.std.proofs.lemmas.List.Elements.{All-push, All-weaker, All-contains, 
 use Rattle.grid_base.specs.Point.{IsBefore}
 use Rattle.grid_base.specs.Segment.{GridSegment}
 use Rattle.grid_base.specs.Drawing.{Drawing}
-use Rattle.realm_drawing.specs.Straight.{straight, along, placed, AllBelow}
-use Rattle.realm_drawing.specs.Chains.{IsChainFor, AllStand}
+use Rattle.hook_chain.specs.Straight.{straight, along, placed, AllBelow}
+use Rattle.hook_chain.specs.StandingChains.{IsChainFor, AllStand}
 use Rattle.realm_insert.specs.State.{HasIdsBelow}
 
 -- its ends are in order, since its chain stands for it

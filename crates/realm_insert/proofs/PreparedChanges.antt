@@ -10,10 +10,10 @@ use Rattle.grid_base.specs.declared.original.Original.{Original}
 use Rattle.line_grammar.specs.declared.command.At.{At}
 use Rattle.line_grammar.specs.declared.command.Change.{Change}
 use Rattle.line_grammar.specs.declared.command.Change.TheVariants.{Unpoint, Delete}
-use Rattle.realm_drawing.specs.Chains.{AllValid}
-use Rattle.realm_drawing.specs.Changed.{without_id}
+use Rattle.hook_chain.specs.StandingChains.{AllValid}
+use Rattle.hook_chain.specs.Changed.{without_id}
 use Rattle.realm_drawing.specs.Keyed.{KeyedDrawing, AreKeyed, TakesPoint}
-use Rattle.realm_drawing.specs.Straight.{straight, placed}
+use Rattle.hook_chain.specs.Straight.{straight, placed}
 use Rattle.realm_index.specs.Index.{Entries}
 use Rattle.value_table.specs.Table.{NamedValues}
 use Rattle.realm_insert.specs.Changes.{ChangesTo, IsExplicitAfter, placed_all, redrawn}

@@ -8,10 +8,10 @@ use Rattle.grid_base.specs.Segment.{GridSegment}
 use Rattle.grid_base.specs.Realm.{PointInside, TwoCross}
 use Rattle.grid_base.specs.Drawing.{Drawing, HasLink, IsPiece, IsPoint, HasViolation}
 use Rattle.grid_base.specs.declared.original.Original.{Original}
-use Rattle.realm_drawing.specs.Changed.{without_id}
-use Rattle.realm_drawing.specs.Chains.{AllValid, HasValidChain}
+use Rattle.hook_chain.specs.Changed.{without_id}
+use Rattle.hook_chain.specs.StandingChains.{AllValid, HasValidChain}
 use Rattle.realm_drawing.specs.Keyed.{KeyedDrawing, KeepsKeys, AreKeyed, TakesPoint, keyed}
-use Rattle.realm_drawing.proofs.Elements.{Any-nil, Any-head, Any-later, Any-cons_cases, Any-weaker}
+use Rattle.chain_laws.proofs.Elements.{Any-nil, Any-head, Any-later, Any-cons_cases, Any-weaker}
 use Rattle.realm_drawing.specs.declared.keyed.KeyedPiece.{KeyedPiece}
 use Rattle.realm_index.specs.Index.{Entries}
 use Rattle.value_geometry.specs.Geometry.{IsOnChainOf}

@@ -1,15 +1,16 @@
 -- This file shows what steps make of a drawing when they are taken one after the other.
-use Rattle.std.proofs.Common.{◌≡◌, ℕ, ◌-◌, ◌<◌, ◌≤◌, List, [], ◌∷◌, ◌++◌, refl, sym, subst, arith}
+use Rattle.std.proofs.Common.{◌≡◌, ℕ, ◌-◌, ◌<◌, ◌≤◌, List, [], ◌∷◌, ◌++◌, refl, sym, ap, subst, ◌∙◌, arith}
 use Rattle.grid_base.specs.Drawing.{Drawing, HasViolation}
 use Rattle.grid_base.specs.declared.kinds.Step.{Step}
 use Rattle.grid_base.specs.declared.kinds.Step.TheVariants.{Split, Meet, Corner}
 use Rattle.record_codec.specs.Traces.{IsOrdered}
 use Rattle.hook_chain.specs.Steps.{Permitted, Settles}
-use Rattle.realm_drawing.specs.Chains.{AllValid}
+use Rattle.hook_chain.specs.StandingChains.{AllValid}
 use Rattle.realm_drawing.specs.Keyed.{KeyedDrawing, AreKeyed}
-use Rattle.realm_drawing.specs.Measure.{links_of, most_links_of}
-use Rattle.realm_drawing.proofs.StepOutcomes.{ids_stay, no_violation_no_step}
-use Rattle.realm_drawing.proofs.StepsAdd.{step_adds_link, step_keeps_most, links_are_few}
+use Rattle.hook_chain.specs.Measure.{links_of, most_links_of}
+use Rattle.chain_laws.proofs.StepOutcomes.{ids_stay, no_violation_no_step}
+use Rattle.chain_laws.proofs.StepPaths.{step_paths}
+use Rattle.chain_laws.proofs.StepsAdd.{step_adds_link, step_keeps_most, links_are_few}
 use Rattle.realm_index.specs.Index.{Entries}
 use Rattle.realm_insert.specs.Kept.{IsIndexed, IsAtRest}
 use Rattle.realm_insert.specs.State.{HasIdsBelow}
@@ -61,6 +62,12 @@ pub ids_below : (d e : Drawing) (trace : List Step) (n : ℕ) → Settles d trac
 ids_below d e [] n settles below = subst (HasIdsBelow n) settles.0 below
 ids_below d e (step ∷ trace) n settles below =
     ids_below settles.0 e trace n settles.2 (ids_stay (λ id. (1 ≤ id) × (id < n)) d settles.0 step settles.1 below)
+
+-- and so do the explicit points
+pub points_kept : (d e : Drawing) (trace : List Step) → Settles d trace e → e.points ≡ d.points
+points_kept d e [] settles = ap (λ (g : Drawing). g.points) (sym settles.0)
+points_kept d e (step ∷ trace) settles =
+    points_kept settles.0 e trace settles.2 ∙ ap (λ (g : Drawing). g.points) (step_paths d settles.0 step settles.1).leads
 
 -- each step leaves room for fewer links
 pub room_shrinks : (d e : Drawing) (step : Step) → AllValid d → AllValid e → Permitted d step e

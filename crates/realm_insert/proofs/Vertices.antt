@@ -3,8 +3,8 @@ use Rattle.std.proofs.Common.{◌⊎◌, Contains, subst, inl, inr}
 use Rattle.grid_base.specs.Point.{GridPoint}
 use Rattle.grid_base.specs.Segment.{GridSegment, IsEnd}
 use Rattle.grid_base.specs.Drawing.{Drawing, IsPoint, IsPiece}
-use Rattle.realm_drawing.specs.Chains.{HasValidChain, AllValid}
-use Rattle.realm_drawing.proofs.PathEnds.{vertex_is_link_end}
+use Rattle.hook_chain.specs.StandingChains.{HasValidChain, AllValid}
+use Rattle.chain_laws.proofs.PathEnds.{vertex_is_link_end}
 
 -- a point is explicit or an end of a piece
 pub explicit_or_end : (d : Drawing) (p : GridPoint) → AllValid d → IsPoint d p

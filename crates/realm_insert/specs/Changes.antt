@@ -8,8 +8,8 @@ use Rattle.grid_base.specs.declared.kinds.Kind.{Kind}
 use Rattle.grid_base.specs.declared.kinds.Kind.TheVariants as kinds
 use Rattle.line_grammar.specs.declared.command.Change.{Change}
 use Rattle.line_grammar.specs.declared.command.Change.TheVariants.{Unpoint, Drop, Delete}
-use Rattle.realm_drawing.specs.Straight.{placed}
-use Rattle.realm_drawing.specs.Changed.{without_id}
+use Rattle.hook_chain.specs.Straight.{placed}
+use Rattle.hook_chain.specs.Changed.{without_id}
 use Rattle.value_table.specs.Table.{NamedValues, without}
 use Rattle.value_table.specs.declared.value.Value.{Value}
 use Rattle.value_table.specs.declared.value.Parts.TheVariants as parts

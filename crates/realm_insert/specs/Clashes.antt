@@ -4,7 +4,7 @@ use Rattle.grid_base.specs.Point.{GridPoint, InBox}
 use Rattle.grid_base.specs.Segment.{GridSegment, IsEnd, BoxesMeet}
 use Rattle.grid_base.specs.Crossing.{Inside, Cross}
 use Rattle.grid_base.specs.Drawing.{Drawing, IsPoint, IsPiece}
-use Rattle.realm_drawing.specs.Chains.{AllValid}
+use Rattle.hook_chain.specs.StandingChains.{AllValid}
 use Rattle.realm_drawing.specs.Keyed.{KeyedDrawing, HasKey, AreKeyed}
 
 -- p is no point, or it is inside no piece

@@ -3,7 +3,7 @@ use Rattle.std.specs.Prelude.{◌≡◌, ◌↔◌, ℕ, ◌≤◌, ◌^◌, Boo
 use Rattle.std.specs.FinMap as map
 use Rattle.grid_base.specs.Segment.{GridSegment}
 use Rattle.grid_base.specs.Drawing.{HasViolation}
-use Rattle.realm_drawing.specs.Chains.{AllValid}
+use Rattle.hook_chain.specs.StandingChains.{AllValid}
 use Rattle.realm_drawing.specs.Keyed.{KeyedDrawing, HasKey, AreKeyed}
 use Rattle.realm_index.specs.Index.{Entries}
 use Rattle.record_codec.specs.Traces.{IsTrace}

@@ -12,6 +12,8 @@ pub mod Figures
 pub mod Refusals
 -- what a change makes of the drawing and of the values
 pub mod Changes
+-- what one drawing has and another hasn't
+pub mod Differences
 -- one change of the state
 pub mod Next
 -- traces that don't settle what a change makes

@@ -5,7 +5,7 @@ use Rattle.grid_base.specs.Drawing.{Drawing}
 use Rattle.line_grammar.specs.declared.command.Change.{Change}
 use Rattle.line_grammar.specs.declared.command.Change.TheVariants.{Unpoint, Let, Drop, Delete}
 use Rattle.value_table.specs.Table.{NamedValues, IsNamed, users_of, users_of_point}
-use Rattle.realm_drawing.specs.Ids.{LacksId}
+use Rattle.hook_chain.specs.Ids.{LacksId}
 use Rattle.realm_insert.specs.State.{State}
 use Rattle.realm_insert.specs.Figures.{Figure, Draws}
 use Rattle.realm_insert.specs.Lines.{grid_point, drawn_between, HasPlaceOffGrid, HasShortList, name_defined}

@@ -2,8 +2,8 @@
 use Rattle.std.specs.Prelude.{◌≡◌, ◌≤◌, ◌^◌, ℕ, List, map, All, AllPairs}
 use Rattle.grid_base.specs.Point.{IsBefore}
 use Rattle.grid_base.specs.Drawing.{IsDrawnRealm}
-use Rattle.realm_drawing.specs.Chains.{AllValid}
-use Rattle.realm_drawing.specs.Ids.{IsAscending}
+use Rattle.hook_chain.specs.StandingChains.{AllValid}
+use Rattle.hook_chain.specs.Ids.{IsAscending}
 use Rattle.realm_drawing.specs.Keyed.{KeyedDrawing}
 use Rattle.realm_index.specs.Index.{Entries}
 use Rattle.record_codec.specs.Payload.{payload}

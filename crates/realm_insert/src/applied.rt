@@ -1,4 +1,5 @@
 //! What a change answers.
+use grid_base::Point;
 use record_codec::Trace;
 
 /// What an accepted change did.
@@ -8,6 +9,8 @@ pub struct Applied {
     pub first: u64,
     /// How many originals are new.
     pub added: u64,
+    /// The points that became explicit, ascending.
+    pub points: Vec<Point>,
     /// The steps that settled the drawing.
     pub trace: Trace,
 }

@@ -15,6 +15,7 @@ ghost use Rattle.realm_insert.specs.Lines.{IsLet};
 ghost use Rattle.realm_insert.specs.Figures.{Draws};
 ghost use Rattle.realm_insert.specs.Refusals.{IsAccepted, IsRefusedBy};
 ghost use Rattle.realm_insert.specs.Changes.{ChangesTo};
+ghost use Rattle.realm_insert.specs.Differences.{points_besides};
 ghost use Rattle.realm_insert.specs.Values.{AreValuesOf, IsGeometryNamed};
 ghost use Rattle.realm_insert.specs.Next.{Next, MakesNoViolation, KeepsAll};
 ghost use Rattle.realm_insert.specs.Misfits.{MisfitsAt};
@@ -27,6 +28,7 @@ use crate::causes::figure_drawn;
 use crate::defining::revalue;
 use crate::figure::Figure;
 use crate::making::redraw;
+use crate::placing::points_to_mark;
 use crate::refusal::{ChangeError, Refusal, ReplayError};
 use crate::restoring::{numbers_in, restored};
 use crate::settling::SettleError;
@@ -34,7 +36,7 @@ use crate::snapshot_error::SnapshotError;
 use grid_base::{NoMemory, Point, Step};
 use line_grammar::Change;
 use realm_drawing::Drawing;
-use realm_index::Index;
+use realm_index::NearIndex;
 use record_codec::{Kept, ListOf, Snapshot, Trace};
 use rose_values::Geometry;
 use state_copies::{copied_originals, copied_values, explicit_points};
@@ -71,7 +73,7 @@ impl Model for LastTrace {
 pub struct Engine {
     alloc: Global,
     drawing: Drawing,
-    index: Index,
+    index: NearIndex,
     table: Table,
     next_id: u64,
     changes: u64,
@@ -134,7 +136,7 @@ impl Engine {
         Engine {
             alloc,
             drawing: Drawing::new(alloc),
-            index: Index::new(alloc),
+            index: NearIndex::new(alloc),
             table: Table::new(alloc),
             next_id: 1,
             changes: 0,
@@ -319,6 +321,8 @@ impl Engine {
         ensures next { IfOk result (λ applied. Next self.old.state c.now applied.trace self.new.state) }
         ensures numbers { IfOk result (λ applied. (applied.first ≡ self.old.state.next_id)
             × (self.old.state.next_id + applied.added ≡ self.new.state.next_id)) }
+        ensures points { IfOk result (λ applied.
+            applied.points.items ≡ points_besides self.new.state.drawing.points self.old.state.drawing.points) }
         ensures untouched { IfOk result (λ applied. MakesNoViolation self.old.state c.now
             → (applied.trace ≡ []) × ChangesTo c.now self.old.state self.new.state.drawing) }
         ensures let_is_there { IfOk result (λ applied. IsLet c.now
@@ -357,6 +361,8 @@ impl Engine {
             × (applied.trace ≡ trace.now)) }
         ensures numbers { IfOk result (λ applied. (applied.first ≡ self.old.state.next_id)
             × (self.old.state.next_id + applied.added ≡ self.new.state.next_id)) }
+        ensures points { IfOk result (λ applied.
+            applied.points.items ≡ points_besides self.new.state.drawing.points self.old.state.drawing.points) }
         ensures refused { (word : Word) → result ≡ Err (ReplayError.Refused word)
             → IsRefusedBy c.now self.old.state word × (self.new ≡ self.old) }
         ensures mismatch { (number : ℕ) → result ≡ Err (ReplayError.Mismatch number)
@@ -392,6 +398,8 @@ impl Engine {
         ensures next { IfOk result (λ applied. Next self.old.state c.now applied.trace self.new.state) }
         ensures numbers { IfOk result (λ applied. (applied.first ≡ self.old.state.next_id)
             × (self.old.state.next_id + applied.added ≡ self.new.state.next_id)) }
+        ensures points { IfOk result (λ applied.
+            applied.points.items ≡ points_besides self.new.state.drawing.points self.old.state.drawing.points) }
         ensures given { IfOk result (λ applied. IfSome given.entry (λ steps. applied.trace ≡ steps.now)) }
         ensures mismatch { (number : ℕ) → result ≡ Err (Mismatch number)
             → IsSomeAnd given.entry (λ steps. MisfitsAt c.now self.old.state steps.now number) }
@@ -400,6 +408,7 @@ impl Engine {
         self.spent = true;
         let first = self.next_id;
         let added = figure.segments().len() as u64;
+        let points = points_to_mark(self.alloc, &self.drawing, figure.points())?;
         let trace = redraw(
             self.alloc,
             &mut self.drawing,
@@ -416,6 +425,7 @@ impl Engine {
         Ok(Applied {
             first,
             added,
+            points,
             trace,
         })
     }

@@ -2,13 +2,13 @@
 //! is made, and is forgotten afterwards where it is gone.
 ghost use Rattle.std.specs.Prelude.{◌≡◌, ◌≢◌, ◌⊎◌, [], ◌∷◌, None, All, AllPairs, IfOk, OnOk};
 ghost use Rattle.std.specs.FinMap as map;
-ghost use Rattle.realm_drawing.specs.Draws.{IsPieceOf};
+ghost use Rattle.hook_chain.specs.Mending.{IsPieceOf};
 ghost use Rattle.realm_insert.specs.Indexing.{ListsWithKey, ListsKeyed, ForgetsGone, AddsEntries};
 ghost use Rattle.realm_insert.specs.Indexing.{HasPiecesOnly, AddsPiece};
 
 use grid_base::{NoMemory, Segment, Step};
 use realm_drawing::{Drawing, KeyedPiece};
-use realm_index::Index;
+use realm_index::NearIndex;
 use std::alloc::Global;
 
 // The pieces of the step with their keys.
@@ -61,7 +61,7 @@ pub(crate) fn note(
 }
 
 // Takes out what is under the keys of those of the list that are no pieces any more.
-pub(crate) fn forget_gone(drawing: &Drawing, index: &mut Index, list: &[KeyedPiece])
+pub(crate) fn forget_gone(drawing: &Drawing, index: &mut NearIndex, list: &[KeyedPiece])
     ensures { ForgetsGone drawing.now.drawing list.now index.old index.new }
 {
     for noted in list {
@@ -69,7 +69,7 @@ pub(crate) fn forget_gone(drawing: &Drawing, index: &mut Index, list: &[KeyedPie
     }
 }
 
-fn forget_if_gone(drawing: &Drawing, index: &mut Index, noted: &KeyedPiece)
+fn forget_if_gone(drawing: &Drawing, index: &mut NearIndex, noted: &KeyedPiece)
     ensures { ForgetsGone drawing.now.drawing (noted.now ∷ []) index.old index.new }
 {
     if drawing.key(&noted.piece).is_none() {
@@ -78,7 +78,7 @@ fn forget_if_gone(drawing: &Drawing, index: &mut Index, noted: &KeyedPiece)
 }
 
 // Puts the pieces of the list under their keys.
-pub(crate) fn put_in_index(index: &mut Index, list: &[KeyedPiece]) -> Result<(), NoMemory>
+pub(crate) fn put_in_index(index: &mut NearIndex, list: &[KeyedPiece]) -> Result<(), NoMemory>
     requires new_keys { All (λ f. map.get index.old f.key ≡ None) list.now }
     requires once { AllPairs (λ f g. f.key ≢ g.key) list.now }
     ensures { OnOk result (AddsEntries list.now index.old index.new) }
@@ -92,7 +92,7 @@ pub(crate) fn put_in_index(index: &mut Index, list: &[KeyedPiece]) -> Result<(),
 // Puts `s` under its key, unless it is there.
 pub(crate) fn put_if_missing(
     drawing: &Drawing,
-    index: &mut Index,
+    index: &mut NearIndex,
     s: &Segment,
 ) -> Result<(), NoMemory>
     requires pieces { HasPiecesOnly drawing.now index.old }

@@ -17,7 +17,7 @@ use crate::settling::{SettleError, settle_by};
 use grid_base::{NoMemory, Point, Segment, Step};
 use line_grammar::Change;
 use realm_drawing::Drawing;
-use realm_index::Index;
+use realm_index::NearIndex;
 use record_codec::Trace;
 use std::alloc::Global;
 
@@ -26,7 +26,7 @@ use std::alloc::Global;
 pub(crate) fn redraw(
     alloc: Global,
     drawing: &mut Drawing,
-    index: &mut Index,
+    index: &mut NearIndex,
     first: u64,
     c: &Change,
     figure: &Figure,
@@ -51,7 +51,7 @@ pub(crate) fn redraw(
 fn prepare(
     alloc: Global,
     drawing: &mut Drawing,
-    index: &mut Index,
+    index: &mut NearIndex,
     first: u64,
     c: &Change,
     figure: &Figure,

@@ -1,11 +1,14 @@
 //! What a change places: straight originals, or explicit points. All of it is placed before the first step, and a list keeps
 //! the pieces that are to be looked at.
-ghost use Rattle.std.specs.Prelude.{◌≡◌, ◌+◌, ◌≤◌, ◌^◌, ◌++◌, ◌∷◌, [], length, IfOk, OnOk, List};
+ghost use Rattle.std.specs.Prelude.{◌≡◌, ◌+◌, ◌≤◌, ◌^◌, ◌++◌, ◌∷◌, ◌↔◌, [], not, length, IfOk, OnOk, List};
+ghost use Rattle.std.specs.Prelude.{AllPairs, Contains};
+ghost use Rattle.grid_base.specs.Point.{GridPoint, IsBefore};
 ghost use Rattle.grid_base.specs.Segment.{GridSegment};
-ghost use Rattle.realm_drawing.specs.Chains.{AllValid};
+ghost use Rattle.hook_chain.specs.StandingChains.{AllValid};
 ghost use Rattle.realm_drawing.specs.Keyed.{AreKeyed, AddsPoint};
-ghost use Rattle.realm_drawing.specs.Straight.{placed};
+ghost use Rattle.hook_chain.specs.Straight.{placed};
 ghost use Rattle.realm_insert.specs.Changes.{placed_all};
+ghost use Rattle.realm_insert.specs.Differences.{is_among, points_besides};
 ghost use Rattle.realm_insert.specs.Kept.{IsIndexed};
 ghost use Rattle.realm_insert.specs.State.{HasIdsBelow};
 ghost use Rattle.realm_insert.specs.Work.{IsCoveredBy, AddsPoints};
@@ -14,13 +17,14 @@ use crate::indexing::put_if_missing;
 use crate::searching::pieces_round;
 use grid_base::{NoMemory, Point, Segment};
 use realm_drawing::Drawing;
-use realm_index::Index;
+use realm_index::NearIndex;
+use rose_overlay::ascending_points;
 use std::alloc::Global;
 
 // Places a straight original along each segment, the first with the id `first`.
 pub(crate) fn place_all(
     drawing: &mut Drawing,
-    index: &mut Index,
+    index: &mut NearIndex,
     first: u64,
     list: &[Segment],
 ) -> Result<(), NoMemory>
@@ -46,7 +50,7 @@ pub(crate) fn place_all(
     Ok(())
 }
 
-fn place(drawing: &mut Drawing, index: &mut Index, id: u32, s: Segment) -> Result<(), NoMemory>
+fn place(drawing: &mut Drawing, index: &mut NearIndex, id: u32, s: Segment) -> Result<(), NoMemory>
     requires indexed { IsIndexed drawing.old index.old }
     requires keyed { AreKeyed drawing.old }
     requires ids { HasIdsBelow id drawing.old.drawing }
@@ -64,11 +68,36 @@ fn place(drawing: &mut Drawing, index: &mut Index, id: u32, s: Segment) -> Resul
     Ok(())
 }
 
+// The points of the path that aren't explicit, ascending and each once.
+pub(crate) fn points_to_mark(
+    alloc: Global,
+    drawing: &Drawing,
+    path: &[Point],
+) -> Result<Vec<Point>, NoMemory>
+    ensures ascending { IfOk result (λ v. AllPairs IsBefore v.items) }
+    ensures same { IfOk result (λ v. (p : GridPoint)
+        → Contains v.items p ↔ Contains (points_besides path.now drawing.now.drawing.points) p) }
+{
+    let mut points = Vec::new(alloc);
+    for p in path {
+        if is_to_mark(drawing, p) {
+            points.push(*p)?;
+        }
+    }
+    Ok(ascending_points(points))
+}
+
+fn is_to_mark(drawing: &Drawing, p: &Point) -> bool
+    ensures { result ≡ not (is_among drawing.now.drawing.points p.now) }
+{
+    !drawing.is_explicit(p)
+}
+
 // Makes the points explicit, and answers the pieces that have one inside.
 pub(crate) fn mark_all(
     alloc: Global,
     drawing: &mut Drawing,
-    index: &Index,
+    index: &NearIndex,
     path: &[Point],
 ) -> Result<Vec<Segment>, NoMemory>
     requires indexed { IsIndexed drawing.old index.now }
@@ -91,7 +120,7 @@ pub(crate) fn mark_all(
 fn mark(
     alloc: Global,
     drawing: &mut Drawing,
-    index: &Index,
+    index: &NearIndex,
     p: Point,
     list: &mut Vec<Segment>,
 ) -> Result<(), NoMemory>

@@ -1,6 +1,6 @@
 //! What a change takes away: an original, or an explicit point. No violation comes of it, so no step follows.
 ghost use Rattle.std.specs.Prelude.{◌≡◌, ℕ, IfOk, OnOk};
-ghost use Rattle.realm_drawing.specs.Changed.{without_id};
+ghost use Rattle.hook_chain.specs.Changed.{without_id};
 ghost use Rattle.realm_drawing.specs.Keyed.{TakesPoint};
 ghost use Rattle.value_geometry.specs.Geometry.{IsOnChainOf};
 ghost use Rattle.realm_insert.specs.Indexing.{ListsKeyed};
@@ -10,14 +10,14 @@ ghost use Rattle.realm_insert.specs.Work.{ListsLink};
 use crate::indexing::{forget_gone, note};
 use grid_base::{NoMemory, Point, Segment};
 use realm_drawing::{Drawing, KeyedPiece};
-use realm_index::Index;
+use realm_index::NearIndex;
 use std::alloc::Global;
 
 // Takes the original with this id out, and those of its pieces that no other original has.
 pub(crate) fn remove(
     alloc: Global,
     drawing: &mut Drawing,
-    index: &mut Index,
+    index: &mut NearIndex,
     id: u32,
 ) -> Result<(), NoMemory>
     requires rest { IsAtRest drawing.old index.old }
@@ -62,7 +62,7 @@ fn note_link(
 }
 
 // Makes `p` no longer explicit.
-pub(crate) fn unmark(drawing: &mut Drawing, index: &Index, p: &Point)
+pub(crate) fn unmark(drawing: &mut Drawing, index: &NearIndex, p: &Point)
     requires rest { IsAtRest drawing.old index.now }
     ensures taken { TakesPoint drawing.old drawing.new p.now }
     ensures rest { IsAtRest drawing.new index.now }

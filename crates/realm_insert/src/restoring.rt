@@ -3,7 +3,7 @@
 ghost use Rattle.std.specs.Prelude.{◌≡◌, ◌↔◌, IsTrue, Contains, IfOk, MatchOption, MatchBool};
 ghost use Rattle.grid_base.specs.Segment.{GridSegment};
 ghost use Rattle.grid_base.specs.Drawing.{IsPiece, IsDrawnRealm, HasViolation};
-ghost use Rattle.realm_drawing.specs.Chains.{AllValid};
+ghost use Rattle.hook_chain.specs.StandingChains.{AllValid};
 ghost use Rattle.realm_drawing.specs.Keyed.{AreKeyed};
 ghost use Rattle.realm_insert.specs.Kept.{IsIndexed, IsAtRest};
 ghost use Rattle.realm_insert.specs.Snapshots.{IsRestored, HasValidParts};
@@ -14,9 +14,10 @@ ghost use Rattle.state_check.specs.Tabled.{entries_of, AreTabled};
 
 use crate::indexing::put_if_missing;
 use crate::settling::next_step;
+use chain_laws::step_mends;
 use grid_base::{NoMemory, Segment, settled_is_realm};
-use realm_drawing::{Drawing, step_mends};
-use realm_index::Index;
+use realm_drawing::Drawing;
+use realm_index::NearIndex;
 use record_codec::Snapshot;
 use state_check::{drawing_of, numbers_fit, table_of};
 use std::alloc::Global;
@@ -26,7 +27,7 @@ use value_table::Table;
 #[derive(Drop)]
 pub(crate) struct EngineParts {
     pub(crate) drawing: Drawing,
-    pub(crate) index: Index,
+    pub(crate) index: NearIndex,
     pub(crate) table: Table,
 }
 
@@ -78,7 +79,7 @@ fn table_in(alloc: Global, drawing: &Drawing, s: &Snapshot) -> Result<Option<Tab
 }
 
 // The index of the drawing; none where the drawing isn't a realm.
-fn index_at_rest(alloc: Global, drawing: &Drawing) -> Result<Option<Index>, NoMemory>
+fn index_at_rest(alloc: Global, drawing: &Drawing) -> Result<Option<NearIndex>, NoMemory>
     requires valid { AllValid drawing.now.drawing }
     ensures { IfOk result (λ found. MatchOption found (IsDrawnRealm drawing.now.drawing → ⊥)
         (λ index. IsAtRest drawing.now index × IsDrawnRealm drawing.now.drawing)) }
@@ -99,7 +100,7 @@ fn index_at_rest(alloc: Global, drawing: &Drawing) -> Result<Option<Index>, NoMe
 fn is_settled(
     alloc: Global,
     drawing: &Drawing,
-    index: &Index,
+    index: &NearIndex,
     mut pieces: Vec<Segment>,
 ) -> Result<bool, NoMemory>
     requires indexed { IsIndexed drawing.now index.now }
@@ -116,12 +117,12 @@ fn is_settled(
 }
 
 // The index of these pieces, which are all.
-fn index_of(alloc: Global, drawing: &Drawing, pieces: &[Segment]) -> Result<Index, NoMemory>
+fn index_of(alloc: Global, drawing: &Drawing, pieces: &[Segment]) -> Result<NearIndex, NoMemory>
     requires keyed { AreKeyed drawing.now }
     requires all { (t : GridSegment) → Contains pieces.now t ↔ IsPiece drawing.now.drawing t }
     ensures { IfOk result (IsIndexed drawing.now) }
 {
-    let mut index = Index::new(alloc);
+    let mut index = NearIndex::new(alloc);
     for s in pieces {
         put_if_missing(drawing, &mut index, s)?;
     }

@@ -6,19 +6,17 @@ ghost use Rattle.grid_base.specs.Segment.{GridSegment, BoxesMeet};
 ghost use Rattle.grid_base.specs.Crossing.{Inside};
 ghost use Rattle.grid_base.specs.Drawing.{IsPoint, IsPiece};
 ghost use Rattle.realm_drawing.specs.Keyed.{HasKey, AreKeyed};
-ghost use Rattle.realm_drawing.specs.Mending.{IsPermitted};
-ghost use Rattle.realm_index.specs.Index.{HasKeysWhere};
+ghost use Rattle.hook_chain.specs.Mending.{IsPermitted};
 ghost use Rattle.realm_insert.specs.Kept.{IsIndexed};
 ghost use Rattle.realm_insert.specs.Clashes.{IsInsideNone, HasNoEndInside, NoClash, HasNoClashAmong};
 ghost use Rattle.realm_insert.specs.Clashes.{HasKeysRound, HasKeysAt, CanBeSearched};
 ghost use Rattle.realm_insert.specs.Work.{IsClean};
 
-use grid_base::{NoMemory, Point, Segment, Step, Steps, box_meets, in_side};
-use realm_drawing::{Drawing, crossing_step};
-use realm_index::Index;
+use chain_laws::crossing_step;
+use grid_base::{NoMemory, Point, Segment, Step, box_meets, in_side};
+use realm_drawing::Drawing;
+use realm_index::NearIndex;
 use std::alloc::Global;
-use std::marker::Brand;
-use std::sync::ledger::{Blank, Ledger};
 
 // A step that mends a violation with `s` or an end of it; none where there is none. The pieces that are near `s` have keys
 // of the list.
@@ -209,51 +207,11 @@ fn split_at(drawing: &Drawing, p: &Point, t: &Segment) -> Option<Step>
     }
 }
 
-// The keys of the pieces whose boxes meet that of `s`.
-pub(crate) fn meeting(index: &Index, s: &Segment) -> Result<Vec<usize>, NoMemory>
-    ensures { IfOk result (λ keys. HasKeysWhere (BoxesMeet s.now) index.now keys.items) }
-{
-    meeting_counted::<Brand>(index, s, Blank::new(1))
-}
-
-fn meeting_counted<L: Ledger>(
-    index: &Index,
-    s: &Segment,
-    blank: Blank,
-) -> Result<Vec<usize>, NoMemory>
-    requires parts { blank.parts ≡ 1 }
-    requires same { (L.name ≡ blank.name) × (L.parts ≡ blank.parts) }
-    ensures { IfOk result (λ keys. HasKeysWhere (BoxesMeet s.now) index.now keys.items) }
-{
-    let mut steps = Steps::<L>::new(blank);
-    index.meeting(s, &mut steps)
-}
-
-// The keys of the pieces whose boxes hold `p`.
-fn holding(index: &Index, p: &Point) -> Result<Vec<usize>, NoMemory>
-    ensures { IfOk result (λ keys. HasKeysWhere (λ t. InBox t.a t.b p.now) index.now keys.items) }
-{
-    holding_counted::<Brand>(index, p, Blank::new(1))
-}
-
-fn holding_counted<L: Ledger>(
-    index: &Index,
-    p: &Point,
-    blank: Blank,
-) -> Result<Vec<usize>, NoMemory>
-    requires parts { blank.parts ≡ 1 }
-    requires same { (L.name ≡ blank.name) × (L.parts ≡ blank.parts) }
-    ensures { IfOk result (λ keys. HasKeysWhere (λ t. InBox t.a t.b p.now) index.now keys.items) }
-{
-    let mut steps = Steps::<L>::new(blank);
-    index.on_point(p, &mut steps)
-}
-
 // The pieces that have `p` inside.
 pub(crate) fn pieces_round(
     alloc: Global,
     drawing: &Drawing,
-    index: &Index,
+    index: &NearIndex,
     p: &Point,
 ) -> Result<Vec<Segment>, NoMemory>
     requires indexed { IsIndexed drawing.now index.now }
@@ -261,7 +219,7 @@ pub(crate) fn pieces_round(
     ensures { IfOk result (λ list. (t : GridSegment)
         → Contains list.items t ↔ (IsPiece drawing.now.drawing t × Inside p.now t)) }
 {
-    let keys = holding(index, p)?;
+    let keys = index.on_point(p)?;
     pieces_among(alloc, drawing, keys.as_slice(), p)
 }
 

@@ -7,9 +7,9 @@ ghost use Rattle.std.specs.Prelude.{IfSome, IsNone, IsSomeAnd};
 ghost use Rattle.std.specs.List.{slice_get};
 ghost use Rattle.grid_base.specs.Drawing.{HasViolation};
 ghost use Rattle.hook_chain.specs.Steps.{Permitted, Settles};
-ghost use Rattle.realm_drawing.specs.Chains.{AllValid};
+ghost use Rattle.hook_chain.specs.StandingChains.{AllValid};
 ghost use Rattle.realm_drawing.specs.Keyed.{AreKeyed};
-ghost use Rattle.realm_drawing.specs.Mending.{IsPermitted};
+ghost use Rattle.hook_chain.specs.Mending.{IsPermitted};
 ghost use Rattle.realm_drawing.specs.declared.errors.StepError.TheVariants.{NotPermitted};
 ghost use Rattle.realm_insert.specs.Clashes.{CanBeSearched};
 ghost use Rattle.realm_insert.specs.Kept.{IsIndexed};
@@ -19,10 +19,10 @@ ghost use Rattle.realm_insert.specs.declared.settling.SettleError.TheVariants.{M
 
 use crate::indexing::{forget_gone, keyed_pieces, put_in_index};
 use crate::near_box::{box_of_last, lies_within};
-use crate::searching::{meeting, violation_at};
+use crate::searching::violation_at;
 use grid_base::{NoMemory, Segment, Step};
 use realm_drawing::{Drawing, KeyedPiece, StepError};
-use realm_index::Index;
+use realm_index::NearIndex;
 use record_codec::Trace;
 use std::alloc::Global;
 
@@ -46,7 +46,7 @@ impl From<NoMemory> for SettleError {
 pub(crate) fn settle_by(
     alloc: Global,
     drawing: &mut Drawing,
-    index: &mut Index,
+    index: &mut NearIndex,
     fresh: Vec<Segment>,
     given: Option<&[Step]>,
 ) -> Result<Trace, SettleError>
@@ -72,7 +72,7 @@ pub(crate) fn settle_by(
 fn retrace(
     alloc: Global,
     drawing: &mut Drawing,
-    index: &mut Index,
+    index: &mut NearIndex,
     fresh: Vec<Segment>,
     steps: &[Step],
 ) -> Result<Trace, SettleError>
@@ -113,7 +113,7 @@ fn retrace(
 fn settle(
     alloc: Global,
     drawing: &mut Drawing,
-    index: &mut Index,
+    index: &mut NearIndex,
     fresh: Vec<Segment>,
 ) -> Result<Trace, NoMemory>
     requires indexed { IsIndexed drawing.old index.old }
@@ -142,7 +142,7 @@ fn settle(
 pub(crate) fn next_step(
     alloc: Global,
     drawing: &Drawing,
-    index: &Index,
+    index: &NearIndex,
     fresh: &mut Vec<Segment>,
     before: usize,
 ) -> Result<Option<Step>, NoMemory>
@@ -157,7 +157,7 @@ pub(crate) fn next_step(
     while let Some(piece) = fresh.as_slice().last().copied() {
         let many = fresh.len().saturating_sub(before).saturating_add(1);
         let near = box_of_last(fresh.as_slice(), &piece, many);
-        let keys = meeting(index, &near)?;
+        let keys = index.meeting(&near)?;
         let found = step_at_last(alloc, drawing, keys.as_slice(), &piece, fresh)?;
         if found.is_some() {
             return Ok(found);
@@ -224,7 +224,7 @@ fn step_at_last(
 fn mend(
     alloc: Global,
     drawing: &mut Drawing,
-    index: &mut Index,
+    index: &mut NearIndex,
     step: &Step,
     fresh: &mut Vec<Segment>,
 ) -> Result<(), NoMemory>
@@ -250,7 +250,7 @@ fn mend(
 fn take(
     alloc: Global,
     drawing: &mut Drawing,
-    index: &mut Index,
+    index: &mut NearIndex,
     step: &Step,
     fresh: &mut Vec<Segment>,
 ) -> Result<(), StepError>

@@ -1,6 +1,6 @@
 use Rattle.std.proofs.Common.{IfOk, sym, subst, inl, inr, Vec, Global}
 use Rattle.grid_base.specs.declared.kinds.Step.{Step}
-use Rattle.realm_drawing.specs.Draws.{IsPieceOf}
+use Rattle.hook_chain.specs.Mending.{IsPieceOf}
 use Rattle.realm_drawing.specs.declared.keyed.KeyedPiece.{KeyedPiece}
 use Rattle.realm_insert.specs.Indexing.{ListsKeyed}
 use Rattle.realm_insert.proofs.indexing.keyed_pieces.Goals as goal

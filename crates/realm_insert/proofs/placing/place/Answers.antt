@@ -1,6 +1,6 @@
 use Rattle.std.proofs.Common.{◌+◌, [], ◌∷◌, ◌++◌, sym, subst}
 use Rattle.grid_base.specs.Drawing.{Drawing}
-use Rattle.realm_drawing.specs.Chains.{AllStand}
+use Rattle.hook_chain.specs.StandingChains.{AllStand}
 use Rattle.realm_insert.specs.State.{HasIdsBelow}
 use Rattle.realm_insert.specs.Work.{IsCoveredBy}
 use Rattle.realm_insert.proofs.PlacedOriginals.{placed_in_order, placed_below, id_is_above}

@@ -1,6 +1,6 @@
 use Rattle.std.proofs.Common.{◌≡◌, ◌+◌, List, ◌++◌, take, drop}
 use Rattle.grid_base.specs.Segment.{GridSegment}
-use Rattle.realm_drawing.specs.Chains.{AllValid}
+use Rattle.hook_chain.specs.StandingChains.{AllValid}
 use Rattle.realm_drawing.specs.Keyed.{AreKeyed}
 use Rattle.realm_insert.specs.Changes.{placed_all}
 use Rattle.realm_insert.specs.Kept.{IsIndexed}

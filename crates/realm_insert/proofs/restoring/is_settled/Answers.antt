@@ -2,7 +2,7 @@ use Rattle.std.proofs.Common.{◌≡◌, Bool, true, false, not, Option, Some, N
 use Rattle.std.specs.Option.{is_some}
 use Rattle.grid_base.specs.Drawing.{Drawing, HasViolation}
 use Rattle.grid_base.specs.declared.kinds.Step.{Step}
-use Rattle.realm_drawing.specs.Mending.{IsPermitted}
+use Rattle.hook_chain.specs.Mending.{IsPermitted}
 use Rattle.hook_chain.specs.Steps.{Permitted}
 use Rattle.realm_insert.proofs.restoring.is_settled.Goals as goal
 

@@ -1,5 +1,5 @@
 use Rattle.std.proofs.Common.{◌/◌, ◌-◌, length, take, drop, take_all, length-drop, subst, arith}
-use Rattle.realm_drawing.specs.Mending.{IsPermitted}
+use Rattle.hook_chain.specs.Mending.{IsPermitted}
 use Rattle.realm_insert.specs.Clashes.{HasNoClashAmong}
 use Rattle.realm_insert.proofs.CleanPieces.{no_clash_in_parts}
 use Rattle.realm_insert.proofs.FoundSteps.{none_means}

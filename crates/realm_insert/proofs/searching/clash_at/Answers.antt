@@ -2,7 +2,7 @@ use Rattle.std.proofs.Common.{sym, ◌∙◌, subst}
 use Rattle.std.proofs.lemmas.Option.{none-some}
 use Rattle.grid_base.specs.Segment.{GridSegment}
 use Rattle.realm_drawing.specs.Keyed.{HasKey}
-use Rattle.realm_drawing.specs.Mending.{IsPermitted}
+use Rattle.hook_chain.specs.Mending.{IsPermitted}
 use Rattle.realm_insert.specs.Clashes.{NoClash}
 use Rattle.realm_insert.proofs.FoundSteps.{none_means}
 use Rattle.realm_insert.proofs.searching.clash_at.Goals as goal

@@ -1,6 +1,6 @@
 use Rattle.grid_base.specs.Crossing.{Inside}
 use Rattle.grid_base.specs.Drawing.{IsPoint}
-use Rattle.realm_drawing.specs.Mending.{IsPermitted}
+use Rattle.hook_chain.specs.Mending.{IsPermitted}
 use Rattle.realm_insert.specs.Clashes.{HasNoEndInside}
 use Rattle.realm_insert.proofs.FoundSteps.{none_means, no_end_by}
 use Rattle.realm_insert.proofs.searching.end_inside.Goals as goal

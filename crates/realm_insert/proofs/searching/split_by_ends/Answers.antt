@@ -1,7 +1,7 @@
 use Rattle.std.proofs.Common.{Option, MatchOption, inl, inr, subst}
 use Rattle.std.proofs.lemmas.Result.{IfOk-weaker}
 use Rattle.grid_base.specs.declared.kinds.Step.{Step}
-use Rattle.realm_drawing.specs.Mending.{IsPermitted}
+use Rattle.hook_chain.specs.Mending.{IsPermitted}
 use Rattle.realm_insert.specs.Clashes.{IsInsideNone}
 use Rattle.realm_insert.specs.Work.{IsClean}
 use Rattle.realm_insert.proofs.CleanPieces.{clean_by_ends, round_end}

@@ -1,5 +1,5 @@
 use Rattle.std.proofs.Common.{refl, sym, subst, inl}
-use Rattle.realm_drawing.specs.Mending.{IsPermitted}
+use Rattle.hook_chain.specs.Mending.{IsPermitted}
 use Rattle.realm_insert.specs.Clashes.{HasNoClashAmong, HasKeysRound}
 use Rattle.realm_insert.specs.Work.{IsClean}
 use Rattle.realm_insert.proofs.CleanPieces.{clean_by}

@@ -13,13 +13,13 @@ step_at_last-requires-clause-search c =
     let list = c.as_slice-in-Some-2 in
     searched_within d near c.in-Some.piece list.result.now c.box_of_last-near.ensures
     (searched_by_index d c.args.index.now near c.in_ok-keys.keys.items list.result.now c.requires.indexed c.requires.keyed
-    c.requires.valid c.in_ok-keys.ensures list.ensures.value)
+    c.requires.valid c.in_ok-keys.ensures.keys list.ensures.value)
 
 pub step_within-requires-clause-search : goal.step_within-requires-clause-search
 step_within-requires-clause-search c =
     let list = c.as_slice-in-Some-3 in
     searched_by_index c.args.drawing.now c.args.index.now c.box_of_last-near.result c.in_ok-keys.keys.items list.result.now
-    c.requires.indexed c.requires.keyed c.requires.valid c.in_ok-keys.ensures list.ensures.value
+    c.requires.indexed c.requires.keyed c.requires.valid c.in_ok-keys.ensures.keys list.ensures.value
 
 -- the list is empty
 pub returns-clause-found : goal.returns-clause-found

@@ -2,7 +2,7 @@ use Rattle.std.proofs.Common.{◌≡◌, ◌+◌, ◌≤◌, ◌++◌, ◌∷◌
 use Rattle.std.proofs.lemmas.List.{take_more, take_all}
 use Rattle.grid_base.specs.Drawing.{HasViolation}
 use Rattle.grid_base.specs.declared.kinds.Step.{Step}
-use Rattle.realm_drawing.specs.Mending.{IsPermitted}
+use Rattle.hook_chain.specs.Mending.{IsPermitted}
 use Rattle.hook_chain.specs.Steps.{Settles}
 use Rattle.realm_insert.specs.Misfits.{Misfits}
 use Rattle.realm_insert.proofs.FailedTraces.{leads_next, leads_whole, misfits_at, misfits_past, permitted_at_violation}

@@ -1,5 +1,5 @@
 use Rattle.std.proofs.Common.{◌≡◌, take}
-use Rattle.realm_drawing.specs.Chains.{AllValid}
+use Rattle.hook_chain.specs.StandingChains.{AllValid}
 use Rattle.realm_drawing.specs.Keyed.{AreKeyed}
 use Rattle.realm_insert.specs.Kept.{IsIndexed}
 use Rattle.realm_insert.specs.Misfits.{LeadsBy}

@@ -1,7 +1,7 @@
 use Rattle.std.proofs.Common.{Option, MatchOption, List, sym, subst}
 use Rattle.grid_base.specs.Drawing.{HasViolation}
 use Rattle.grid_base.specs.declared.kinds.Step.{Step}
-use Rattle.realm_drawing.specs.Mending.{IsPermitted}
+use Rattle.hook_chain.specs.Mending.{IsPermitted}
 use Rattle.realm_insert.specs.Misfits.{LeadsBy}
 use Rattle.realm_insert.proofs.StepsTaken.{in_order, leads_on, settles_by, room_shrinks}
 use Rattle.realm_insert.proofs.settling.settle.Goals as goal

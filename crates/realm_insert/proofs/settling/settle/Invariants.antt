@@ -1,7 +1,7 @@
 use Rattle.std.proofs.Common.{◌-◌}
-use Rattle.realm_drawing.specs.Chains.{AllValid}
+use Rattle.hook_chain.specs.StandingChains.{AllValid}
 use Rattle.realm_drawing.specs.Keyed.{AreKeyed}
-use Rattle.realm_drawing.specs.Measure.{links_of, most_links_of}
+use Rattle.hook_chain.specs.Measure.{links_of, most_links_of}
 use Rattle.realm_insert.specs.Kept.{IsIndexed}
 use Rattle.realm_insert.specs.Misfits.{LeadsBy}
 use Rattle.realm_insert.specs.Work.{IsCoveredBy}

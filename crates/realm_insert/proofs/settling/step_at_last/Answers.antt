@@ -3,7 +3,7 @@ use Rattle.std.proofs.lemmas.Option.{slice_get_within, get_or_from_slice_get}
 use Rattle.std.specs.Option.{is_some}
 use Rattle.grid_base.specs.Segment.{GridSegment}
 use Rattle.grid_base.specs.declared.kinds.Step.{Step}
-use Rattle.realm_drawing.specs.Mending.{IsPermitted}
+use Rattle.hook_chain.specs.Mending.{IsPermitted}
 use Rattle.realm_insert.specs.Work.{IsClean, IsCoveredBy}
 use Rattle.realm_insert.proofs.Covering.{covered_after_pop}
 use Rattle.realm_insert.proofs.settling.step_at_last.Goals as goal

@@ -1,5 +1,6 @@
 use Rattle.std.proofs.Common.{◌++◌, List, ◌∙◌, ap, sym, subst, map}
-use Rattle.realm_drawing.specs.Draws.{DrawsAnew, IsPieceOf}
+use Rattle.realm_drawing.specs.Draws.{DrawsAnew}
+use Rattle.hook_chain.specs.Mending.{IsPieceOf}
 use Rattle.realm_drawing.specs.declared.keyed.KeyedPiece.{KeyedPiece}
 use Rattle.realm_insert.specs.Indexing.{ListsKeyed}
 use Rattle.realm_insert.specs.Work.{IsCoveredBy}

@@ -1,9 +1,11 @@
-use Rattle.std.proofs.Common.{ℕ, Bor, Err, List, ◌≡◌, ◌+◌, ap, sym, subst, ◌∙◌, length, arith}
+use Rattle.std.proofs.Common.{ℕ, Bor, Err, List, Contains, ◌≡◌, ◌↔◌, ◌+◌, ap, sym, subst, ◌∙◌, length, arith}
 use Rattle.std.proofs.lemmas.Result.{err_from_is_err_and}
 use Rattle.grid_base.specs.Drawing.{Drawing}
+use Rattle.grid_base.specs.Point.{GridPoint}
 use Rattle.grid_base.specs.Segment.{GridSegment}
 use Rattle.grid_base.specs.declared.kinds.Step.{Step}
 use Rattle.realm_insert.specs.Changes.{IsChangedTo}
+use Rattle.realm_insert.specs.Differences.{points_besides}
 use Rattle.realm_insert.specs.Misfits.{Misfits, MisfitsAt}
 use Rattle.realm_insert.specs.Refusals.{IsAccepted}
 use Rattle.realm_insert.specs.Figures.{Draws}
@@ -15,6 +17,7 @@ use Rattle.realm_insert.proofs.ChangedValues.{values_changed}
 use Rattle.realm_insert.proofs.FailedTraces.{has_also}
 use Rattle.realm_insert.proofs.KeptStates.{latest_fit}
 use Rattle.realm_insert.proofs.KeptValues.{values_settled}
+use Rattle.realm_insert.proofs.NewPoints.{points_come}
 use Rattle.realm_insert.proofs.NewValues.{drawn_even, values_after}
 use Rattle.realm_insert.proofs.PreparedChanges.{can_be_drawn, most_drawn, state_of}
 use Rattle.realm_insert.proofs.engine.Engine.make.Goals as goal
@@ -76,10 +79,24 @@ invariant_of-self-2 c = λ unspent.
           c.count.ensures.fits c.in_ok-count.ensures.traces;
     }
 
+-- what the figure has that wasn't explicit is explicit when all is settled
+pub returns-clause-points : goal.returns-clause-points
+returns-clause-points c =
+    let draws = subst (λ (e : SpendableState). Draws c.args.c.now e.state c.args.figure) (sym c.self.view_is) c.requires.draws in
+    let kept = c.self.inside in
+    let s = state_of kept.drawing.drawing kept.next_id kept.table kept.changes kept.traces.items in
+    let (changed, is, settles) = c.in_ok-trace.ensures.redrawn in
+    let list = c.in_ok-points.points.items in
+    let e = c.redraw.new.drawing.drawing in
+    let listed = subst (λ (l : List GridPoint). (q : GridPoint) → Contains list q
+    ↔ Contains (points_besides l kept.drawing.drawing.points) q) c.points.ensures c.in_ok-points.ensures.same in
+    subst (λ (was : SpendableState). list ≡ points_besides e.points was.state.drawing.points) c.self.view_is
+    (points_come c.args.c.now s c.args.figure list changed e c.in_ok-trace.trace draws is settles c.in_ok-points.ensures.ascending listed)
+
 -- the drawing is that of the state
 pub returns-in_err-trace-clause-mismatch : goal.returns-in_err-trace-clause-mismatch
 returns-in_err-trace-clause-mismatch c =
-    let p = err_from_is_err_and c.from_residual.result c.from_residual.ensures.1 in
+    let p = err_from_is_err_and c.from_residual-in_err-trace.result c.from_residual-in_err-trace.ensures.1 in
     rw (p.1, p.2) (λ number same.
     let kept = c.self.inside in
     let draws = subst (λ (e : SpendableState). Draws c.args.c.now e.state c.args.figure) (sym c.self.view_is) c.requires.draws in
