@@ -5,6 +5,7 @@
 mod apart;
 mod areas;
 mod counting;
+mod directions;
 mod distances;
 mod parts;
 mod widths;

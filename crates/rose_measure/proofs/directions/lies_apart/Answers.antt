@@ -1,0 +1,9 @@
+use Rattle.rose_measure.proofs.Ways.{points_apart}
+use Rattle.rose_measure.proofs.directions.lies_apart.Goals as goal
+
+-- the gap along the way is at least as long as what was found
+pub returns : goal.returns
+returns g c told =
+    let shown = c.is_gap.ensures told in
+    points_apart _ _ _ _ _ _ _ _ _ _ _ _ _ c.last_along-behind.ensures.last c.first_along-ahead.ensures.first c.saturating_sub.ensures
+    shown.0 shown.1
