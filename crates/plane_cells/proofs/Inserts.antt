@@ -139,11 +139,6 @@ inserted_leftward B i F place r hi n d b s below others =
     (each_both (λ j. IsLeftward B j i) (λ j. Each (IsLeftward B j) (drop place F)) (λ j. Each (IsLeftward B j) (i ∷ drop place F))
     (take place F) (λ j a c. (a, c)) below (cross_parts (IsLeftward B) F place s))
 
-pub read_zero : (l : List ℕ) (m x : ℕ) → m < length l → x ≡ get_or l m x → x ≡ get_or l m 0
-read_zero [] m x h e = absurd (omega (arith, h))
-read_zero (i ∷ l) zero x h e = e
-read_zero (i ∷ l) (suc m) x h e = read_zero l m x (omega (arith, h)) e
-
 -- ---- one more segment begins at v
 each_inserted : (P : ℕ → Type 0) (i : ℕ) (F G : List ℕ) → IsInserted i F G → Each P F → P i → Each P G
 each_inserted P i F G h a b = subst (Each P) (sym h.2)

@@ -50,6 +50,8 @@ pub mod ShearedSides
 pub mod Angles
 -- front parts and back parts of lists
 pub mod Parts
+-- a run that gives way
+pub mod Runs
 -- a segment among those that begin with it
 pub mod Inserts
 -- one step of the sweep

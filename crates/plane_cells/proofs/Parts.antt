@@ -1,7 +1,7 @@
 -- This file shows how front parts and back parts of lists grow, and what holds of them.
 use Rattle.std.proofs.Common.{◌≡◌, ℕ, zero, suc, ◌+◌, ◌-◌, ◌<◌, ◌≤◌, List, [], ◌∷◌, ◌++◌, length, take, drop, get_or, refl, sym, ap, subst}
 use Rattle.std.proofs.Common.{◌∙◌, arith}
-use Rattle.std.proofs.lemmas.List.{take_more}
+use Rattle.std.proofs.lemmas.List.{take_more, get_or-drop, length-drop}
 use Rattle.std.specs.Prelude.{pos, ◌<ℤ◌, true, false, ◌/◌}
 use Rattle.grid_base.specs.Point.{GridPoint}
 use Rattle.grid_base.specs.Segment.{GridSegment}
@@ -23,6 +23,16 @@ pub each_read : (P : ℕ → Type 0) (l : List ℕ) (m d : ℕ) → Each P l →
 each_read P [] m d h k = absurd (omega (arith, k))
 each_read P (i ∷ l) zero d h k = h.0
 each_read P (i ∷ l) (suc m) d h k = each_read P l m d h.1 (omega (arith, k))
+
+pub read_zero : (l : List ℕ) (m x : ℕ) → m < length l → x ≡ get_or l m x → x ≡ get_or l m 0
+read_zero [] m x h e = absurd (omega (arith, h))
+read_zero (i ∷ l) zero x h e = e
+read_zero (i ∷ l) (suc m) x h e = read_zero l m x (omega (arith, h)) e
+
+pub read_self : (l : List ℕ) (m : ℕ) → m < length l → get_or l m 0 ≡ get_or l m (get_or l m 0)
+read_self [] m h = absurd (omega (arith, h))
+read_self (i ∷ l) zero h = refl
+read_self (i ∷ l) (suc m) h = read_self l m (omega (arith, h))
 
 -- ---- one more
 pub taken_more : {X : Type 0} (l : List X) (m : ℕ) (x : X) → m < length l → x ≡ get_or l m x → take (m + 1) l ≡ take m l ++ x ∷ []
@@ -76,49 +86,24 @@ label_taken l zero h k = absurd (omega (arith, h))
 label_taken l (suc m) h k = let e : suc m - 1 ≡ m = omega arith in ap (λ (n : ℕ). get_or l n 0 + 1) e ∙ sym
     (label_from l m 0 0 (omega (arith, k)))
 
--- ---- the search for a place in the status
+-- ---- the segments of the status
 pub segment_read : (B : List GridSegment) (k : ℕ) (s : GridSegment) → k < length B → s ≡ get_or B k s → numbered B k ≡ s
 segment_read B k s h e = number_read B k s h ∙ sym e
+
+pub number_fits : (B : List GridSegment) (status : List ℕ) (m x : ℕ) → AreNumbers B status → m < length status
+    → x ≡ get_or status m x → x < length B
+number_fits B status m x n l e = subst (λ i. i < length B) (sym e) (each_read (λ i. i < length B) status m x n l)
+
+-- the segment whose number was read
+pub numbered_read : (B : List GridSegment) (status : List ℕ) (m x : ℕ) (s : GridSegment) → AreNumbers B status → m < length status
+    → x ≡ get_or status m x → s ≡ get_or B x s → s ≡ numbered B (get_or status m 0)
+numbered_read B status m x s n l e f =
+    sym (segment_read B x s (number_fits B status m x n l e) f) ∙ ap (numbered B) (read_zero status m x l e)
 
 -- the greater end of the segment that was read
 pub end_read : (B : List GridSegment) (i : ℕ) (s : GridSegment) (b : GridPoint) → i < length B → s ≡ get_or B i s → b ≡ s.b
     → (numbered B i).b ≡ b
 end_read B i s b h e f = ap (λ (u : GridSegment). u.b) (segment_read B i s h e) ∙ sym f
-
--- those before `from` are below p, and those behind `to` are not
-pub record IsParted (B : List GridSegment) (p : GridPoint) (status : List ℕ) (from to : ℕ) : Type 0 where
-  pub order : from ≤ to
-  pub within : to ≤ length status
-  pub below : Each (IsLeftOf B p) (take from status)
-  pub others : Each (λ i. IsLeftOf B p i → ⊥) (drop to status)
-
-pub parted_up : (B : List GridSegment) (p : GridPoint) (status : List ℕ) (from to m : ℕ) (s : GridSegment) → IsParted B p status from to
-    → m < to → AreNumbers B status → IsSortedAt B p status
-    → s ≡ get_or B (get_or status m 0) s → pos 0 <ℤ turn s.a s.b p → IsParted B p status (m + 1) to
-parted_up B p status from to m s h l n o e t =
-    let short : m < length status = omega (arith, h.within, l) in
-    let k = segment_read B (get_or status m 0) s (each_read (λ i. i < length B) status m 0 n short) e in
-    let one : m + 1 ≡ suc m = omega arith in
-    record {
-      order = omega (arith, l);
-      within = h.within;
-      below = subst (λ (i : ℕ). Each (IsLeftOf B p) (take i status)) (sym one)
-          (up_to (IsLeftOf B p) status m 0 o short (subst (λ (u : GridSegment). pos 0 <ℤ turn u.a u.b p) (sym k) t));
-      others = h.others;
-    }
-
-pub parted_down : (B : List GridSegment) (p : GridPoint) (status : List ℕ) (from to m : ℕ) (s : GridSegment) → IsParted B p status from to
-    → from ≤ m → m < to → AreNumbers B status → IsSortedAt B p status
-    → s ≡ get_or B (get_or status m 0) s → (pos 0 <ℤ turn s.a s.b p → ⊥) → IsParted B p status from m
-parted_down B p status from to m s h g l n o e t =
-    let short : m < length status = omega (arith, h.within, l) in
-    let k = segment_read B (get_or status m 0) s (each_read (λ i. i < length B) status m 0 n short) e in
-    record {
-      order = g;
-      within = omega (arith, short);
-      below = h.below;
-      others = behind (IsLeftOf B p) status m 0 o short (λ u. t (subst (λ (u : GridSegment). pos 0 <ℤ turn u.a u.b p) k u));
-    }
 
 pub middle_low : (from to : ℕ) → from < to → from ≤ from + (to - from) / 2
 middle_low from to h = omega arith
@@ -127,39 +112,39 @@ pub middle_high : (from to : ℕ) → from < to → from + (to - from) / 2 < to
 middle_high from to h = omega arith
 
 -- ---- the run of those that end at p
-pub record AreEnds (B : List GridSegment) (p : GridPoint) (count : ℕ) (list : List ℕ) : Type 0 where
-  pub within : count ≤ length list
-  pub ends : Each (λ i. (numbered B i).b ≡ p) (take count list)
+-- those of the list from number `from` to just before `to` end at p
+pub record AreEnds (B : List GridSegment) (p : GridPoint) (from to : ℕ) (list : List ℕ) : Type 0 where
+  pub order : from ≤ to
+  pub within : to ≤ length list
+  pub ends : Each (λ i. (numbered B i).b ≡ p) (take (to - from) (drop from list))
 
-pub one_end_more : (B : List GridSegment) (p b : GridPoint) (count : ℕ) (list : List ℕ) (s : GridSegment) → AreEnds B p count list
-    → count < length list → AreNumbers B list → s ≡ get_or B (get_or list count 0) s → b ≡ s.b → true ≡ is_point b p
-    → AreEnds B p (count + 1) list
-one_end_more B p b count list s h l n e f t =
-    let k = segment_read B (get_or list count 0) s (each_read (λ i. i < length B) list count 0 n l) e in
-    let one : count + 1 ≡ suc count = omega arith in
+pub one_end_more : (B : List GridSegment) (p b : GridPoint) (from to : ℕ) (list : List ℕ) (s : GridSegment) → AreEnds B p from to list
+    → to < length list → s ≡ numbered B (get_or list to 0) → b ≡ s.b → true ≡ is_point b p → AreEnds B p from (to + 1) list
+one_end_more B p b from to list s h l e f t =
+    let there : from + (to - from) ≡ to = omega (arith, h.order) in
+    let more : (to - from) + 1 ≡ (to + 1) - from = omega (arith, h.order) in
+    let x = get_or list to 0 in
+    let short : to - from < length (drop from list) = omega (arith, length-drop from list, h.order, l) in
+    let read : x ≡ get_or (drop from list) (to - from) x = read_self list to l ∙ ap (λ (j : ℕ). get_or list j x) (sym there)
+    ∙ sym (get_or-drop from list (to - from) x) in
     record {
+      order = omega (arith, h.order);
       within = omega (arith, l);
-      ends = each_pushed (λ i. (numbered B i).b ≡ p) list count (get_or list count 0) l (same_read list count l)
-          (ap (λ (u : GridSegment). u.b) k ∙ sym f ∙ is_point-same b p (sym t)) h.ends;
+      ends = subst (λ (j : ℕ). Each (λ i. (numbered B i).b ≡ p) (take j (drop from list))) more
+          (each_pushed (λ i. (numbered B i).b ≡ p) (drop from list) (to - from) x short read
+          (ap (λ (u : GridSegment). u.b) (sym e) ∙ sym f ∙ is_point-same b p (sym t)) h.ends);
     }
-  where
-    same_read : (l : List ℕ) (m : ℕ) → m < length l → get_or l m 0 ≡ get_or l m (get_or l m 0)
-    same_read [] m h = absurd (omega (arith, h))
-    same_read (i ∷ l) zero h = refl
-    same_read (i ∷ l) (suc m) h = same_read l m (omega (arith, h))
 
-pub not_an_end : (B : List GridSegment) (p b : GridPoint) (count : ℕ) (list : List ℕ) (s : GridSegment) → count < length list
-    → AreNumbers B list → s ≡ get_or B (get_or list count 0) s → b ≡ s.b → false ≡ is_point b p → (numbered B (get_or list count 0)).b ≡ p
-    → ⊥
-not_an_end B p b count list s l n e f t g =
-    let k = segment_read B (get_or list count 0) s (each_read (λ i. i < length B) list count 0 n l) e in
-    let same : b ≡ p = f ∙ ap (λ (u : GridSegment). u.b) (sym k) ∙ g in
+pub not_an_end : (B : List GridSegment) (p b : GridPoint) (to : ℕ) (list : List ℕ) (s : GridSegment) → s ≡ numbered B (get_or list to 0)
+    → b ≡ s.b → false ≡ is_point b p → (numbered B (get_or list to 0)).b ≡ p → ⊥
+not_an_end B p b to list s e f t g =
+    let same : b ≡ p = f ∙ ap (λ (u : GridSegment). u.b) e ∙ g in
     not_both (t ∙ ap (λ (u : GridPoint). is_point u p) same ∙ is_point-itself p)
   where
     not_both : false ≡ true → ⊥
     not_both e = cc
 
--- ---- the same search by any property
+-- ---- the search for where P fails
 pub record IsSplit (P : ℕ → Type 0) (status : List ℕ) (from to : ℕ) : Type 0 where
   pub order : from ≤ to
   pub within : to ≤ length status
@@ -185,7 +170,3 @@ split_down P status from to m h g l o t = record {
   below = h.below;
   others = behind P status m 0 o (omega (arith, h.within, l)) t;
 }
-
-pub number_of_read : (B : List GridSegment) (status : List ℕ) (m : ℕ) (s : GridSegment) → AreNumbers B status → m < length status
-    → s ≡ get_or B (get_or status m 0) s → numbered B (get_or status m 0) ≡ s
-number_of_read B status m s n l e = segment_read B (get_or status m 0) s (each_read (λ i. i < length B) status m 0 n l) e

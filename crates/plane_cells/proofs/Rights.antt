@@ -69,8 +69,3 @@ rights_more fan under m x old new new' label label' once h l e small is k =
 pub all_rights : (fan : List ℕ) (under m : ℕ) (old new : List ℕ) (label : ℕ) → length fan ≤ m → AreRights (take m fan) under old new label
     → AreRights fan under old new label
 all_rights fan under m old new label h k = subst (λ (A : List ℕ). AreRights A under old new label) (take_all m fan h) k
-
-pub read_self : (l : List ℕ) (m : ℕ) → m < length l → get_or l m 0 ≡ get_or l m (get_or l m 0)
-read_self [] m h = absurd (omega (arith, h))
-read_self (i ∷ l) zero h = refl
-read_self (i ∷ l) (suc m) h = read_self l m (omega (arith, h))

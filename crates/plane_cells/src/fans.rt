@@ -9,6 +9,7 @@ ghost use Rattle.plane_cells.specs.Scan.{AreNumbers, AreAscending, IsLeftward, I
 use crate::status::count_below;
 use grid_base::{NoMemory, Point, Segment};
 use std::alloc::Global;
+use tiered_vector::TieredVector;
 
 /// The segments that begin at `v`, from below; `next` is the first that doesn't begin before it.
 pub fn fan(
@@ -16,14 +17,14 @@ pub fn fan(
     border: &[Segment],
     next: usize,
     v: &Point,
-) -> Result<Vec<usize>, NoMemory>
+) -> Result<TieredVector<usize>, NoMemory>
     requires realm { AreOfRealm border.now }
     requires ascending { AreAscending border.now }
     requires next { IsNext border.now v.now next }
     requires on_grid { v.now.y < grid_side }
-    ensures { IfOk result (λ f. IsFan border.now v.now next f.items) }
+    ensures { IfOk result (λ f. IsFan border.now v.now next f) }
 {
-    let mut fan = Vec::new(alloc);
+    let mut fan = TieredVector::new(alloc);
     let mut i = next;
     while i < border.len() && border[i].a() == *v {
         insert_by_angle(border, &mut fan, i)?;
@@ -33,15 +34,19 @@ pub fn fan(
 }
 
 // Puts segment `i` where it belongs among those that begin with it.
-fn insert_by_angle(border: &[Segment], fan: &mut Vec<usize>, i: usize) -> Result<(), NoMemory>
+fn insert_by_angle(
+    border: &[Segment],
+    fan: &mut TieredVector<usize>,
+    i: usize,
+) -> Result<(), NoMemory>
     requires realm { AreOfRealm border.now }
     requires number { i < length border.now }
-    requires numbers { AreNumbers border.now fan.old.items }
-    requires fresh { Each (λ j. i ≡ j → ⊥) fan.old.items }
-    requires begins { Each (λ j. (numbered border.now j).a ≡ (numbered border.now i).a) fan.old.items }
-    requires leftward { Pairs (IsLeftward border.now) fan.old.items }
-    ensures inserted { IfOk result (λ _. IsInserted i fan.old.items fan.new.items) }
-    ensures leftward { IfOk result (λ _. Pairs (IsLeftward border.now) fan.new.items) }
+    requires numbers { AreNumbers border.now fan.old }
+    requires fresh { Each (λ j. i ≡ j → ⊥) fan.old }
+    requires begins { Each (λ j. (numbered border.now j).a ≡ (numbered border.now i).a) fan.old }
+    requires leftward { Pairs (IsLeftward border.now) fan.old }
+    ensures inserted { IfOk result (λ _. IsInserted i fan.old fan.new) }
+    ensures leftward { IfOk result (λ _. Pairs (IsLeftward border.now) fan.new) }
 {
     let place = count_below(border, fan, &border[i].b());
     fan.insert(place, i)?;

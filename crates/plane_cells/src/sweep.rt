@@ -10,9 +10,10 @@ ghost use Rattle.plane_cells.specs.Swept.{AreOthers, AreDue, AreLater};
 use crate::columns::{column, point_at, vertices};
 use crate::fans::fan;
 use crate::splice::replace_run;
-use crate::status::{count_below, count_ends, count_under, label};
+use crate::status::{count_below, count_under, ends_to, label};
 use grid_base::{GRID_BITS, NoMemory, Segment};
 use std::alloc::Global;
+use tiered_vector::TieredVector;
 
 // A column behind all: each is below the square of the number of columns of the grid, and this is twice that.
 const BEHIND_ALL: u64 = 1 << (2 * GRID_BITS + 1);
@@ -30,7 +31,7 @@ pub struct Found {
 struct Sweep<'a> {
     list: &'a [Segment],
     asked: Vec<usize>,
-    status: Vec<usize>,
+    status: TieredVector<usize>,
     next: usize,
     links: Vec<(usize, usize)>,
     right: Vec<usize>,
@@ -63,7 +64,7 @@ pub fn pass_all(alloc: Global, border: &[Segment], list: &[Segment]) -> Result<F
 fn begin<'a>(alloc: Global, list: &'a [Segment], count: usize) -> Result<Sweep<'a>, NoMemory>
     ensures list { IfOk result (λ s. s.list.now ≡ list.now) }
     ensures asked { IfOk result (λ s. s.asked.items ≡ []) }
-    ensures status { IfOk result (λ s. s.status.items ≡ []) }
+    ensures status { IfOk result (λ s. s.status ≡ []) }
     ensures next { IfOk result (λ s. s.next ≡ 0) }
     ensures links { IfOk result (λ s. s.links.items ≡ []) }
     ensures right { IfOk result (λ s. length s.right.items ≡ count) }
@@ -76,7 +77,7 @@ fn begin<'a>(alloc: Global, list: &'a [Segment], count: usize) -> Result<Sweep<'
     Ok(Sweep {
         list,
         asked: Vec::new(alloc),
-        status: Vec::new(alloc),
+        status: TieredVector::new(alloc),
         next: 0,
         links: Vec::new(alloc),
         right,
@@ -95,12 +96,12 @@ fn ask(
     requires index { index ≤ length vertices.now }
     requires others { AreOthers border.now sweep.old.list.now }
     requires swept { IsSwept border.now (wall_before vertices.now index)
-        sweep.old.status.items sweep.old.next sweep.old.links.items sweep.old.right.items
+        sweep.old.status sweep.old.next sweep.old.links.items sweep.old.right.items
         sweep.old.list.now sweep.old.asked.items }
     requires due { AreDue sweep.old.list.now (length sweep.old.asked.items) (bound_at vertices.now index) }
     ensures list { IfOk result (λ _. sweep.new.list.now ≡ sweep.old.list.now) }
     ensures swept { IfOk result (λ _. IsSwept border.now (wall_before vertices.now index)
-        sweep.new.status.items sweep.new.next sweep.new.links.items sweep.new.right.items
+        sweep.new.status sweep.new.next sweep.new.links.items sweep.new.right.items
         sweep.old.list.now sweep.new.asked.items) }
     ensures due { IfOk result (λ _. AreDue sweep.old.list.now
         (length sweep.new.asked.items) (bound_at vertices.now index)) }
@@ -144,7 +145,7 @@ fn pass(
     requires vertices { AreVertices border.now vertices.now }
     requires index { index < length vertices.now }
     requires swept { IsSwept border.now (wall_before vertices.now index)
-        sweep.old.status.items sweep.old.next sweep.old.links.items sweep.old.right.items
+        sweep.old.status sweep.old.next sweep.old.links.items sweep.old.right.items
         sweep.old.list.now sweep.old.asked.items }
     requires due { AreDue sweep.old.list.now (length sweep.old.asked.items) (slice_index vertices.now index) }
     requires later { AreLater sweep.old.list.now (length sweep.old.asked.items)
@@ -152,25 +153,25 @@ fn pass(
     ensures list { IfOk result (λ _. sweep.new.list.now ≡ sweep.old.list.now) }
     ensures asked { IfOk result (λ _. sweep.new.asked.items ≡ sweep.old.asked.items) }
     ensures swept { IfOk result (λ _. IsSwept border.now (wall_before vertices.now (suc index))
-        sweep.new.status.items sweep.new.next sweep.new.links.items sweep.new.right.items
+        sweep.new.status sweep.new.next sweep.new.links.items sweep.new.right.items
         sweep.old.list.now sweep.old.asked.items) }
 {
     let v = point_at(vertices[index]);
     let below = count_below(border, &sweep.status, &v);
-    let ends = count_ends(border, &sweep.status[below..], &v);
+    let behind = ends_to(border, &sweep.status, below, &v);
     let fan = fan(alloc, border, sweep.next, &v)?;
     let under = label(&sweep.status, below);
-    let over = label(&sweep.status, below + ends);
+    let over = label(&sweep.status, behind);
     let other = last_label(under, &fan);
     sweep.links.push((over, other))?;
     set_rights(&mut sweep.right, under, &fan);
-    replace_run(&mut sweep.status, below, below + ends, &fan)?;
+    replace_run(&mut sweep.status, below, behind, &fan)?;
     sweep.next += fan.len();
     Ok(())
 }
 
 // The label over the last segment of the list, `under` where there is none.
-fn last_label(under: usize, fan: &[usize]) -> usize
+fn last_label(under: usize, fan: &TieredVector<usize>) -> usize
     requires fits { Each (λ i. i < 2 ^ 63) fan.now }
     ensures { result ≡ label_over under fan.now }
 {
@@ -183,7 +184,7 @@ fn last_label(under: usize, fan: &[usize]) -> usize
 }
 
 // Gives each segment of the list the label of the gap under it.
-fn set_rights(right: &mut Vec<usize>, under: usize, fan: &[usize])
+fn set_rights(right: &mut Vec<usize>, under: usize, fan: &TieredVector<usize>)
     requires places { Each (λ i. i < length right.old.items) fan.now }
     requires once { Pairs (λ i j. i ≡ j → ⊥) fan.now }
     requires fits { Each (λ i. i < 2 ^ 63) fan.now }
@@ -193,8 +194,9 @@ fn set_rights(right: &mut Vec<usize>, under: usize, fan: &[usize])
     ensures size { length right.new.items ≡ length right.old.items }
 {
     let mut label = under;
-    for i in fan {
-        right[*i] = label;
-        label = *i + 1;
+    for k in 0..fan.len() {
+        let i = fan[k];
+        right[i] = label;
+        label = i + 1;
     }
 }

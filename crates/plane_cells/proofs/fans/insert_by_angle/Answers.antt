@@ -1,4 +1,4 @@
-use Rattle.std.proofs.Common.{sym, subst, ℕ, List, take, drop}
+use Rattle.std.proofs.Common.{sym, subst, ℕ, take, drop}
 use Rattle.grid_base.specs.Point.{GridPoint}
 use Rattle.plane_cells.specs.Steps.{Each, Pairs}
 use Rattle.plane_cells.specs.Scan.{IsLeftOf, IsLeftward, IsSortedAt}
@@ -12,22 +12,18 @@ count_below-place-requires-clause-sorted c =
     let B = c.args.border.now in
     let i = c.args.i in
     let to_b = end_read B i c.index-border-i.result c.b.result c.requires.number c.index-border-i.is c.b.ensures.end in
-    subst (IsSortedAt B c.b.result) (sym c.deref.ensures.value)
-    (subst (λ (p : GridPoint). IsSortedAt B p c.args.fan.now.items) to_b
-    (sorted_fan B i c.args.fan.now.items c.requires.realm c.requires.number c.requires.numbers c.requires.begins c.requires.leftward))
+    subst (λ (p : GridPoint). IsSortedAt B p c.args.fan.now) to_b
+    (sorted_fan B i c.args.fan.now c.requires.realm c.requires.number c.requires.numbers c.requires.begins c.requires.leftward)
 
 pub returns-clause-leftward : goal.returns-clause-leftward
 returns-clause-leftward c =
     let B = c.args.border.now in
     let i = c.args.i in
-    let fan = c.args.fan.now.items in
+    let fan = c.args.fan.now in
     let place = c.count_below-place.result in
     let to_b = sym (end_read B i c.index-border-i.result c.b.result c.requires.number c.index-border-i.is c.b.ensures.end) in
-    let below = subst (λ (p : GridPoint). Each (IsLeftOf B p) (take place fan)) to_b
-    (subst (λ (l : List ℕ). Each (IsLeftOf B c.b.result) (take place l)) c.deref.ensures.value c.count_below-place.ensures.below) in
-    let others = subst (λ (p : GridPoint). Each (λ j. ¬ IsLeftOf B p j) (drop place fan)) to_b
-    (subst (λ (l : List ℕ). Each (λ j. ¬ IsLeftOf B c.b.result j) (drop place l)) c.deref.ensures.value c.count_below-place.ensures.others)
-    in
-    subst (Pairs (IsLeftward B)) (sym c.in_ok-insert.ensures.items)
+    let below = subst (λ (p : GridPoint). Each (IsLeftOf B p) (take place fan)) to_b c.count_below-place.ensures.below in
+    let others = subst (λ (p : GridPoint). Each (λ j. ¬ IsLeftOf B p j) (drop place fan)) to_b c.count_below-place.ensures.others in
+    subst (Pairs (IsLeftward B)) (sym c.in_ok-insert.ensures.ok)
     (inserted_leftward B i fan place c.requires.realm c.requires.number c.requires.numbers c.requires.fresh c.requires.begins
     c.requires.leftward below others)

@@ -1,20 +1,27 @@
-use Rattle.std.proofs.Common.{refl, ◌/◌, ◌-◌, ◌+◌, false, IsTrue}
-use Rattle.plane_cells.proofs.Parts.{parted_up, parted_down, middle_low, middle_high}
+use Rattle.std.proofs.Common.{refl, ◌/◌, ◌-◌, ◌+◌, false, IsTrue, sym, subst, pos, ◌<ℤ◌}
+use Rattle.grid_base.specs.Segment.{GridSegment}
+use Rattle.grid_base.specs.Sides.{turn}
+use Rattle.plane_cells.specs.Scan.{IsLeftOf}
+use Rattle.plane_cells.proofs.Parts.{split_up, split_down, middle_low, middle_high}
 use Rattle.plane_cells.proofs.status.count_below.Goals as goal
 
 not_true : IsTrue false → ⊥
 not_true e = cc
 
+-- the middle one passes, so all up to there do
 pub loop-from-preserved-then-is_left : goal.loop-from-preserved-then-is_left
 loop-from-preserved-then-is_left c =
-    parted_up c.args.border.now c.args.p.now c.args.status.now c.loop-from.from c.loop-from.to
-    (c.loop-from.from + (c.loop-from.to - c.loop-from.from) / 2) c.index-border-status.result c.loop-from.invariant
-    (middle_high c.loop-from.from c.loop-from.to c.loop-from-test.true) c.requires.numbers c.requires.sorted c.index-border-status.is
-    (c.if-is_left.ensures.0 refl)
+    let from = c.loop-from.from in
+    let to = c.loop-from.to in
+    split_up (IsLeftOf c.args.border.now c.args.p.now) c.args.status.now from to (from + (to - from) / 2) c.loop-from.invariant
+    (middle_high from to c.loop-from-test.true) c.requires.sorted
+    (subst (λ (s : GridSegment). pos 0 <ℤ turn s.a s.b c.args.p.now) c.segment_at.ensures (c.if-is_left.ensures.0 refl))
 
+-- the middle one doesn't, so none from there on does
 pub loop-from-preserved : goal.loop-from-preserved
 loop-from-preserved c =
-    parted_down c.args.border.now c.args.p.now c.args.status.now c.loop-from.from c.loop-from.to
-    (c.loop-from.from + (c.loop-from.to - c.loop-from.from) / 2) c.index-border-status.result c.loop-from.invariant
-    (middle_low c.loop-from.from c.loop-from.to c.loop-from-test.true) (middle_high c.loop-from.from c.loop-from.to c.loop-from-test.true)
-    c.requires.numbers c.requires.sorted c.index-border-status.is (λ t. not_true (c.if-is_left.ensures.1 t))
+    let from = c.loop-from.from in
+    let to = c.loop-from.to in
+    split_down (IsLeftOf c.args.border.now c.args.p.now) c.args.status.now from to (from + (to - from) / 2) c.loop-from.invariant
+    (middle_low from to c.loop-from-test.true) (middle_high from to c.loop-from-test.true) c.requires.sorted
+    (λ t. not_true (c.if-is_left.ensures.1 (subst (λ (s : GridSegment). pos 0 <ℤ turn s.a s.b c.args.p.now) (sym c.segment_at.ensures) t)))

@@ -22,19 +22,16 @@ count_under-count-requires-clause-sorted c =
     (omega (arith, c.len-in-loop-sweep.ensures, s.asked.ok)) c.index-sweep-len.is c.a.ensures.end c.column.ensures.column
     c.if-column-bound.true c.bound-bound.ensures (omega (arith, c.len-in-loop-sweep-2.ensures, s.asked.ok))
     c.index-sweep-len-in-loop-sweep.is in
-    subst (Pairs (λ i j. IsUnderBegin (numbered c.args.border.now j) t → IsUnderBegin (numbered c.args.border.now i) t))
-    (sym c.deref.ensures.value)
-    (sorted_there c.args.border.now c.args.vertices.now c.args.index s.status.items s.next s.links.items s.right.items T s.asked.items t
+    sorted_there c.args.border.now c.args.vertices.now c.args.index s.status s.next s.links.items s.right.items T s.asked.items t
     c.requires.realm c.requires.vertices c.requires.index c.requires.others c.loop-sweep.invariant.swept
     (subst (λ (l : List GridSegment). length s.asked.items < length l) same short)
-    (next.0 ∙ ap (λ (l : List GridSegment). numbered l (length s.asked.items)) same) next.1)
+    (next.0 ∙ ap (λ (l : List GridSegment). numbered l (length s.asked.items)) same) next.1
 
 pub label-found-requires-clause-fits : goal.label-found-requires-clause-fits
 label-found-requires-clause-fits c =
     let s = c.loop-sweep.sweep in
-    subst (Each (λ i. i < 2 ^ 63)) (sym c.deref-in-loop-sweep.ensures.value)
-    (small_here c.args.border.now (wall_before c.args.vertices.now c.args.index) s.status.items s.next s.links.items s.right.items
-    c.args.sweep.now.list.now s.asked.items (2 ^ 63) c.loop-sweep.invariant.swept (omega (arith, s.right.small, s.right.ok)))
+    small_here c.args.border.now (wall_before c.args.vertices.now c.args.index) s.status s.next s.links.items s.right.items
+    c.args.sweep.now.list.now s.asked.items (2 ^ 63) c.loop-sweep.invariant.swept (omega (arith, s.right.small, s.right.ok))
 
 -- its label is known now
 pub loop-sweep-preserved : goal.loop-sweep-preserved
@@ -50,17 +47,10 @@ loop-sweep-preserved c =
     (omega (arith, c.len-in-loop-sweep.ensures, s.asked.ok)) c.index-sweep-len.is c.a.ensures.end c.column.ensures.column
     c.if-column-bound.true c.bound-bound.ensures (omega (arith, c.len-in-loop-sweep-2.ensures, s.asked.ok))
     c.index-sweep-len-in-loop-sweep.is in
-    let below : Each (λ i. IsUnderBegin (numbered B i) t) (take k s.status.items) =
-    subst (λ (l : List ℕ). Each (λ i. IsUnderBegin (numbered B i) t) (take k l)) c.deref.ensures.value c.count_under-count.ensures.below
-    in
-    let others : Each (λ i. IsUnderBegin (numbered B i) t → ⊥) (drop k s.status.items) =
-    subst (λ (l : List ℕ). Each (λ i. IsUnderBegin (numbered B i) t → ⊥) (drop k l)) c.deref.ensures.value
-    c.count_under-count.ensures.others in
-    let found : c.label-found.result ≡ label_over 0 (take k s.status.items) = c.label-found.ensures ∙ ap
-    (λ (l : List ℕ). label_over 0 (take k l)) c.deref-in-loop-sweep.ensures.value in
-    asking_more B c.args.vertices.now c.args.index s.status.items s.next s.links.items s.right.items c.args.sweep.now.list.now s.list.now
+    asking_more B c.args.vertices.now c.args.index s.status s.next s.links.items s.right.items c.args.sweep.now.list.now s.list.now
     s.asked.items c.push.new.self.items t k c.label-found.result
-    c.requires.realm c.requires.vertices c.requires.index c.requires.others c.loop-sweep.invariant short next.0 next.1 below others found
+    c.requires.realm c.requires.vertices c.requires.index c.requires.others c.loop-sweep.invariant short next.0 next.1 c.count_under-count.ensures.below
+    c.count_under-count.ensures.others c.label-found.ensures
     c.in_ok-push.ensures.items
 
 -- no more segments are due

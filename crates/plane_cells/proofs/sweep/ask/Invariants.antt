@@ -4,7 +4,7 @@ use Rattle.plane_cells.proofs.sweep.ask.Given as goal
 
 abbrev pub invariant-loop-sweep : goal.invariant-loop-sweep
 invariant-loop-sweep l =
-    IsAsking l.border l.vertices l.index l.sweep.status.items l.sweep.next l.sweep.links.items l.sweep.right.items l.initial.sweep.list.now
+    IsAsking l.border l.vertices l.index l.sweep.status l.sweep.next l.sweep.links.items l.sweep.right.items l.initial.sweep.list.now
     l.sweep.list.now l.sweep.asked.items
 
 abbrev pub decreases-loop-sweep : goal.decreases-loop-sweep

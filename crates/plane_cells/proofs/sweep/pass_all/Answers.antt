@@ -9,9 +9,9 @@ pub loop-index-init : goal.loop-index-init
 loop-index-init c =
     let s = c.in_ok-sweep.sweep in
     let e = c.in_ok-sweep.ensures in
-    first_passing c.args.border.now c.in_ok-vertices.vertices.items s.status.items s.next s.links.items s.right.items c.args.list.now
+    first_passing c.args.border.now c.in_ok-vertices.vertices.items s.status s.next s.links.items s.right.items c.args.list.now
     s.list.now s.asked.items e.list e.asked
-    (begun c.args.border.now c.in_ok-vertices.vertices.items s.status.items s.next s.links.items s.right.items c.args.list.now s.asked.items
+    (begun c.args.border.now c.in_ok-vertices.vertices.items s.status s.next s.links.items s.right.items c.args.list.now s.asked.items
     e.status e.next e.links e.right e.zero e.asked)
 
 pub ask-requires-clause-vertices : goal.ask-requires-clause-vertices
@@ -69,18 +69,18 @@ loop-index-preserved c =
     let i = c.loop-index.index in
     let n = c.pass.new.sweep in
     let to_first = c.in_ok-ask.ensures.list ∙ c.loop-index.invariant.same in
-    let swept = subst (λ (l : List ℕ). IsSwept B (wall_before l (suc i)) n.status.items n.next n.links.items n.right.items
+    let swept = subst (λ (l : List ℕ). IsSwept B (wall_before l (suc i)) n.status n.next n.links.items n.right.items
     c.ask.new.sweep.list.now c.ask.new.sweep.asked.items) c.deref-in-loop-index.ensures.value c.in_ok-pass.ensures.swept in
-    let swept' = subst (λ (T : List GridSegment). IsSwept B (wall_before V.items (suc i)) n.status.items n.next n.links.items n.right.items
+    let swept' = subst (λ (T : List GridSegment). IsSwept B (wall_before V.items (suc i)) n.status n.next n.links.items n.right.items
     T c.ask.new.sweep.asked.items) to_first swept in
-    let swept'' = subst (λ (Y : List ℕ). IsSwept B (wall_before V.items (suc i)) n.status.items n.next n.links.items n.right.items
+    let swept'' = subst (λ (Y : List ℕ). IsSwept B (wall_before V.items (suc i)) n.status n.next n.links.items n.right.items
     c.args.list.now Y) (sym c.in_ok-pass.ensures.asked) swept' in
     let due = subst (λ (l : List ℕ). AreDue c.loop-index.sweep.list.now (length c.ask.new.sweep.asked.items) (bound_at l i))
     c.deref.ensures.value c.in_ok-ask.ensures.due in
     let due' = subst (λ (T : List GridSegment). AreDue T (length c.ask.new.sweep.asked.items) (bound_at V.items i))
     c.loop-index.invariant.same due in
     let due'' = subst (λ (Y : List ℕ). AreDue c.args.list.now (length Y) (bound_at V.items i)) (sym c.in_ok-pass.ensures.asked) due' in
-    passing_on B V.items i n.status.items n.next n.links.items n.right.items c.args.list.now n.list.now n.asked.items
+    passing_on B V.items i n.status n.next n.links.items n.right.items c.args.list.now n.list.now n.asked.items
     (omega (arith, c.loop-index-test.true, V.ok, c.len-index-end.ensures)) (c.in_ok-pass.ensures.list ∙ to_first) swept'' due''
 
 pub ask-requires-2-clause-vertices : goal.ask-requires-2-clause-vertices
@@ -113,11 +113,11 @@ returns-clause-done c =
     let B = c.args.border.now in
     let V = c.in_ok-vertices.vertices in
     let n = c.ask-2.new.sweep in
-    let s = subst (λ (l : List ℕ). IsSwept B (wall_before l c.len.result) n.status.items n.next n.links.items n.right.items
+    let s = subst (λ (l : List ℕ). IsSwept B (wall_before l c.len.result) n.status n.next n.links.items n.right.items
     c.loop-index.sweep.list.now n.asked.items) c.deref-2.ensures.value c.in_ok-ask-2.ensures.swept in
-    let s' = subst (λ (T : List GridSegment). IsSwept B (wall_before V.items c.len.result) n.status.items n.next n.links.items n.right.items
+    let s' = subst (λ (T : List GridSegment). IsSwept B (wall_before V.items c.len.result) n.status n.next n.links.items n.right.items
     T n.asked.items) c.loop-index.invariant.same s in
-    done B V.items c.len.result n.status.items n.next n.links.items n.right.items c.args.list.now n.asked.items
+    done B V.items c.len.result n.status n.next n.links.items n.right.items c.args.list.now n.asked.items
     (record { ascending = c.in_ok-vertices.ensures.ascending; all = c.in_ok-vertices.ensures.all; only = c.in_ok-vertices.ensures.only })
     (omega (arith, V.ok, c.len.ensures)) (omega (arith, V.ok, c.len.ensures)) s'
 
@@ -126,7 +126,7 @@ returns-clause-all c =
     let B = c.args.border.now in
     let V = c.in_ok-vertices.vertices in
     let n = c.ask-2.new.sweep in
-    let s = subst (λ (T : List GridSegment). IsSwept B (wall_before c.deref-2.result.now c.len.result) n.status.items n.next n.links.items
+    let s = subst (λ (T : List GridSegment). IsSwept B (wall_before c.deref-2.result.now c.len.result) n.status n.next n.links.items
     n.right.items T n.asked.items) c.loop-index.invariant.same c.in_ok-ask-2.ensures.swept in
     let l = subst (λ (l : List ℕ). AreLater c.loop-index.sweep.list.now (length n.asked.items) (bound_at l c.len.result))
     c.deref-2.ensures.value c.in_ok-ask-2.ensures.later in
