@@ -8,8 +8,8 @@ use Rattle.grid_base.proofs.RealmLaw.{drawn_realm_by}
 use Rattle.line_grammar.specs.Spellable.{IsName}
 use Rattle.record_codec.specs.Payload.{IsSnapshot, empty_snapshot as nothing}
 use Rattle.record_codec.specs.Traces.{IsTrace}
-use Rattle.realm_drawing.specs.Chains.{HasValidChain}
-use Rattle.realm_drawing.proofs.Elements.{Any-nil}
+use Rattle.hook_chain.specs.StandingChains.{HasValidChain}
+use Rattle.chain_laws.proofs.Elements.{Any-nil}
 use Rattle.value_geometry.specs.Parts.{HasParts}
 use Rattle.realm_insert.specs.State.{empty_state}
 use Rattle.state_check.specs.Tabled.{AreAscending}

@@ -57,6 +57,19 @@ bad_unless : (b test : Bool) → (b ≡ false → IsTrue test) → test ≡ fals
 bad_unless true test shown failed = refl
 bad_unless false test shown failed = let yes : test ≡ true = shown refl in absurd cc
 
+-- so the records lead to its state, wherever they stand
+pub all_lead_to : {start state : State} {records seen list : List Record} {count : ℕ} {engine : SpendableState} → seen ≡ records
+    → Replayed start seen count engine → length records ≤ count → state ≡ engine.state → list ≡ records → LeadOn start list state
+all_lead_to {start} {state} {count = count} {engine} same again most reached are =
+    let made = subst (λ l. Replayed start l count engine) same again in
+    let few = subst (λ l. length l ≤ count) made.in_order most in
+    let lead = all_led start made.reached engine count made.before made.left made.count_is few made.lead made.rest in
+    subst (λ l. LeadOn start l state) (sym (are ∙ made.in_order)) (subst (λ s. LeadOn start (made.before ++ made.left) s) (sym reached) lead)
+
+-- and none lead to where they begin
+pub none_lead_to : {start state : State} {list : List Record} → state ≡ start → list ≡ [] → LeadOn start list state
+none_lead_to {start} {state} reached none = subst (λ l. LeadOn start l state) (sym none) reached
+
 -- a row of records that was scanned from this place on, and made again
 module _ (file bytes : List ℕ) (start : State) (place : Place) (records seen : List Record) (count end : ℕ) (bad : Bool)
     (engine : SpendableState) (bytes_are : bytes ≡ drop place.next file) (within : place.next ≤ length file)

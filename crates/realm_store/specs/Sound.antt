@@ -1,5 +1,5 @@
 -- What every state of a store is like.
-use Rattle.realm_drawing.specs.Chains.{AllStand}
+use Rattle.hook_chain.specs.StandingChains.{AllStand}
 use Rattle.realm_insert.specs.State.{State}
 use Rattle.realm_insert.specs.Snapshots.{IsValidState}
 

@@ -12,6 +12,7 @@ ghost use Rattle.realm_pages.specs.declared.damage.Damage.TheVariants.{BadSnapsh
 ghost use Rattle.realm_pages.specs.declared.error.PagesError.TheVariants.{Damaged};
 ghost use Rattle.realm_files.specs.Stands.{Files};
 ghost use Rattle.realm_store.specs.Damages.{IsDamaged};
+ghost use Rattle.realm_store.specs.Replaying.{LeadOn};
 ghost use Rattle.realm_store.specs.Opening.{IsBaseOn, IsBase, BaseFound, BaseOpened, OpensRow, RecordsOpened};
 
 use crate::replaying::replay_all;
@@ -131,6 +132,7 @@ pub(crate) fn open_behind<R: Threads + Sync, W: Outside>(
     ensures ready { IfOk result (λ opened. opened.store.spent ≡ false) }
     ensures no_group { IfOk result (λ opened. opened.store.group ≡ None) }
     ensures with_text { IfOk result (λ opened. All IsRecord opened.records.items) }
+    ensures leads { IfOk result (λ opened. LeadOn base.engine.state opened.records.items opened.store.kept.state) }
     ensures told { W.tells world.new → IsBase (W.view world.old).reads base.engine.state base.place
         → RecordsOpened (W.view world.old) (W.view world.new) base.engine.state result }
     ensures intact { ¬ (IsErrOf result StartError.Disk) → W.failed world.new ≡ false }
@@ -161,6 +163,7 @@ fn open_records<R: Threads + Sync, W: Outside>(
     ensures ready { IfOk result (λ opened. opened.store.spent ≡ false) }
     ensures no_group { IfOk result (λ opened. opened.store.group ≡ None) }
     ensures with_text { IfOk result (λ opened. All IsRecord opened.records.items) }
+    ensures leads { IfOk result (λ opened. LeadOn engine.state opened.records.items opened.store.kept.state) }
     ensures told { W.tells world.new → IsBaseOn (W.view world.old).reads engine.state place
         → RecordsOpened (W.view world.old) (W.view world.new) engine.state result }
     ensures intact { ¬ (IsErrOf result StartError.Disk) → W.failed world.new ≡ false }
@@ -187,6 +190,7 @@ fn open_bytes<R: Threads + Sync>(
     ensures ready { IfOk result (λ opened. opened.store.spent ≡ false) }
     ensures no_group { IfOk result (λ opened. opened.store.group ≡ None) }
     ensures with_text { IfOk result (λ opened. All IsRecord opened.records.items) }
+    ensures leads { IfOk result (λ opened. LeadOn engine.state opened.records.items opened.store.kept.state) }
     ensures row { (file : List ℕ) → length file < 2 ^ 64 → bytes.now ≡ drop place.next file
         → place.next ≤ length file → OpensRow file engine.state place result }
     ensures no_fault { IsErrOf result StartError.Disk → ⊥ }

@@ -4,6 +4,9 @@ ghost use Rattle.std.specs.Prelude.{◌≡◌, All, None, false, IfOk, IsErrOf};
 ghost use Rattle.outside_world.specs.Counts.{Rose};
 ghost use Rattle.outside_world.specs.GoesOn.{GoesOn};
 ghost use Rattle.record_codec.specs.Fitting.{IsRecord};
+ghost use Rattle.realm_insert.specs.Snapshots.{IsValidState, state_of};
+ghost use Rattle.realm_files.specs.Rows.{LeadOn};
+ghost use Rattle.realm_store.specs.Stands.{meaning};
 ghost use Rattle.realm_store.specs.Keeping.{AllRest};
 ghost use Rattle.realm_store.specs.Starting.{Started as HasStarted};
 ghost use Rattle.realm_store.specs.Journals.{HasJournal, without_journal};
@@ -73,6 +76,9 @@ impl Store {
         ensures journal { IfOk result (λ started. W.tells world.new → HasJournal (W.view world.old).reads
             started.store.kept started.journal.base started.journal.records.items) }
         ensures with_text { IfOk result (λ started. All IsRecord started.journal.records.items) }
+        ensures valid { IfOk result (λ started. IsValidState (state_of started.journal.base)) }
+        ensures leads { IfOk result (λ started. LeadOn meaning (state_of started.journal.base)
+            started.journal.records.items started.store.kept.state) }
         ensures intact { ¬ (IsErrOf result StartError.Disk) → W.failed world.new ≡ false }
         ensures disk_fault { IsErrOf result StartError.Disk
             → Rose (W.disk_faults world.old) (W.disk_faults world.new) }

@@ -1,5 +1,5 @@
 use Rattle.std.proofs.Common.{subst}
-use Rattle.realm_drawing.specs.Chains.{AllStand}
+use Rattle.hook_chain.specs.StandingChains.{AllStand}
 use Rattle.realm_store.proofs.looking.is_sound.Goals as goal
 
 -- what was looked at is the drawing of the state
