@@ -1,0 +1,2 @@
+-- the certificate of what the files of a store keep
+pub mod Certificates

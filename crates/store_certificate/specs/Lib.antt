@@ -1,0 +1,2 @@
+-- the lines of a change, for this crate's own proofs
+pub mod Telling
