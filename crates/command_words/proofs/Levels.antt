@@ -14,7 +14,7 @@ use Rattle.command_words.specs.Parsing.{IsNoFlag, commands, needed, told}
 use Rattle.command_words.proofs.FirstWords.{named_or_not, names}
 use Rattle.command_words.proofs.Steps.{at, fails_as_rest, given, level_parts, name_walked, rest_passes, stray_word_fails, value_walked}
 
--- ---- the levels of the six commands
+-- ---- the levels of the seven commands
 
 -- a command as the parser builds it
 abbrev leaf : Text → List Rule → Shape
@@ -148,6 +148,10 @@ follow_told : told (subcommand_of commands (codes "follow" ∷ [])) ≡ Some (co
 unfolding clap_on_literals
 follow_told = refl
 
+certify_told : told (subcommand_of commands (codes "certify" ∷ [])) ≡ Some (codes "certify" ∷ [])
+unfolding clap_on_literals
+certify_told = refl
+
 audit_told : told (subcommand_of commands (codes "audit" ∷ [])) ≡ Some (codes "audit" ∷ [])
 unfolding clap_on_literals
 audit_told = refl
@@ -177,6 +181,10 @@ check_passes = refl
 pub follow_passes : fault_of commands (codes "follow" ∷ []) ≡ []
 unfolding clap_on_literals
 follow_passes = refl
+
+pub certify_passes : fault_of commands (codes "certify" ∷ []) ≡ []
+unfolding clap_on_literals
+certify_passes = refl
 
 pub audit_passes : fault_of commands (codes "audit" ∷ []) ≡ []
 unfolding clap_on_literals
@@ -218,9 +226,12 @@ told_again (word ∷ rest) plain none =
           let alone = no_more (codes "follow") rest behind (behind_passes (codes "follow") rest refl (passes_as (codes "follow") is)) in
           inr (rw (is, alone) follow_told)
       | inr (inr (inr (inr (inr (inl is))))) ↦
+          let alone = no_more (codes "certify") rest behind (behind_passes (codes "certify") rest refl (passes_as (codes "certify") is)) in
+          inr (rw (is, alone) certify_told)
+      | inr (inr (inr (inr (inr (inr (inl is)))))) ↦
           let alone = no_more (codes "audit") rest behind (behind_passes (codes "audit") rest refl (passes_as (codes "audit") is)) in
           inr (rw (is, alone) audit_told)
-      | inr (inr (inr (inr (inr (inr unnamed))))) ↦
+      | inr (inr (inr (inr (inr (inr (inr unnamed)))))) ↦
           let parts = level_parts top names (word ∷ rest) _ _ none in
           absurd (stray_word_fails names nothing_held 1 word (All-head IsNoFlag word rest plain) unnamed top rest refl parts.words_pass)
     ]

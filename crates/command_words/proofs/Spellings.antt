@@ -15,8 +15,9 @@ use Rattle.command_words.specs.Written.{IsAllowed, IsNoCommand, words_of}
 use Rattle.command_words.specs.Parsing.{IsNoFlag, IsSpelled, commands, texts_of, told}
 use Rattle.command_words.specs.declared.parsing.Spelling.{Spelling}
 use Rattle.command_words.specs.declared.word.Word.{Word}
-use Rattle.command_words.specs.declared.word.Word.TheVariants.{Run, Check, Gen, Ship, Follow, Audit}
-use Rattle.command_words.proofs.Levels.{audit_passes, check_passes, follow_passes, gen_passes, run_passes, ship_passes, told_again}
+use Rattle.command_words.specs.declared.word.Word.TheVariants.{Run, Check, Gen, Ship, Follow, Certify, Audit}
+use Rattle.command_words.proofs.Levels.{audit_passes, certify_passes, check_passes, follow_passes, gen_passes, run_passes}
+use Rattle.command_words.proofs.Levels.{ship_passes, told_again}
 
 -- ---- the words of a command
 
@@ -50,6 +51,7 @@ command_has_no_flag (Ship changes) allowed =
     All-cons IsNoFlag (codes "ship") (decimal changes ∷ []) (omega arith, λ e. omega (arith, e))
     (alone_is_no_flag (decimal changes) (number_is_no_flag changes (omega arith)))
 command_has_no_flag Follow allowed = alone_is_no_flag (codes "follow") (omega arith, λ e. omega (arith, e))
+command_has_no_flag Certify allowed = alone_is_no_flag (codes "certify") (omega arith, λ e. omega (arith, e))
 command_has_no_flag Audit allowed = alone_is_no_flag (codes "audit") (omega arith, λ e. omega (arith, e))
 
 -- the parser refuses no command
@@ -60,6 +62,7 @@ command_passes (Gen lines start) allowed =
     gen_passes (decimal lines) (decimal start) (number_is_no_flag lines (omega arith)) (number_is_no_flag start (omega arith))
 command_passes (Ship changes) allowed = ship_passes (decimal changes) (number_is_no_flag changes (omega arith))
 command_passes Follow allowed = follow_passes
+command_passes Certify allowed = certify_passes
 command_passes Audit allowed = audit_passes
 
 no_words : IsNoCommand []
@@ -68,6 +71,7 @@ no_words Check is = let e = is.0 in cc
 no_words (Gen lines start) is = let e = is.0 in cc
 no_words (Ship changes) is = let e = is.0 in cc
 no_words Follow is = let e = is.0 in cc
+no_words Certify is = let e = is.0 in cc
 no_words Audit is = let e = is.0 in cc
 
 -- ---- what the parser's clauses say of the commands

@@ -20,6 +20,7 @@ texts_of spelling.Check = codes "check" ∷ []
 texts_of (spelling.Gen lines start) = codes "gen" ∷ lines.now ∷ start.now ∷ []
 texts_of (spelling.Ship changes) = codes "ship" ∷ changes.now ∷ []
 texts_of spelling.Follow = codes "follow" ∷ []
+texts_of spelling.Certify = codes "certify" ∷ []
 texts_of spelling.Audit = codes "audit" ∷ []
 
 -- what is found spells the words, and nothing is found only where they are no command
@@ -57,10 +58,10 @@ abbrev pub first_three : App
 first_three = with_subcommand (with_subcommand (with_subcommand program
     (new_app (codes "run")).top) (new_app (codes "check")).top) generate.top
 
--- the program with its six commands
+-- the program with its seven commands
 abbrev pub commands : App
-commands = with_subcommand (with_subcommand (with_subcommand first_three ship.top)
-    (new_app (codes "follow")).top) (new_app (codes "audit")).top
+commands = with_subcommand (with_subcommand (with_subcommand (with_subcommand first_three ship.top)
+    (new_app (codes "follow")).top) (new_app (codes "certify")).top) (new_app (codes "audit")).top
 
 -- ---- what its matches tell
 
@@ -81,8 +82,9 @@ told_by name rows = if bytes_eq name (codes "run") then Some (codes "run" ∷ []
     else (if bytes_eq name (codes "check") then Some (codes "check" ∷ [])
     else (if bytes_eq name (codes "ship") then number_told rows
     else (if bytes_eq name (codes "follow") then Some (codes "follow" ∷ [])
+    else (if bytes_eq name (codes "certify") then Some (codes "certify" ∷ [])
     else (if bytes_eq name (codes "audit") then Some (codes "audit" ∷ [])
-    else numbers_told rows))))
+    else numbers_told rows)))))
 
 -- the words of the command that was met
 abbrev pub told : Option (Text × List Row) → Option (List Text)

@@ -4,7 +4,7 @@ use Rattle.std.specs.Prelude.{length, slice_index, Option, MatchOption}
 use Rattle.std.specs.Fmt.{decimal}
 use Rattle.line_grammar.specs.Spellable.{IsNumber}
 use Rattle.command_words.specs.declared.word.Word.{Word}
-use Rattle.command_words.specs.declared.word.Word.TheVariants.{Run, Check, Gen, Ship, Follow, Audit}
+use Rattle.command_words.specs.declared.word.Word.TheVariants.{Run, Check, Gen, Ship, Follow, Certify, Audit}
 
 -- the words of a command, each as its bytes: its name, and behind `gen` and `ship` their numbers
 abbrev pub words_of : Word → List (List ℕ)
@@ -13,6 +13,7 @@ words_of Check = codes "check" ∷ []
 words_of (Gen lines start) = codes "gen" ∷ decimal lines ∷ decimal start ∷ []
 words_of (Ship changes) = codes "ship" ∷ decimal changes ∷ []
 words_of Follow = codes "follow" ∷ []
+words_of Certify = codes "certify" ∷ []
 words_of Audit = codes "audit" ∷ []
 
 -- The numbers of a command are such as may be written: at most 100,000 lines, from any number of a line, and any
@@ -23,6 +24,7 @@ IsAllowed Check = Unit {0}
 IsAllowed (Gen lines start) = (lines ≤ 100000) × IsNumber start
 IsAllowed (Ship changes) = IsNumber changes
 IsAllowed Follow = Unit {0}
+IsAllowed Certify = Unit {0}
 IsAllowed Audit = Unit {0}
 
 -- the words are those of this command

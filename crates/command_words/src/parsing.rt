@@ -19,6 +19,7 @@ pub(crate) enum Spelling<'a> {
     Gen { lines: &'a str, start: &'a str },
     Ship { changes: &'a str },
     Follow,
+    Certify,
     Audit,
 }
 
@@ -53,6 +54,7 @@ fn rose<'a>(alloc: Global) -> Result<Command<'a>, AllocError>
     let generate = Command::new(alloc, "gen").arg(lines)?.arg(start)?;
     let ship = Command::new(alloc, "ship").arg(changes)?;
     let follow = Command::new(alloc, "follow");
+    let certify = Command::new(alloc, "certify");
     let audit = Command::new(alloc, "audit");
     Command::new(alloc, "rose")
         .no_binary_name(true)
@@ -63,6 +65,7 @@ fn rose<'a>(alloc: Global) -> Result<Command<'a>, AllocError>
         .subcommand(generate)?
         .subcommand(ship)?
         .subcommand(follow)?
+        .subcommand(certify)?
         .subcommand(audit)
 }
 
@@ -86,6 +89,8 @@ fn spelling_of<'a>(matches: &ArgMatches<'a>) -> Option<Spelling<'a>>
         ship_spelling(matches)
     } else if name == "follow" {
         Some(Spelling::Follow)
+    } else if name == "certify" {
+        Some(Spelling::Certify)
     } else if name == "audit" {
         Some(Spelling::Audit)
     } else {

@@ -59,6 +59,7 @@ fn word_of(spelling: Spelling<'_>) -> Option<Word>
         Spelling::Gen { lines, start } => with_numbers(lines, start),
         Spelling::Ship { changes } => with_changes(changes),
         Spelling::Follow => Some(Word::Follow),
+        Spelling::Certify => Some(Word::Certify),
         Spelling::Audit => Some(Word::Audit),
     }
 }

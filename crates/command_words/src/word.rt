@@ -13,6 +13,8 @@ pub enum Word {
     Ship { changes: u64 },
     /// Take what another store sends, and acknowledge what is kept.
     Follow,
+    /// Give the certificate of what the store keeps.
+    Certify,
     /// Judge the input as a certificate.
     Audit,
 }

@@ -25,7 +25,7 @@ damage_text (Twins generation) = codes "twins " ++ decimal generation
 abbrev pub said_of : Status → Option (List ℕ)
 said_of Done = None
 said_of Usage =
-    Some (codes "rose: usage: rose run | rose check | rose gen N START | rose ship K | rose follow | rose audit")
+    Some (codes "rose: usage: rose run | rose check | rose gen N START | rose ship K | rose follow | rose certify | rose audit")
 said_of SourceFault = Some (codes "rose: source fault")
 said_of SinkFault = Some (codes "rose: sink fault")
 said_of DiskFault = Some (codes "rose: disk fault")

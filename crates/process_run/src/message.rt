@@ -24,7 +24,7 @@ pub fn line_of(status: Status) -> Option<Line>
     match status {
         Status::Done => None,
         Status::Usage => Some(Line::Plain(
-            "usage: rose run | rose check | rose gen N START | rose ship K | rose follow | rose audit",
+            "usage: rose run | rose check | rose gen N START | rose ship K | rose follow | rose certify | rose audit",
         )),
         Status::SourceFault => Some(Line::Plain("source fault")),
         Status::SinkFault => Some(Line::Plain("sink fault")),

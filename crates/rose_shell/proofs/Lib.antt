@@ -52,9 +52,13 @@ mod Syncs
 mod Unstarted
 -- frames are given one after another
 mod GivenFrames
+-- items of a certificate are given one after another
+mod GivenItems
+-- and so are those of changes
+mod GivenChanges
 -- each outcome of a line is a follower's answer
 mod AtFollower
--- lines and frames that are given after nothing but questions of the files
+-- lines, frames and items that are given after nothing but questions of the files
 mod Tellings
 -- a certificate comes, some bytes and some lines at a time
 mod Certificates

@@ -1,16 +1,18 @@
--- This file shows that lines and frames which are given after nothing but questions of the files are given from before.
+-- This file shows that lines, frames and items which are given after nothing but questions of the files are given from before.
 use Rattle.std.proofs.Common.{ℕ, List, [], ◌++◌, inl, inr, refl, sym, ◌∙◌, ap}
 use Rattle.std.proofs.lemmas.List.{append-nil}
 use Rattle.outside_world.specs.View.{View}
 use Rattle.outside_world.proofs.Moments.{only_nothing, only_wider, only_then, none_taken, none_taken_then}
 use Rattle.command_words.specs.declared.word.Word.{Word}
-use Rattle.command_words.specs.declared.word.Word.TheVariants.{Run, Check, Gen, Ship, Follow, Audit}
+use Rattle.command_words.specs.declared.word.Word.TheVariants.{Run, Check, Gen, Ship, Follow, Certify, Audit}
 use Rattle.realm_journal.specs.Reading.{OnlyAsks}
+use Rattle.realm_audit.specs.declared.item.Item.{Item}
 use Rattle.standby_core.specs.declared.frame.Frame.{Frame}
 use Rattle.rose_shell.specs.declared.status.Status.{Status}
 use Rattle.rose_shell.specs.declared.status.Status.TheVariants.{NoMemory}
 use Rattle.rose_shell.specs.Giving.{GaveSome}
 use Rattle.rose_shell.specs.Running.{IsNotBegun}
+use Rattle.rose_shell.specs.Certifying.{GivesItems}
 use Rattle.rose_shell.specs.Shipping.{GivesFrames}
 use Rattle.rose_shell.specs.Telling.{GivesLines, HasDone}
 use Rattle.rose_shell.proofs.Audits.{audited_none}
@@ -34,6 +36,7 @@ none_done v Check = inl none_begun
 none_done v (Gen count start) = inl (refl, none_asked)
 none_done v (Ship changes) = inl none_begun
 none_done v Follow = inl none_begun
+none_done v Certify = inl none_begun
 none_done v Audit = audited_none
 
 module _ {old mid new : View} (asks : OnlyAsks old mid) where
@@ -65,6 +68,17 @@ module _ {old mid new : View} (asks : OnlyAsks old mid) where
     left = gives.left;
     in_order = gives.in_order;
     are_frames = gives.are_frames;
+    unsent = gives.unsent;
+    some = some_behind gives.some;
+    ends = gives.ends;
+  }
+
+  pub items_behind : {items : List Item} {status : Status} → GivesItems mid new items status → GivesItems old new items status
+  items_behind gives = record {
+    begun = gives.begun;
+    left = gives.left;
+    in_order = gives.in_order;
+    are_lines = gives.are_lines;
     unsent = gives.unsent;
     some = some_behind gives.some;
     ends = gives.ends;

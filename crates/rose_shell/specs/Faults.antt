@@ -46,6 +46,11 @@ abbrev pub status_at : Result Status Fault → Status
 status_at (Ok status) = status
 status_at (Err fault) = status_of fault
 
+-- the status of a command that has given all, or has come to a fault
+abbrev pub status_after : Result Unit Fault → Status
+status_after (Ok u) = Done
+status_after (Err fault) = status_of fault
+
 -- the status of a command whose store isn't started
 abbrev pub status_unstarted : StartError → Status
 status_unstarted starts.Disk = DiskFault

@@ -42,6 +42,10 @@ pub mod Following
 pub mod AtFollower
 -- what is promised of the word `ship`
 pub mod Shipping
+-- what is promised of the word `certify`
+pub mod Certifying
+-- items of a certificate that are given
+pub mod Items
 -- what is promised of each command
 pub mod Telling
 -- runs one after another

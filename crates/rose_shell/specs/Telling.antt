@@ -2,7 +2,7 @@
 use Rattle.std.specs.Prelude.{◌≡◌, ◌≢◌, ◌⊎◌, ◌≤◌, ◌^◌, ℕ, List, [], length}
 use Rattle.outside_world.specs.View.{View, AllStable}
 use Rattle.command_words.specs.declared.word.Word.{Word}
-use Rattle.command_words.specs.declared.word.Word.TheVariants.{Run, Check, Gen, Ship, Follow, Audit}
+use Rattle.command_words.specs.declared.word.Word.TheVariants.{Run, Check, Gen, Ship, Follow, Certify, Audit}
 use Rattle.state_counts.specs.Counts.{TellsCounts}
 use Rattle.generated_map.specs.Told.{TellsMap}
 use Rattle.realm_insert.specs.State.{State}
@@ -13,6 +13,7 @@ use Rattle.rose_shell.specs.Auditing.{HasAudited}
 use Rattle.rose_shell.specs.Running.{IsNotBegun, HasRun}
 use Rattle.rose_shell.specs.Following.{HasFollowed}
 use Rattle.rose_shell.specs.Shipping.{HasShipped}
+use Rattle.rose_shell.specs.Certifying.{HasCertified}
 use Rattle.rose_shell.specs.declared.status.Status.{Status}
 use Rattle.rose_shell.specs.declared.status.Status.TheVariants.{Done, SinkFault, NoMemory}
 
@@ -43,6 +44,7 @@ HasDone Check old new status = HasChecked old new status
 HasDone (Gen count start) old new status = HasGenerated count start old new status
 HasDone (Ship changes) old new status = HasShipped changes old new status
 HasDone Follow old new status = HasFollowed old new (2 ^ 40) status
+HasDone Certify old new status = HasCertified old new status
 HasDone Audit old new status = HasAudited old new (2 ^ 40) status
 
 -- what the command asks of the world besides: files that stand for a state, and an input within the budget
@@ -52,6 +54,7 @@ CanBeDone Check v = (state : State) × StandsFor v.reads state
 CanBeDone (Gen count start) v = Unit {0}
 CanBeDone (Ship changes) v = (state : State) × StandsFor v.reads state
 CanBeDone Follow v = (length v.left ≤ 2 ^ 40) × ((state : State) × StandsFor v.reads state)
+CanBeDone Certify v = (state : State) × StandsFor v.reads state
 CanBeDone Audit v = length v.left ≤ 2 ^ 40
 
 -- the command asks nothing of the files
@@ -61,4 +64,5 @@ AsksNoFile Check = ⊥
 AsksNoFile (Gen count start) = Unit {0}
 AsksNoFile (Ship changes) = ⊥
 AsksNoFile Follow = ⊥
+AsksNoFile Certify = ⊥
 AsksNoFile Audit = Unit {0}

@@ -14,6 +14,7 @@ ghost use Rattle.rose_shell.specs.Running.{HasRun, Serves};
 ghost use Rattle.rose_shell.specs.Telling.{HasDone, CanBeDone, AsksNoFile};
 
 use crate::auditing::audit_input;
+use crate::certifying::certify;
 use crate::fault::Fault;
 use crate::following::follow;
 use crate::means::Means;
@@ -35,8 +36,8 @@ const MOST_BYTES: u64 = 1_099_511_627_776;
 /// Does what these words ask for, the arguments after the program's name. `run` reads lines to the end of the
 /// input, from what the files stand for on, and answers each. `check` tells how much the files stand for, and `gen` of a
 /// map that nobody wrote. `ship` gives what brings a follower up to date as frames, and `follow` takes over those of its input
-/// that come next, and answers each line. `audit` gives the verdict on its input as a certificate. Words that are no command end
-/// as usage. Want of memory may end each at any place: what was given then is the first lines or replies, each whole, or
+/// that come next, and answers each line. `certify` gives the certificate of what the newest file keeps, and `audit` the verdict on
+/// its input as one. Words that are no command end as usage. Want of memory may end each at any place: what was given then is the first lines or replies, each whole, or
 /// nothing.
 pub fn run<R: Threads + Sync, W: Outside>(
     rt: &R,
@@ -81,6 +82,7 @@ pub fn run<R: Threads + Sync, W: Outside>(
         Word::Gen { lines, start } => tell_map(rt, alloc, world, lines, start),
         Word::Ship { changes } => ship(rt, alloc, world, changes),
         Word::Follow => follow(rt, alloc, world, MOST_BYTES),
+        Word::Certify => certify(rt, alloc, world),
         Word::Audit => audit_input(alloc, world, MOST_BYTES),
     }
 }

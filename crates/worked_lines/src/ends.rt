@@ -16,7 +16,7 @@ use std::thread::Threads;
 use steady_run::run_steadily;
 
 // Words, what they give over an empty file, and the status.
-static WORDS: [(&str, &str, u8); 12] = [
+static WORDS: [(&str, &str, u8); 13] = [
     ("", "", 1),
     ("run x", "", 1),
     ("check check", "", 1),
@@ -30,6 +30,7 @@ static WORDS: [(&str, &str, u8); 12] = [
     ),
     ("ship 0", "", 0),
     ("follow", "no frame\n", 0),
+    ("certify", "end\n", 0),
     (
         "gen 0 7",
         "gen 0 7\noriginals 0\nvalues 0\npoints 0\npieces 0\nsteps 0\n",
@@ -304,7 +305,7 @@ static SAID: [(Status, &str); 12] = [
     (Status::Done, ""),
     (
         Status::Usage,
-        "rose: usage: rose run | rose check | rose gen N START | rose ship K | rose follow | rose audit\n",
+        "rose: usage: rose run | rose check | rose gen N START | rose ship K | rose follow | rose certify | rose audit\n",
     ),
     (Status::SourceFault, "rose: source fault\n"),
     (Status::SinkFault, "rose: sink fault\n"),

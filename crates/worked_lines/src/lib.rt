@@ -8,6 +8,8 @@ mod audits;
 #[cfg(test)]
 mod carrying;
 #[cfg(test)]
+mod certified;
+#[cfg(test)]
 mod crashes;
 #[cfg(test)]
 mod damages;

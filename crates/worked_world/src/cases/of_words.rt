@@ -14,7 +14,7 @@ fn parts(rt: &impl Abort, alloc: Global, text: &str) -> Vec<String> {
 }
 
 // What is found: 0 for nothing, 1 for `run`, 2 for `check`, 3 with both numbers for `gen`, 4 with its number for `ship`, 5 for
-// `follow`, and 6 for `audit`.
+// `follow`, 6 for `audit`, and 7 for `certify`.
 fn found(rt: &impl Abort, alloc: Global, words: &[String]) -> (u8, u64, u64) {
     match read_words(alloc, words).expect(rt, "memory") {
         None => (0, 0, 0),
@@ -24,11 +24,12 @@ fn found(rt: &impl Abort, alloc: Global, words: &[String]) -> (u8, u64, u64) {
         Some(Word::Ship { changes }) => (4, changes, 0),
         Some(Word::Follow) => (5, 0, 0),
         Some(Word::Audit) => (6, 0, 0),
+        Some(Word::Certify) => (7, 0, 0),
     }
 }
 
 // Words, and what is found.
-static WORDS: [(&str, (u8, u64, u64)); 55] = [
+static WORDS: [(&str, (u8, u64, u64)); 60] = [
     ("run", (1, 0, 0)),
     ("check", (2, 0, 0)),
     ("gen|1|7", (3, 1, 7)),
@@ -44,6 +45,7 @@ static WORDS: [(&str, (u8, u64, u64)); 55] = [
     ),
     ("follow", (5, 0, 0)),
     ("audit", (6, 0, 0)),
+    ("certify", (7, 0, 0)),
     ("ship", (0, 0, 0)),
     ("ship|", (0, 0, 0)),
     ("ship|1|2", (0, 0, 0)),
@@ -61,6 +63,10 @@ static WORDS: [(&str, (u8, u64, u64)); 55] = [
     ("audit|x", (0, 0, 0)),
     ("Audit", (0, 0, 0)),
     ("check|audit", (0, 0, 0)),
+    ("certify|0", (0, 0, 0)),
+    ("certify|certify", (0, 0, 0)),
+    ("Certify", (0, 0, 0)),
+    ("certif", (0, 0, 0)),
     ("", (0, 0, 0)),
     ("run|", (0, 0, 0)),
     ("Run", (0, 0, 0)),

@@ -25,6 +25,9 @@ with_ship = with_subcommand first_three ship.top
 abbrev with_follow : App
 with_follow = with_subcommand with_ship (new_app (codes "follow")).top
 
+abbrev with_certify : App
+with_certify = with_subcommand with_follow (new_app (codes "certify")).top
+
 pub returns : goal.returns
 returns c =
     let lines = c.needed-lines.ensures in
@@ -55,5 +58,7 @@ returns c =
     c.in_ok-subcommand-4.ensures.shape ship_local ∙ ap₂ with_subcommand generate_in (ap top ship_is) in
     let follow_in : app_of c.in_ok-subcommand-5.field-0 ≡ with_follow =
     c.in_ok-subcommand-5.ensures.shape c.new-follow.ensures.local ∙ ap₂ with_subcommand ship_in (ap top c.new-follow.ensures.app) in
-    let audit_in = ap₂ with_subcommand follow_in (ap top c.new-audit.ensures.app) in
-    IfOk-weaker c.subcommand-6.result _ _ (λ r adds. adds.shape c.new-audit.ensures.local ∙ audit_in) c.subcommand-6.ensures
+    let certify_in : app_of c.in_ok-subcommand-6.field-0 ≡ with_certify =
+    c.in_ok-subcommand-6.ensures.shape c.new-certify.ensures.local ∙ ap₂ with_subcommand follow_in (ap top c.new-certify.ensures.app) in
+    let audit_in = ap₂ with_subcommand certify_in (ap top c.new-audit.ensures.app) in
+    IfOk-weaker c.subcommand-7.result _ _ (λ r adds. adds.shape c.new-audit.ensures.local ∙ audit_in) c.subcommand-7.ensures

@@ -188,6 +188,45 @@ returns-in-Follow-clause-no_file g c = λ command written asks.
     read.field-0-is read.ensures in
     absurd (subst AsksNoFile (sym (sym c.in-Follow.is ∙ c.one_command.ensures _ read.word command is written)) asks)
 
+-- ---- the word `certify`
+
+pub returns-in-Certify-clause-no_command : goal.returns-in-Certify-clause-no_command
+returns-in-Certify-clause-no_command g c = λ none.
+    let read = c.in-Ok-Some in
+    absurd (none read.word (at_some (IsNoCommand (map string_bytes c.args.words.now)) (AreWordsOf (map string_bytes c.args.words.now))
+    read.field-0-is read.ensures))
+
+pub returns-in-Certify-clause-untouched : goal.returns-in-Certify-clause-untouched
+returns-in-Certify-clause-untouched g c = λ none.
+    let read = c.in-Ok-Some in
+    absurd (none read.word (at_some (IsNoCommand (map string_bytes c.args.words.now)) (AreWordsOf (map string_bytes c.args.words.now))
+    read.field-0-is read.ensures))
+
+pub returns-in-Certify-clause-told : goal.returns-in-Certify-clause-told
+returns-in-Certify-clause-told g c = λ command written tells.
+    let read = c.in-Ok-Some in
+    let is = at_some (IsNoCommand (map string_bytes c.args.words.now)) (AreWordsOf (map string_bytes c.args.words.now))
+    read.field-0-is read.ensures in
+    subst
+    (λ (w : Word). HasDone w (g.W.Outside.view c.args.world.now) (g.W.Outside.view c.certify.new.world) c.certify.result)
+    (sym c.in-Certify.is ∙ c.one_command.ensures _ read.word command is written) (c.certify.ensures.told tells)
+
+pub returns-in-Certify-clause-complete : goal.returns-in-Certify-clause-complete
+returns-in-Certify-clause-complete g c = λ command written tells source sink disk can.
+    let read = c.in-Ok-Some in
+    let is = at_some (IsNoCommand (map string_bytes c.args.words.now)) (AreWordsOf (map string_bytes c.args.words.now))
+    read.field-0-is read.ensures in
+    let asked = subst (λ (w : Word). CanBeDone w (g.W.Outside.view c.args.world.now))
+    (c.one_command.ensures _ command read.word written is ∙ c.in-Certify.is) can in
+    c.certify.ensures.complete tells sink disk asked.0 asked.1
+
+pub returns-in-Certify-clause-no_file : goal.returns-in-Certify-clause-no_file
+returns-in-Certify-clause-no_file g c = λ command written asks.
+    let read = c.in-Ok-Some in
+    let is = at_some (IsNoCommand (map string_bytes c.args.words.now)) (AreWordsOf (map string_bytes c.args.words.now))
+    read.field-0-is read.ensures in
+    absurd (subst AsksNoFile (sym (sym c.in-Certify.is ∙ c.one_command.ensures _ read.word command is written)) asks)
+
 -- ---- the word `audit`
 
 pub returns-in-Audit-clause-no_command : goal.returns-in-Audit-clause-no_command
