@@ -1,8 +1,8 @@
 -- This file shows that the search round a segment comes to all pieces that a violation there may have.
-use Rattle.std.proofs.Common.{◌≡◌, ℕ, ◌+◌, ◌<◌, List, [], ◌∷◌, ◌++◌, length, take, drop, get_or, All, Contains, IsSomeAnd}
+use Rattle.std.proofs.Common.{◌≡◌, ◌↔◌, ℕ, ◌+◌, ◌<◌, List, [], ◌∷◌, ◌++◌, length, take, get_or, All, Contains, IsSomeAnd}
 use Rattle.std.proofs.Common.{sym, ap, subst, ◌∙◌, inl, inr}
-use Rattle.std.proofs.lemmas.List.{take_more, take-append-drop}
-use Rattle.std.proofs.lemmas.List.Elements.{All-contains, Contains-push_cases, Contains-append_cases}
+use Rattle.std.proofs.lemmas.List.{take_more}
+use Rattle.std.proofs.lemmas.List.Elements.{All-contains, Contains-push_cases}
 use Rattle.grid_base.specs.Point.{GridPoint}
 use Rattle.grid_base.specs.Segment.{GridSegment, IsEnd, BoxesMeet}
 use Rattle.grid_base.specs.Crossing.{Inside}
@@ -11,7 +11,7 @@ use Rattle.hook_chain.specs.StandingChains.{AllValid}
 use Rattle.realm_drawing.specs.Keyed.{KeyedDrawing, HasKey, AreKeyed}
 use Rattle.realm_index.specs.Index.{Entries, HasKeysWhere}
 use Rattle.realm_insert.specs.Kept.{IsIndexed}
-use Rattle.realm_insert.specs.Clashes.{IsInsideNone, NoClash, HasNoClashAmong, IsWithin, HasKeysRound, HasKeysAt}
+use Rattle.realm_insert.specs.Clashes.{IsInsideNone, NoClash, IsWithin, HasKeysRound, HasKeysAt}
 use Rattle.realm_insert.specs.Clashes.{CanBeSearched}
 use Rattle.realm_insert.specs.Work.{IsClean}
 use Rattle.realm_insert.proofs.CommonBoxes.{boxes_meet_at_end, boxes_meet_round_end, boxes_meet_inside, boxes_meet_crossing}
@@ -43,15 +43,6 @@ searched_by_index d index near keys list indexed keyed valid listed is = record 
   valid = valid;
 }
 
--- what holds of each piece with a listed key holds of each piece as P says, where the keys of these are listed
-pub of_listed : (P Q : GridSegment → Type 0) (d : KeyedDrawing) (keys : List ℕ) → AreKeyed d
-    → ((t : GridSegment) (k : ℕ) → HasKey d t k → P t → Contains keys k)
-    → ((k : ℕ) → Contains keys k → (t : GridSegment) → HasKey d t k → Q t)
-    → (t : GridSegment) → IsPiece d.drawing t → P t → Q t
-of_listed P Q d keys keyed listed each t piece is =
-    let has = keyed.some_key t piece in
-    each has.0 (listed t has.0 has.1 is) t has.1
-
 -- the keys round a box are those round each segment in it
 pub searched_within : (d : KeyedDrawing) (near s : GridSegment) (keys : List ℕ) → IsWithin near s → CanBeSearched d near keys
     → CanBeSearched d s keys
@@ -68,13 +59,15 @@ round_end d s p keys end round t k has in_t = round t k has (boxes_meet_round_en
 
 -- no violation is left at the piece s where no explicit point is inside it, and no piece whose box meets its box clashes
 -- with it
-pub clean_by : (d : KeyedDrawing) (keys : List ℕ) (s : GridSegment) → AllValid d.drawing → AreKeyed d
-    → HasKeysRound d s keys → All (λ p. Inside p s → ⊥) d.drawing.points → HasNoClashAmong d s keys → IsClean d.drawing s
-clean_by d keys s valid keyed round explicit each =
-    let clear = of_listed (BoxesMeet s) (NoClash d.drawing s) d keys keyed round each in
+pub clean_by : (d : Drawing) (list : List GridSegment) (s : GridSegment) → AllValid d
+    → ((t : GridSegment) → Contains list t ↔ (IsPiece d t × BoxesMeet s t)) → All (λ p. Inside p s → ⊥) d.points
+    → All (NoClash d s) list → IsClean d s
+clean_by d list s valid met explicit each =
+    let clear : (t : GridSegment) → IsPiece d t → BoxesMeet s t → NoClash d s t =
+    λ t piece meet. All-contains (NoClash d s) list t each ((met t).1 (piece, meet)) in
     record {
-      nothing_inside = λ p point piece inside. elim (explicit_or_end d.drawing p valid point) [
-        | inl there ↦ All-contains (λ q. Inside q s → ⊥) d.drawing.points p explicit there inside
+      nothing_inside = λ p point piece inside. elim (explicit_or_end d p valid point) [
+        | inl there ↦ All-contains (λ q. Inside q s → ⊥) d.points p explicit there inside
         | inr (t, (is_piece, end)) ↦
             (clear t is_piece (boxes_meet_inside s t p end inside)).no_end_of_t p end point inside
       ];
@@ -93,12 +86,3 @@ clean_by_ends d s no_piece at_a at_b = record {
   ];
   no_crossing = λ t piece other cross. no_piece piece;
 }
-
--- what holds of the keys before a place and from it on holds of all
-pub no_clash_in_parts : (d : KeyedDrawing) (s : GridSegment) (keys : List ℕ) (n : ℕ) → HasNoClashAmong d s (take n keys)
-    → HasNoClashAmong d s (drop n keys) → HasNoClashAmong d s keys
-no_clash_in_parts d s keys n before behind k there =
-    elim (Contains-append_cases (take n keys) (drop n keys) k (subst (λ l. Contains l k) (sym (take-append-drop n keys)) there)) [
-      | inl first ↦ before k first
-      | inr last ↦ behind k last
-    ]

@@ -14,6 +14,8 @@ pub mod CommonBoxes
 pub mod Vertices
 -- pieces that the index lists, and when no violation is left
 pub mod CleanPieces
+-- lists of pieces that are made key by key
+pub mod ListedPieces
 -- steps that the search finds
 pub mod FoundSteps
 -- which violations the pieces that are still to be looked at cover

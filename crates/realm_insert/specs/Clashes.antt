@@ -21,11 +21,6 @@ pub record NoClash (d : Drawing) (s t : GridSegment) : Type 0 where
   pub no_end_of_t : HasNoEndInside d t s
   pub no_crossing : Cross s t → ⊥
 
--- nor do s and any piece with one of the keys
-abbrev pub HasNoClashAmong : KeyedDrawing → GridSegment → List ℕ → Type 0
-HasNoClashAmong d s keys =
-    (k : ℕ) → Contains keys k → (t : GridSegment) → HasKey d t k → NoClash d.drawing s t
-
 -- s is in the bounding box of near
 abbrev pub IsWithin : GridSegment → GridSegment → Type 0
 IsWithin near s = InBox near.a near.b s.a × InBox near.a near.b s.b

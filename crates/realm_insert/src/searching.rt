@@ -1,14 +1,17 @@
 //! The search for violations round one segment of the list, among the pieces that are near it. Most are pieces; of
-//! one that isn't any more only the ends count.
-ghost use Rattle.std.specs.Prelude.{◌≡◌, ◌↔◌, IfOk, IsTrue, MatchOption, Contains};
+//! one that isn't any more only the ends count. A search goes through pieces in the order of segments and takes the least
+//! that it comes to, whatever their keys are: so which violation is mended next depends on the drawing alone, and not on
+//! how it came into memory.
+ghost use Rattle.std.specs.Prelude.{◌≡◌, ◌↔◌, IfOk, MatchOption, All, Contains};
 ghost use Rattle.grid_base.specs.Point.{InBox};
 ghost use Rattle.grid_base.specs.Segment.{GridSegment, BoxesMeet};
 ghost use Rattle.grid_base.specs.Crossing.{Inside};
 ghost use Rattle.grid_base.specs.Drawing.{IsPoint, IsPiece};
-ghost use Rattle.realm_drawing.specs.Keyed.{HasKey, AreKeyed};
+ghost use Rattle.realm_drawing.specs.Keyed.{AreKeyed};
+ghost use Rattle.rose_values.specs.Border.{AreSegmentsAscending};
 ghost use Rattle.hook_chain.specs.Mending.{IsPermitted};
 ghost use Rattle.realm_insert.specs.Kept.{IsIndexed};
-ghost use Rattle.realm_insert.specs.Clashes.{IsInsideNone, HasNoEndInside, NoClash, HasNoClashAmong};
+ghost use Rattle.realm_insert.specs.Clashes.{IsInsideNone, HasNoEndInside, NoClash};
 ghost use Rattle.realm_insert.specs.Clashes.{HasKeysRound, HasKeysAt, CanBeSearched};
 ghost use Rattle.realm_insert.specs.Work.{IsClean};
 
@@ -16,6 +19,7 @@ use chain_laws::crossing_step;
 use grid_base::{NoMemory, Point, Segment, Step, box_meets, in_side};
 use realm_drawing::Drawing;
 use realm_index::NearIndex;
+use rose_overlay::ascending_segments;
 use std::alloc::Global;
 
 // A step that mends a violation with `s` or an end of it; none where there is none. The pieces that are near `s` have keys
@@ -52,37 +56,32 @@ fn violation_of(
     if let Some(p) = drawing.explicit_inside(s) {
         return Ok(Some(Step::Split { p, t: *s }));
     }
-    let met = keys_met(alloc, drawing, keys, s)?;
+    let met = pieces_met(alloc, drawing, keys, s)?;
     Ok(clash_among(drawing, s, met.as_slice()))
 }
 
-// Those of the keys whose pieces have boxes that meet that of `s`.
-fn keys_met(
+// The pieces whose boxes meet that of `s`, ascending.
+fn pieces_met(
     alloc: Global,
     drawing: &Drawing,
     keys: &[usize],
     s: &Segment,
-) -> Result<Vec<usize>, NoMemory>
+) -> Result<Vec<Segment>, NoMemory>
     requires round { HasKeysRound drawing.now s.now keys.now }
-    ensures { IfOk result (λ met. HasKeysRound drawing.now s.now met.items) }
+    requires keyed { AreKeyed drawing.now }
+    ensures met { IfOk result (λ list. (t : GridSegment)
+        → Contains list.items t ↔ (IsPiece drawing.now.drawing t × BoxesMeet s.now t)) }
+    ensures ascending { IfOk result (λ list. AreSegmentsAscending list.items) }
 {
-    let mut met = Vec::new(alloc);
+    let mut list = Vec::new(alloc);
     for key in keys {
-        if is_met(drawing, s, *key) {
-            met.push(*key)?;
+        if let Some(t) = drawing.piece(*key) {
+            if box_meets(s, &t) {
+                list.push(t)?;
+            }
         }
     }
-    Ok(met)
-}
-
-// Whether the box of the piece with this key meets that of `s`.
-fn is_met(drawing: &Drawing, s: &Segment, key: usize) -> bool
-    ensures { (t : GridSegment) → HasKey drawing.now t key → BoxesMeet s.now t → IsTrue result }
-{
-    match drawing.piece(key) {
-        Some(t) => box_meets(s, &t),
-        None => false,
-    }
+    Ok(ascending_segments(list))
 }
 
 // The same of `s` where it is no piece, so that only its ends are left.
@@ -104,7 +103,7 @@ fn split_by_ends(
     split_by(alloc, drawing, keys, &s.b())
 }
 
-// A step to `p` inside a piece; none where `p` is no point or inside no piece.
+// A step to `p` inside a piece, the least by the order of segments; none where `p` is no point or inside no piece.
 fn split_by(
     alloc: Global,
     drawing: &Drawing,
@@ -126,45 +125,34 @@ fn split_by(
     }
 }
 
-// A step that mends a violation of the pieces `s` and one with one of the keys. The search begins in the
-// middle of the keys, so that a long piece that many cross is mostly cut far from its ends.
-fn clash_among(drawing: &Drawing, s: &Segment, keys: &[usize]) -> Option<Step>
+// A step that mends a violation of the pieces `s` and one of the list. The search begins in the middle of the
+// list, so that a long piece that many cross is mostly cut far from its ends.
+fn clash_among(drawing: &Drawing, s: &Segment, pieces: &[Segment]) -> Option<Step>
     requires piece { IsPiece drawing.now.drawing s.now }
-    ensures { MatchOption result (HasNoClashAmong drawing.now s.now keys.now)
+    requires pieces { All (IsPiece drawing.now.drawing) pieces.now }
+    ensures { MatchOption result (All (NoClash drawing.now.drawing s.now) pieces.now)
         (IsPermitted drawing.now.drawing) }
 {
-    let middle = keys.len() / 2;
-    if let Some(step) = first_clash(drawing, s, &keys[middle..]) {
+    let middle = pieces.len() / 2;
+    if let Some(step) = first_clash(drawing, s, &pieces[middle..]) {
         return Some(step);
     }
-    first_clash(drawing, s, &keys[..middle])
+    first_clash(drawing, s, &pieces[..middle])
 }
 
-// The same, in the order of the keys.
-fn first_clash(drawing: &Drawing, s: &Segment, keys: &[usize]) -> Option<Step>
+// The same of the first piece of the list that has one, in an ascending list the least by the order of segments.
+fn first_clash(drawing: &Drawing, s: &Segment, pieces: &[Segment]) -> Option<Step>
     requires piece { IsPiece drawing.now.drawing s.now }
-    ensures { MatchOption result (HasNoClashAmong drawing.now s.now keys.now)
+    requires pieces { All (IsPiece drawing.now.drawing) pieces.now }
+    ensures { MatchOption result (All (NoClash drawing.now.drawing s.now) pieces.now)
         (IsPermitted drawing.now.drawing) }
 {
-    for key in keys {
-        if let Some(step) = clash_at(drawing, s, *key) {
+    for t in pieces {
+        if let Some(step) = clash(drawing, s, t) {
             return Some(step);
         }
     }
     None
-}
-
-// A step that mends a violation of the piece `s` and the one with this key.
-fn clash_at(drawing: &Drawing, s: &Segment, key: usize) -> Option<Step>
-    requires piece { IsPiece drawing.now.drawing s.now }
-    ensures { MatchOption result
-        ((t : GridSegment) → HasKey drawing.now t key → NoClash drawing.now.drawing s.now t)
-        (IsPermitted drawing.now.drawing) }
-{
-    match drawing.piece(key) {
-        Some(t) => clash(drawing, s, &t),
-        None => None,
-    }
 }
 
 // A step that mends a violation of the two pieces.
@@ -207,7 +195,7 @@ fn split_at(drawing: &Drawing, p: &Point, t: &Segment) -> Option<Step>
     }
 }
 
-// The pieces that have `p` inside.
+// The pieces that have `p` inside, ascending.
 pub(crate) fn pieces_round(
     alloc: Global,
     drawing: &Drawing,
@@ -216,8 +204,9 @@ pub(crate) fn pieces_round(
 ) -> Result<Vec<Segment>, NoMemory>
     requires indexed { IsIndexed drawing.now index.now }
     requires keyed { AreKeyed drawing.now }
-    ensures { IfOk result (λ list. (t : GridSegment)
+    ensures round { IfOk result (λ list. (t : GridSegment)
         → Contains list.items t ↔ (IsPiece drawing.now.drawing t × Inside p.now t)) }
+    ensures ascending { IfOk result (λ list. AreSegmentsAscending list.items) }
 {
     let keys = index.on_point(p)?;
     pieces_among(alloc, drawing, keys.as_slice(), p)
@@ -232,8 +221,9 @@ fn pieces_among(
 ) -> Result<Vec<Segment>, NoMemory>
     requires round { HasKeysAt drawing.now p.now keys.now }
     requires keyed { AreKeyed drawing.now }
-    ensures { IfOk result (λ list. (t : GridSegment)
+    ensures round { IfOk result (λ list. (t : GridSegment)
         → Contains list.items t ↔ (IsPiece drawing.now.drawing t × Inside p.now t)) }
+    ensures ascending { IfOk result (λ list. AreSegmentsAscending list.items) }
 {
     let mut list = Vec::new(alloc);
     for key in keys {
@@ -243,5 +233,5 @@ fn pieces_among(
             }
         }
     }
-    Ok(list)
+    Ok(ascending_segments(list))
 }

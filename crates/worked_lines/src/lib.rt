@@ -31,6 +31,8 @@ mod groups;
 #[cfg(test)]
 mod old_files;
 #[cfg(test)]
+mod reopened;
+#[cfg(test)]
 mod running;
 #[cfg(test)]
 mod sessions;

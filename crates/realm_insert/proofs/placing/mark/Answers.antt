@@ -32,7 +32,7 @@ returns-clause-covered c =
     let new = c.add_point.new.self in
     let list = c.args.list.now.items in
     let covered = covered_round c.args.drawing.now new c.args.p list c.in_ok-round.round.items
-    c.in_ok-add_point.ensures.added c.requires.covered c.in_ok-round.ensures in
+    c.in_ok-add_point.ensures.added c.requires.covered c.in_ok-round.ensures.round in
     let longer = c.in_ok-extend_from_slice.ensures.items
     ∙ ap (λ (l : List GridSegment). list ++ l) c.as_slice.ensures.value in
     subst (IsCoveredBy new.drawing) (sym longer) covered

@@ -1,19 +1,25 @@
-use Rattle.std.proofs.Common.{ℕ, refl, take_all, get_or}
-use Rattle.grid_base.specs.Segment.{GridSegment}
-use Rattle.realm_drawing.specs.Keyed.{HasKey}
+use Rattle.std.proofs.Common.{All, take_all, sym, subst, arith}
+use Rattle.std.proofs.lemmas.List.Elements.{All-get_or, All-more}
+use Rattle.grid_base.specs.Drawing.{IsPiece}
 use Rattle.realm_insert.specs.Clashes.{NoClash}
-use Rattle.realm_insert.proofs.CleanPieces.{next_too}
 use Rattle.realm_insert.proofs.searching.first_clash.Goals as goal
 
--- nor does the piece with the next key
-pub loop-key-preserved : goal.loop-key-preserved
-loop-key-preserved c =
-    let d = c.args.drawing.now in
-    let keys = c.args.keys.now in
-    let i = c.loop-key.key-index in
-    next_too (λ (k : ℕ). (t : GridSegment) → HasKey d t k → NoClash d.drawing c.args.s.now t) keys i 0 (get_or keys i 0)
-    c.loop-key-test.true refl c.loop-key.invariant c.in_default.ensures
+-- each of the list is a piece
+pub clash-requires-clause-other : goal.clash-requires-clause-other
+clash-requires-clause-other c =
+    let are = IsPiece c.args.drawing.now.drawing in
+    subst are (sym c.t-item.is)
+    (All-get_or are c.args.pieces.now c.loop-t.t-index c.t-item.result c.loop-t-test.true c.requires.pieces)
+
+-- nor does the next piece
+pub loop-t-preserved : goal.loop-t-preserved
+loop-t-preserved c =
+    let clear = NoClash c.args.drawing.now.drawing c.args.s.now in
+    All-more clear c.args.pieces.now c.loop-t.t-index c.t-item.result c.loop-t-test.true c.loop-t.invariant
+    (subst clear c.t-item.is c.in_default.ensures)
 
 -- at the end no piece clashes
 pub returns : goal.returns
-returns c = let past = c.loop-key-test.false in rw take_all at c.loop-key.invariant
+returns c =
+    subst (All (NoClash c.args.drawing.now.drawing c.args.s.now))
+    (take_all c.loop-t.t-index c.args.pieces.now (omega (arith, c.loop-t-test.false))) c.loop-t.invariant

@@ -11,5 +11,5 @@ returns-in-Some c =
     let list = c.as_slice.result.now in
     let first = sym c.in-Some.ensures.value in
     let there : Contains list t = (0, slice_get_within list 0 t first, get_or_from_slice_get list 0 t t first) in
-    let round = (c.in_ok-round.ensures t).0 (subst (λ (l : List GridSegment). Contains l t) c.as_slice.ensures.value there) in
+    let round = (c.in_ok-round.ensures.round t).0 (subst (λ (l : List GridSegment). Contains l t) c.as_slice.ensures.value there) in
     split_is_permitted c.args.drawing.now.drawing c.args.p.now t (c.is_point.ensures.0 c.if-not-is_point.false) round.0 round.1
