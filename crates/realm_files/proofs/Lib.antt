@@ -16,8 +16,8 @@ pub mod Renewals
 pub mod LedOnce
 -- and two files have one reading
 pub mod OneReading
--- records that were scanned, where they lead
-pub mod Scans
+-- records in a row, where they lead
+pub mod LedRows
 -- files that were synced and read
 pub mod Syncs
 -- what file A stood for alone

@@ -1,5 +1,5 @@
 -- Records in a file, each behind an open gate, up to the first closed one.
-use Rattle.std.specs.Prelude.{◌≡◌, ◌+◌, ℕ, Bool, true, List, [], ◌∷◌, length}
+use Rattle.std.specs.Prelude.{◌≡◌, ◌+◌, ℕ, List, [], ◌∷◌, length}
 use Rattle.record_codec.specs.declared.record.Record.{Record}
 use Rattle.record_codec.specs.Fitting.{IsRecord}
 use Rattle.record_codec.specs.Spelling.{record_text}
@@ -32,9 +32,3 @@ LeadOn m start (r ∷ rs) end = (mid : _) × m.leads start r mid × LeadOn m mid
 -- the record leads from the state to none
 abbrev pub LeadsNowhere : {S : Type 0} → Meaning S → S → Record → Type 0
 LeadsNowhere m state r = (after : _) → m.leads state r after → ⊥
-
--- The row stops at this state: no record is left, and the gate behind the last is open, or the first that is left leads
--- nowhere.
-abbrev pub StopsAt : {S : Type 0} → Meaning S → S → List Record → Bool → Type 0
-StopsAt m state [] bad = bad ≡ true
-StopsAt m state (r ∷ more) bad = LeadsNowhere m state r

@@ -10,3 +10,5 @@ pub mod AppendExits
 pub mod ShutGates
 -- how records are read one after another
 pub mod Scans
+-- which records bytes hold
+pub mod HandingLemmas

@@ -8,7 +8,7 @@ use Rattle.record_codec.specs.declared.record.Record.{Record}
 use Rattle.record_codec.specs.Fitting.{IsRecord, BeginsWith}
 use Rattle.record_codec.specs.Spelling.{record_text}
 use Rattle.realm_journal.specs.Gates.{open_gate, IsWrittenAt, IsOpenAt, IsClosedAt}
-use Rattle.realm_journal.specs.Scanning.{IsScan, BeginsWithNone, Scans}
+use Rattle.realm_journal.specs.Scanning.{IsScan, BeginsWithNone, IsRecordAt, Scans}
 
 -- an open gate and a text behind it
 gate_and_text : (at : ℕ) (text file : List ℕ) → at < length file → IsOpenAt at file → BeginsWith (drop (at + 1) file) text
@@ -26,19 +26,21 @@ scan_more file at [] end r is is_record written =
 scan_more file at (q ∷ rs) end r (is_first, written_first, later) is_record written =
     (is_first, written_first, scan_more file (at + 1 + length (record_text q)) rs end r later is_record written)
 
-pub scan_next : (bytes : List ℕ) (rs : List Record) (end : ℕ) (r : Record) → IsScan bytes 0 rs end → end < length bytes
-    → IsOpenAt end bytes → IsRecord r → BeginsWith (drop (end + 1) bytes) (record_text r)
-    → IsScan bytes 0 (rs ++ r ∷ []) (end + (1 + length (record_text r)))
-scan_next bytes rs end r so_far within opened is_record begins =
-    let place : end + 1 + length (record_text r) ≡ end + (1 + length (record_text r)) = omega arith in
-    subst (λ k. IsScan bytes 0 (rs ++ r ∷ []) k) place
-    (scan_more bytes 0 rs end r so_far is_record (gate_and_text end (record_text r) bytes within opened begins))
+-- a record behind an open gate is within the bytes
+pub next_stands : (bytes : List ℕ) (at : ℕ) (r : Record) (size : ℕ) → at < length bytes → IsOpenAt at bytes → IsRecord r
+    → size ≡ length (record_text r) → BeginsWith (drop (at + 1) bytes) (record_text r) → IsRecordAt bytes at r (at + 1 + size)
+next_stands bytes at r size within opened is_record size_is (rest, is) = record {
+  is_record = is_record;
+  written = gate_and_text at (record_text r) bytes within opened (rest, is);
+  end_is = ap (λ n. at + 1 + n) size_is;
+  within = omega (arith, within, size_is, ap length is, length-drop (at + 1) bytes, length-append (record_text r) rest);
+}
 
--- the record is within the bytes
-pub next_within : (bytes text : List ℕ) (end : ℕ) → end < length bytes → BeginsWith (drop (end + 1) bytes) text
-    → end + (1 + length text) ≤ length bytes
-next_within bytes text end within (rest, is) =
-    omega (arith, within, ap length is, length-drop (end + 1) bytes, length-append text rest)
+-- and is one more of a scan
+pub scan_next : (bytes : List ℕ) (rs : List Record) (at : ℕ) (r : Record) (end : ℕ) → IsScan bytes 0 rs at → IsRecordAt bytes at r end
+    → IsScan bytes 0 (rs ++ r ∷ []) end
+scan_next bytes rs at r end so_far next =
+    subst (λ k. IsScan bytes 0 (rs ++ r ∷ []) k) (sym next.end_is) (scan_more bytes 0 rs at r so_far next.is_record next.written)
 
 -- the bytes of a file from a place on
 written_behind : (file : List ℕ) (at k : ℕ) (bytes : List ℕ) → IsWrittenAt k bytes (drop at file) → IsWrittenAt (at + k) bytes file

@@ -12,3 +12,5 @@ pub mod Shutting
 pub mod Reading
 -- records that are read
 pub mod Scanning
+-- and handed out one after another
+pub mod Handing

@@ -7,6 +7,7 @@
 mod appending;
 mod block;
 mod error;
+mod handing;
 mod prepared;
 mod reading;
 mod records;
@@ -16,10 +17,11 @@ mod shutting;
 pub use appending::{append, append_block};
 pub use block::{Block, begin_block};
 pub use error::{JournalError, ScanError};
+pub use handing::Records;
 pub use prepared::{Prepared, prepare};
 pub use reading::read_from;
-pub use records::Scan;
-pub use scanning::{scan, scan_bytes};
+pub use records::{NextRecord, Scan};
+pub use scanning::{next_record, scan, scan_bytes};
 pub use shutting::shut_gate;
 
 /// The byte of an open gate. Every other byte is a closed one.

@@ -3,12 +3,12 @@ ghost use Rattle.std.specs.Prelude.{◌≡◌, ◌<◌, ◌↔◌, ◌^◌, ℕ,
 ghost use Rattle.outside_world.specs.Counts.{Rose};
 ghost use Rattle.outside_world.specs.GoesOn.{GoesOn};
 ghost use Rattle.realm_journal.specs.Gates.{IsOpenAt};
-ghost use Rattle.realm_journal.specs.Scanning.{Scans, Scanned};
+ghost use Rattle.realm_journal.specs.Scanning.{IsNextAt, Scans, Scanned};
 
 use crate::OPEN;
 use crate::error::ScanError;
 use crate::reading::read_from;
-use crate::records::Scan;
+use crate::records::{NextRecord, Scan};
 use grid_base::NoMemory;
 use outside_world::{FileName, Outside};
 use record_codec::{ListOf, decode};
@@ -32,33 +32,51 @@ pub fn scan<W: Outside>(
     Ok(scan_bytes(alloc, &bytes, at)?)
 }
 
+/// What stands at the gate of a place of these bytes.
+pub fn next_record(alloc: Global, bytes: &[u8], at: usize) -> Result<NextRecord, NoMemory>
+    ensures next { IfOk result (λ next. IsNextAt bytes.now at next) }
+{
+    if !is_open(bytes, at) {
+        return Ok(NextRecord::Closed);
+    }
+    match decode(alloc, &bytes[at + 1..])? {
+        None => Ok(NextRecord::Bad),
+        Some((record, size)) => Ok(NextRecord::Record {
+            record,
+            end: at + 1 + size,
+        }),
+    }
+}
+
 /// The records of these bytes, which stand in a file from a place on. A length has 64 bits.
 pub fn scan_bytes(alloc: Global, bytes: &[u8], at: u64) -> Result<Scan, NoMemory>
     ensures scan { IfOk result (λ s. (file : List ℕ) → length file < 2 ^ 64 → bytes.now ≡ drop at file
         → Scans file at s.list s.end s.bad) }
 {
     let mut list = Vec::new(alloc);
-    let mut end = 0;
-    while is_open(bytes, end) {
-        match decode(alloc, &bytes[end + 1..])? {
-            None => {
+    let mut place = 0;
+    loop {
+        match next_record(alloc, bytes, place)? {
+            NextRecord::Record { record, end } => {
+                list.push(record)?;
+                place = end;
+            }
+            NextRecord::Closed => {
                 return Ok(Scan {
                     list: ListOf::new(list),
-                    end: at.saturating_add(end as u64),
+                    end: at.saturating_add(place as u64),
+                    bad: false,
+                });
+            }
+            NextRecord::Bad => {
+                return Ok(Scan {
+                    list: ListOf::new(list),
+                    end: at.saturating_add(place as u64),
                     bad: true,
                 });
             }
-            Some((record, size)) => {
-                list.push(record)?;
-                end += 1 + size;
-            }
         }
     }
-    Ok(Scan {
-        list: ListOf::new(list),
-        end: at.saturating_add(end as u64),
-        bad: false,
-    })
 }
 
 // Whether an open gate stands at this place.

@@ -24,10 +24,10 @@ pub mod OneReading
 pub mod OldImages
 -- where a record leads that is made again
 pub mod Replays
+-- where a row of records leads that is made again
+pub mod Remakings
 -- that an answer has one error
 pub mod Errors
--- that records which were read have texts
-mod RecordTexts
 -- that files stand for what their journal leads to
 pub mod Journals
 -- what the payload of the newest file tells

@@ -1,7 +1,7 @@
 -- This file shows where a record leads that is made again.
 use Rattle.std.proofs.Common.{◌≡◌, ℕ, ◌+◌, ◌<◌, Bool, true, false, List, [], ◌∷◌, ◌++◌, length, take, drop, get_or, Option, Some, None}
 use Rattle.std.proofs.Common.{refl, sym, ◌∙◌, ap, subst, arith}
-use Rattle.std.proofs.lemmas.List.{take_more, drop_more, take-append-drop, length-take-le}
+use Rattle.std.proofs.lemmas.List.{take_more, drop_more, take-append-drop}
 use Rattle.grid_base.specs.declared.kinds.Step.{Step}
 use Rattle.line_grammar.specs.declared.command.Change.{Change}
 use Rattle.record_codec.specs.declared.entry.Entry.{Entry}
@@ -14,7 +14,7 @@ use Rattle.realm_insert.specs.declared.refusal.Refusal.{Refusal}
 use Rattle.realm_insert.proofs.SameStates.{not_refused, fits}
 use Rattle.realm_store.specs.Leading.{LeadsBy, LeadOnBy, Leads}
 use Rattle.realm_store.specs.Accepting.{FailsAt}
-use Rattle.realm_store.specs.Replaying.{IsReplayable, LeadOn, LeadsNowhere, RemadeBy, RemadeOnBy, Remade, Replayed, record_next}
+use Rattle.realm_store.specs.Replaying.{IsReplayable, LeadsNowhere, RemadeBy, RemadeOnBy, Remade, record_next}
 use Rattle.realm_store.proofs.LedOnce.{one_change, leads_by_once}
 
 -- the entry leads on,
@@ -134,29 +134,3 @@ module _ {state : State} {r : Record} {engine : SpendableState} (number : r.numb
   pub remade_failed : {at : ℕ} → failed ≡ Some at → Remade state r false engine
   remade_failed {at} is =
       record { ready = λ no. absurd cc; led = λ no. absurd cc; nowhere = λ _. fails_nowhere (record_fails at is) }
-
--- one record more leads on
-lead_one : (start mid new : State) (rs : List Record) (r : Record) → LeadOn start rs mid → Leads mid r new
-    → LeadOn start (rs ++ r ∷ []) new
-lead_one start mid new [] r is leads = (new, subst (λ s. Leads s r new) is leads, refl)
-lead_one start mid new (q ∷ rs) r (next, first, later) leads = (next, first, lead_one next mid new rs r later leads)
-
-module _ (start : State) (records : List Record) (i : ℕ) where
-  pub lead_more : (mid new : State) (r d : Record) → i < length records → r ≡ get_or records i d → LeadOn start (take i records) mid
-      → Leads mid r new → LeadOn start (take (i + 1) records) new
-  lead_more mid new r d within is lead leads =
-      subst (λ l. LeadOn start l new) (sym (take_more records i d within))
-      (lead_one start mid new (take i records) (get_or records i d) lead (subst (λ q. Leads mid q new) is leads))
-
-  -- the next leads nowhere
-  pub replayed_cut : (mid : State) (r d : Record) (engine : SpendableState) → i < length records → r ≡ get_or records i d
-      → LeadOn start (take i records) mid → LeadsNowhere mid r → Replayed start records i engine
-  replayed_cut mid r d engine within is lead nowhere = record {
-    before = take i records;
-    left = get_or records i d ∷ drop (i + 1) records;
-    in_order = sym (take-append-drop i records) ∙ ap (λ l. take i records ++ l) (drop_more records i d within);
-    count_is = sym (length-take-le i records (omega (arith, within)));
-    reached = mid;
-    lead = lead;
-    rest = subst (λ q. LeadsNowhere mid q) is nowhere;
-  }

@@ -82,10 +82,10 @@ module _ {old mid : View} {base : Base} (first : BaseOpened old mid (Ok base)) w
   based = subst (λ f. IsBase f base.engine.state base.place) (sym same) first.found.base
 
   pub journal_kept : {new : View} {opened : Opened} (snapshot : Snapshot) → state_of snapshot ≡ base.engine.state
-      → RecordsOpened mid new base.engine.state (Ok opened) → HasJournal old.reads opened.store.kept snapshot opened.records.items
+      → RecordsOpened mid new base.engine.state (Ok opened) → HasJournal old.reads opened.store.kept snapshot opened.records
   journal_kept {opened = opened} snapshot is then =
       let kept = opened.store.kept in
-      let records = opened.records.items in
+      let records = opened.records in
       let at_base = subst (λ (f : Files). StandsFrom f kept.state kept.place base.engine.state records) same then.read.journal in
       subst (λ s. StandsFrom old.reads kept.state kept.place s records) (sym is) at_base
 

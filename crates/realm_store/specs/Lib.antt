@@ -36,5 +36,7 @@ pub mod Starting
 pub mod Journals
 -- records whose changes are made again
 pub mod Replaying
+-- and a row of them
+pub mod Remaking
 -- what is opened of the files when a store is started
 pub mod Opening

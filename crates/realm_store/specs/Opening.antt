@@ -67,7 +67,7 @@ pub record IsBadRow (file : List ℕ) (start : State) (place : Place) (damage : 
 
 -- the records behind the gate of the place lead to what is kept, or one of them is bad; or memory ran out
 pub record OpensRow (file : List ℕ) (start : State) (place : Place) (result : Result Opened StartError) : Type 0 where
-  pub leads : IfOk result (λ opened. LeadsTo file start place opened.records.items opened.store.kept)
+  pub leads : IfOk result (λ opened. LeadsTo file start place opened.records opened.store.kept)
   pub damaged : (d : Damage) → result ≡ Err (Damaged d) → IsBadRow file start place d
 
 -- what is kept is what the files stand for, by these records from this state on
@@ -80,5 +80,5 @@ pub record IsReadFrom (files : Files) (start : State) (records : List Record) (k
 -- is told; or the disk failed or memory ran out.
 pub record RecordsOpened (old new : View) (start : State) (result : Result Opened StartError) : Type 0 where
   pub asks : OnlyAsks old new
-  pub read : IfOk result (λ opened. IsReadFrom old.reads start opened.records.items opened.store.kept)
+  pub read : IfOk result (λ opened. IsReadFrom old.reads start opened.records opened.store.kept)
   pub damaged : (d : Damage) → result ≡ Err (Damaged d) → IsDamaged d old.reads

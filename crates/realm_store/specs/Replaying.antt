@@ -1,6 +1,6 @@
 -- Records whose changes are made again one after another, wherever they stand. No public clause of this crate
 -- cites this file.
-use Rattle.std.specs.Prelude.{◌≡◌, ◌+◌, ℕ, Bool, true, false, List, [], ◌∷◌, ◌++◌, length, Option, Some, None}
+use Rattle.std.specs.Prelude.{◌≡◌, ◌+◌, ℕ, Bool, true, false, List, Option, Some, None}
 use Rattle.line_grammar.specs.declared.command.Change.{Change}
 use Rattle.line_grammar.specs.Spelling.{change_text}
 use Rattle.line_grammar.specs.Spellable.{IsSpellableChange}
@@ -46,18 +46,3 @@ pub record Remade (state : State) (r : Record) (leads : Bool) (engine : Spendabl
   pub ready : leads ≡ true → engine.spent ≡ false
   pub led : leads ≡ true → Leads state r engine.state
   pub nowhere : leads ≡ false → LeadsNowhere state r
-
--- none is left, and the engine has the state; or the first that is left leads from it to none
-abbrev pub IsRest : State → List Record → SpendableState → Type 0
-IsRest state [] engine = (engine.spent ≡ false) × (engine.state ≡ state)
-IsRest state (r ∷ more) engine = LeadsNowhere state r
-
--- so many of the records, from the first on, led the engine from this state to one, and the next leads from that to none
-pub record Replayed (start : State) (records : List Record) (count : ℕ) (engine : SpendableState) : Type 0 where
-  pub before : List Record
-  pub left : List Record
-  pub in_order : records ≡ before ++ left
-  pub count_is : count ≡ length before
-  pub reached : State
-  pub lead : LeadOn start before reached
-  pub rest : IsRest reached left engine

@@ -14,6 +14,7 @@ mod grouping;
 mod laws;
 mod looking;
 mod opening;
+mod remaking;
 mod renewing;
 mod replaying;
 mod replies;

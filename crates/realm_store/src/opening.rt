@@ -1,10 +1,9 @@
 //! Opens the newest of two files when a store is started: first its payload, which tells a state, and then its records,
 //! whose changes are made again from there.
-ghost use Rattle.std.specs.Prelude.{◌≡◌, ◌≤◌, ◌<◌, ◌↔◌, ◌-◌, ◌^◌, ℕ, List, All, false, length, drop, None, Err, IfOk, IsTrue, IsErrOf};
+ghost use Rattle.std.specs.Prelude.{◌≡◌, ◌≤◌, ◌<◌, ◌^◌, ℕ, List, All, false, length, drop, None, Err, IfOk, IsErrOf};
 ghost use Rattle.outside_world.specs.Counts.{Rose};
 ghost use Rattle.outside_world.specs.GoesOn.{GoesOn};
 ghost use Rattle.record_codec.specs.Fitting.{IsRecord};
-ghost use Rattle.realm_journal.specs.Scanning.{Scans};
 ghost use Rattle.realm_insert.specs.Snapshots.{state_of, IsValidState};
 ghost use Rattle.realm_pages.specs.Finding.{IsFound};
 ghost use Rattle.realm_pages.specs.declared.damage.Damage.{Damage as Seen};
@@ -15,15 +14,14 @@ ghost use Rattle.realm_store.specs.Damages.{IsDamaged};
 ghost use Rattle.realm_store.specs.Replaying.{LeadOn};
 ghost use Rattle.realm_store.specs.Opening.{IsBaseOn, IsBase, BaseFound, BaseOpened, OpensRow, RecordsOpened};
 
-use crate::replaying::replay_all;
+use crate::remaking::{RowEnd, remake_row};
 use crate::store::Store;
-use grid_base::NoMemory;
 use outside_world::{FileName, Outside};
 use realm_files::{Place, sync_both};
 use realm_insert::{Engine, SnapshotError};
-use realm_journal::{Scan, ScanError, read_from, scan_bytes};
+use realm_journal::{Records, ScanError, read_from};
 use realm_pages::{Damage, Found, PagesError as StartError, newest};
-use record_codec::{Record, Snapshot};
+use record_codec::Snapshot;
 use std::alloc::Global;
 use std::thread::Threads;
 
@@ -35,11 +33,11 @@ pub(crate) struct Base {
     pub(crate) place: Option<Place>,
 }
 
-/// A store that was opened, and the records of its file.
+/// A store that was opened, and the records of its file, which can be read once more.
 #[derive(Drop)]
 pub(crate) struct Opened {
     pub(crate) store: Store,
-    pub(crate) records: Vec<Record>,
+    pub(crate) records: Records,
 }
 
 /// Syncs both files, and opens the payload of the newest.
@@ -131,8 +129,8 @@ pub(crate) fn open_behind<R: Threads + Sync, W: Outside>(
     requires ready { base.engine.spent ≡ false }
     ensures ready { IfOk result (λ opened. opened.store.spent ≡ false) }
     ensures no_group { IfOk result (λ opened. opened.store.group ≡ None) }
-    ensures with_text { IfOk result (λ opened. All IsRecord opened.records.items) }
-    ensures leads { IfOk result (λ opened. LeadOn base.engine.state opened.records.items opened.store.kept.state) }
+    ensures with_text { IfOk result (λ opened. All IsRecord opened.records) }
+    ensures leads { IfOk result (λ opened. LeadOn base.engine.state opened.records opened.store.kept.state) }
     ensures told { W.tells world.new → IsBase (W.view world.old).reads base.engine.state base.place
         → RecordsOpened (W.view world.old) (W.view world.new) base.engine.state result }
     ensures intact { ¬ (IsErrOf result StartError.Disk) → W.failed world.new ≡ false }
@@ -144,7 +142,7 @@ pub(crate) fn open_behind<R: Threads + Sync, W: Outside>(
     match place {
         None => Ok(Opened {
             store: Store::of(alloc, engine, None, true),
-            records: Vec::new(alloc),
+            records: Records::new(Vec::new(alloc)),
         }),
         Some(place) => open_records(rt, alloc, world, place, engine),
     }
@@ -162,8 +160,8 @@ fn open_records<R: Threads + Sync, W: Outside>(
     requires ready { engine.spent ≡ false }
     ensures ready { IfOk result (λ opened. opened.store.spent ≡ false) }
     ensures no_group { IfOk result (λ opened. opened.store.group ≡ None) }
-    ensures with_text { IfOk result (λ opened. All IsRecord opened.records.items) }
-    ensures leads { IfOk result (λ opened. LeadOn engine.state opened.records.items opened.store.kept.state) }
+    ensures with_text { IfOk result (λ opened. All IsRecord opened.records) }
+    ensures leads { IfOk result (λ opened. LeadOn engine.state opened.records opened.store.kept.state) }
     ensures told { W.tells world.new → IsBaseOn (W.view world.old).reads engine.state place
         → RecordsOpened (W.view world.old) (W.view world.new) engine.state result }
     ensures intact { ¬ (IsErrOf result StartError.Disk) → W.failed world.new ≡ false }
@@ -172,7 +170,7 @@ fn open_records<R: Threads + Sync, W: Outside>(
     ensures goes_on { GoesOn ⟦<W as Outside>⟧ world.old world.new }
 {
     match read_from(alloc, world, place.file, place.next) {
-        Ok(bytes) => open_bytes(rt, alloc, &bytes, place, engine),
+        Ok(bytes) => open_bytes(rt, alloc, bytes, place, engine),
         Err(ScanError::Disk) => Err(StartError::Disk),
         Err(ScanError::NoMemory) => Err(StartError::NoMemory),
     }
@@ -182,61 +180,35 @@ fn open_records<R: Threads + Sync, W: Outside>(
 fn open_bytes<R: Threads + Sync>(
     rt: &R,
     alloc: Global,
-    bytes: &[u8],
+    bytes: Vec<u8>,
     place: Place,
     engine: Engine,
 ) -> Result<Opened, StartError>
     requires ready { engine.spent ≡ false }
     ensures ready { IfOk result (λ opened. opened.store.spent ≡ false) }
     ensures no_group { IfOk result (λ opened. opened.store.group ≡ None) }
-    ensures with_text { IfOk result (λ opened. All IsRecord opened.records.items) }
-    ensures leads { IfOk result (λ opened. LeadOn engine.state opened.records.items opened.store.kept.state) }
-    ensures row { (file : List ℕ) → length file < 2 ^ 64 → bytes.now ≡ drop place.next file
+    ensures with_text { IfOk result (λ opened. All IsRecord opened.records) }
+    ensures leads { IfOk result (λ opened. LeadOn engine.state opened.records opened.store.kept.state) }
+    ensures row { (file : List ℕ) → length file < 2 ^ 64 → bytes.items ≡ drop place.next file
         → place.next ≤ length file → OpensRow file engine.state place result }
     ensures no_fault { IsErrOf result StartError.Disk → ⊥ }
 {
-    let scan = records_in(alloc, bytes, place.next)?;
     let mut engine = engine;
-    let count = replay_all(rt, alloc, &mut engine, scan.list.items())?;
-    if !all_lead(&scan, count) {
-        return Err(StartError::Damaged(Damage::BadRecord {
+    match remake_row(rt, alloc, &mut engine, &bytes)? {
+        RowEnd::Closed { end } => {
+            let has_gate = end < bytes.len();
+            let next = Place {
+                next: place.next.saturating_add(end as u64),
+                ..place
+            };
+            Ok(Opened {
+                store: Store::of(alloc, engine, Some(next), has_gate),
+                records: Records::new(bytes),
+            })
+        }
+        RowEnd::Bad { count } => Err(StartError::Damaged(Damage::BadRecord {
             file: place.file,
             number: count as u64 + 1,
-        }));
+        })),
     }
-    let has_gate = is_within(bytes, place.next, scan.end);
-    let next = Place {
-        next: scan.end,
-        ..place
-    };
-    Ok(Opened {
-        store: Store::of(alloc, engine, Some(next), has_gate),
-        records: scan.list.into_items(),
-    })
-}
-
-// The records of these bytes, which stand in a file from this place on. The length of a file fits in 64 bits.
-fn records_in(alloc: Global, bytes: &[u8], at: u64) -> Result<Scan, NoMemory>
-    ensures scan { IfOk result (λ s. (file : List ℕ) → length file < 2 ^ 64 → bytes.now ≡ drop at file
-        → Scans file at s.list s.end s.bad) }
-    ensures with_text { IfOk result (λ s. All IsRecord s.list) }
-{
-    if at.checked_add(bytes.len() as u64).is_none() {
-        return Err(NoMemory);
-    }
-    scan_bytes(alloc, bytes, at)
-}
-
-// Whether all records lead on, up to a closed gate, where so many do.
-fn all_lead(scan: &Scan, count: usize) -> bool
-    ensures { IsTrue result ↔ ((length scan.now.list ≤ count) × (scan.now.bad ≡ false)) }
-{
-    scan.list.items().len() <= count && !scan.bad
-}
-
-// Whether a file that has these bytes from a place on has a byte at this one behind it.
-fn is_within(bytes: &[u8], at: u64, place: u64) -> bool
-    ensures { IsTrue result ↔ (place - at < length bytes.now) }
-{
-    place.saturating_sub(at) < bytes.len() as u64
 }

@@ -4,7 +4,7 @@ ghost use Rattle.std.specs.Prelude.{◌≡◌, false, IfOk, MatchOption};
 ghost use Rattle.line_grammar.specs.declared.command.Change.{Change as Seen};
 ghost use Rattle.line_grammar.specs.Spelling.{change_text};
 ghost use Rattle.line_grammar.specs.Spellable.{IsSpellableChange};
-ghost use Rattle.realm_store.specs.Replaying.{RemadeBy, RemadeOnBy, Remade, Replayed, IsReplayable};
+ghost use Rattle.realm_store.specs.Replaying.{RemadeBy, RemadeOnBy, Remade, IsReplayable};
 
 use grid_base::NoMemory;
 use line_grammar::{Change, Command, LineError, read_line};
@@ -13,26 +13,8 @@ use record_codec::{Entry, Record};
 use std::alloc::Global;
 use std::thread::Threads;
 
-/// Makes the changes of these records again, and answers how many of them lead on.
-pub(crate) fn replay_all<R: Threads + Sync>(
-    rt: &R,
-    alloc: Global,
-    engine: &mut Engine,
-    records: &[Record],
-) -> Result<usize, NoMemory>
-    requires ready { engine.old.spent ≡ false }
-    ensures { IfOk result (λ count. Replayed engine.old.state records.now count engine.new) }
-{
-    for (i, record) in records.iter().enumerate() {
-        if !replay_one(rt, alloc, engine, record)? {
-            return Ok(i);
-        }
-    }
-    Ok(records.len())
-}
-
-// Makes the changes of a record again, and answers whether the record leads on.
-fn replay_one<R: Threads + Sync>(
+/// Makes the changes of a record again, and answers whether the record leads on.
+pub(crate) fn replay_one<R: Threads + Sync>(
     rt: &R,
     alloc: Global,
     engine: &mut Engine,

@@ -14,17 +14,18 @@ ghost use Rattle.realm_store.specs.Journals.{HasJournal, without_journal};
 use crate::opening::{Opened, open_base, open_behind};
 use crate::store::Store;
 use outside_world::Outside;
+use realm_journal::Records;
 use realm_pages::PagesError as StartError;
-use record_codec::{Record, Snapshot};
+use record_codec::Snapshot;
 use std::alloc::Global;
 use std::thread::Threads;
 
-/// What the newest file keeps: the state of its payload, and all records behind that, in order. Where no file counts, it
-/// is the empty state and no record.
+/// What the newest file keeps: the state of its payload, and all records behind that, in order, which are read from the
+/// file's bytes as they are handed out. Where no file counts, it is the empty state and no record.
 #[derive(Drop)]
 pub struct Journal {
     pub base: Snapshot,
-    pub records: Vec<Record>,
+    pub records: Records,
 }
 
 /// A store that was started, and the journal of its files.
@@ -60,7 +61,8 @@ impl Store {
         Ok(store)
     }
 
-    /// Starts as `start` does, and keeps the journal of the newest file. This takes the memory of one state more.
+    /// Starts as `start` does, and keeps the journal of the newest file. This takes the memory of one state more, and keeps
+    /// the bytes of the records.
     pub fn start_with_journal<R: Threads + Sync, W: Outside>(
         rt: &R,
         alloc: Global,
@@ -74,11 +76,11 @@ impl Store {
         ensures rest { IfOk result (λ started. W.tells world.new
             → AllRest started.store.kept (W.view world.new)) }
         ensures journal { IfOk result (λ started. W.tells world.new → HasJournal (W.view world.old).reads
-            started.store.kept started.journal.base started.journal.records.items) }
-        ensures with_text { IfOk result (λ started. All IsRecord started.journal.records.items) }
+            started.store.kept started.journal.base started.journal.records) }
+        ensures with_text { IfOk result (λ started. All IsRecord started.journal.records) }
         ensures valid { IfOk result (λ started. IsValidState (state_of started.journal.base)) }
         ensures leads { IfOk result (λ started. LeadOn meaning (state_of started.journal.base)
-            started.journal.records.items started.store.kept.state) }
+            started.journal.records started.store.kept.state) }
         ensures intact { ¬ (IsErrOf result StartError.Disk) → W.failed world.new ≡ false }
         ensures disk_fault { IsErrOf result StartError.Disk
             → Rose (W.disk_faults world.old) (W.disk_faults world.new) }

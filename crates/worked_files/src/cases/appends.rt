@@ -5,8 +5,8 @@ ghost use Rattle.std.specs.Prelude.{◌≡◌, false, OnOk};
 use crate::paper::{LEAVES, POINT, world_on};
 use outside_world::{FileName, Leave, MemoryWorld, Outside};
 use realm_journal::{
-    Block, JournalError, Prepared, append, append_block, begin_block, prepare, read_from, scan,
-    shut_gate,
+    Block, JournalError, Prepared, Records, append, append_block, begin_block, prepare, read_from,
+    scan, shut_gate,
 };
 use record_codec::decode;
 use std::alloc::Global;
@@ -156,6 +156,28 @@ fn a_scan_ends_at_the_first_gate_with_no_record(rt: HostRuntime) -> Result<(), F
     for (gates, cut, wanted) in table {
         let file = records_behind(alloc, gates, cut)?;
         assert_eq!(rt; found_in(alloc, &file)?, wanted, "{gates:?} but {cut}");
+    }
+    Ok(())
+}
+
+// The gates of bytes, each with the record behind it, how many bytes of that are cut off at the end, and how many records
+// are handed out.
+#[test]
+fn records_are_handed_out_one_after_another(rt: HostRuntime) -> Result<(), Fail> {
+    let table: [(&[u8], usize, usize); 4] = [
+        (b"", 0, 0),
+        (b"\xa5", 0, 1),
+        (b"\xa5\xa5\0", 37, 2),
+        (b"\xa5\xa5", 1, 1),
+    ];
+    let alloc = rt.alloc();
+    for (gates, cut, wanted) in table {
+        let bytes = records_behind(alloc, gates, cut)?;
+        let mut records = Records::new(bytes);
+        let first = records.next_record(alloc)?.is_some();
+        assert_eq!(rt; first, wanted > 0, "{gates:?} but {cut}");
+        let rest = records.into_list(alloc)?;
+        assert_eq!(rt; rest.len(), wanted.saturating_sub(1), "{gates:?} but {cut}");
     }
     Ok(())
 }

@@ -1,23 +1,40 @@
-use Rattle.std.proofs.Common.{◌+◌, ap, refl}
+use Rattle.std.proofs.Common.{ap, refl, arith}
 use Rattle.realm_store.specs.Keeping.{Kept}
-use Rattle.realm_store.proofs.Openings.{all_lead_to, row_leads, row_is_bad}
+use Rattle.realm_store.proofs.Openings.{row_remade, row_cut_off, held_texts, held_lead, row_leads, row_is_bad}
 use Rattle.realm_store.proofs.opening.open_bytes.Goals as goal
 
--- a record leads nowhere, or none stands at an open gate
-pub returns-then-not-all_lead-clause-row : goal.returns-then-not-all_lead-clause-row
-returns-then-not-all_lead-clause-row g c = λ file short are within.
-    row_is_bad file _ _ c.args.place _ _ _ _ _ _ are within (c.in_ok-scan.ensures.scan file short are) c.items.ensures
-    c.in_ok-count.ensures (c.in_ok-count.count + 1) c.all_lead.result c.all_lead.ensures c.if-not-all_lead.true refl
+-- there are no more records than bytes
+pub overflow_add-result : goal.overflow_add-result
+overflow_add-result g c =
+    let row = row_cut_off c.args.engine.state c.args.bytes.items c.deref.result.now c.in-Bad.count c.remake_row.new.engine
+    c.in_ok-end.field-0 c.in_ok-end.ensures c.in-Bad.is c.deref.ensures.value in
+    omega (arith, row.within, c.args.bytes.ok, c.args.bytes.small)
 
--- all records lead on, wherever they stand
-pub returns-clause-leads : goal.returns-clause-leads
-returns-clause-leads g c =
-    all_lead_to c.items.ensures c.in_ok-count.ensures (c.all_lead.ensures.0 c.if-not-all_lead.false).0
-    (ap (λ (k : Kept). k.state) c.of.ensures.kept) c.into_items.ensures
+-- a record leads nowhere, or none stands at an open gate
+pub returns-in-Bad-clause-row : goal.returns-in-Bad-clause-row
+returns-in-Bad-clause-row g c = λ file short are within.
+    let row = row_cut_off c.args.engine.state c.args.bytes.items c.deref.result.now c.in-Bad.count c.remake_row.new.engine
+    c.in_ok-end.field-0 c.in_ok-end.ensures c.in-Bad.is c.deref.ensures.value in
+    row_is_bad row are refl
+
+-- or all records lead on: each has a text,
+pub returns-in-Closed-clause-with_text : goal.returns-in-Closed-clause-with_text
+returns-in-Closed-clause-with_text g c =
+    let row = row_remade c.args.engine.state c.args.bytes.items c.deref.result.now c.in-Closed.end c.remake_row.new.engine
+    c.in_ok-end.field-0 c.in_ok-end.ensures c.in-Closed.is c.deref.ensures.value in
+    held_texts row c.new.ensures
+
+-- they lead on wherever they stand,
+pub returns-in-Closed-clause-leads : goal.returns-in-Closed-clause-leads
+returns-in-Closed-clause-leads g c =
+    let row = row_remade c.args.engine.state c.args.bytes.items c.deref.result.now c.in-Closed.end c.remake_row.new.engine
+    c.in_ok-end.field-0 c.in_ok-end.ensures c.in-Closed.is c.deref.ensures.value in
+    held_lead row c.new.ensures (ap (λ (k : Kept). k.state) c.of.ensures.kept)
 
 -- and so they do in the file
-pub returns-clause-row : goal.returns-clause-row
-returns-clause-row g c = λ file short are within.
-    row_leads file _ _ c.args.place _ _ _ _ _ _ are within (c.in_ok-scan.ensures.scan file short are) c.items.ensures
-    c.in_ok-count.ensures _ _ c.is_within-has_gate.result (c.all_lead.ensures.0 c.if-not-all_lead.false)
-    c.is_within-has_gate.ensures refl c.of.ensures.kept c.into_items.ensures
+pub returns-in-Closed-clause-row : goal.returns-in-Closed-clause-row
+returns-in-Closed-clause-row g c = λ file short are within.
+    let row = row_remade c.args.engine.state c.args.bytes.items c.deref.result.now c.in-Closed.end c.remake_row.new.engine
+    c.in_ok-end.field-0 c.in_ok-end.ensures c.in-Closed.is c.deref.ensures.value in
+    row_leads row c.new.ensures short are within c.saturating_add.ensures
+    (omega (arith, c.len.ensures, c.args.bytes.ok)) refl c.of.ensures.kept refl
