@@ -40,25 +40,14 @@ records_lead start end [] is = is
 records_lead start end (r ∷ records) (mid, leads, more) =
     lead_then start mid end r.entries (entries_of records) leads.entries (records_lead mid end records more)
 
--- from the same state, by the same records
-pub lead_from : {start same : State} {records others : List Record} (end : State) → start ≡ same → records ≡ others
-    → LeadOnBy same (entries_of others) end → LeadOnBy start (entries_of records) end
-lead_from {start} {others = others} end is are lead =
-    subst (λ (l : List Record). LeadOnBy start (entries_of l) end) (sym are)
-    (subst (λ (s : State). LeadOnBy s (entries_of others) end) (sym is) lead)
+-- from the same state
+pub lead_from : {start same : State} (records : List Record) (end : State) → start ≡ same → LeadOnBy same (entries_of records) end
+    → LeadOnBy start (entries_of records) end
+lead_from records end is lead = subst (λ (s : State). LeadOnBy s (entries_of records) end) (sym is) lead
 
-pub changes_from : {start same : State} {records others : List Record} (end : State) (list : List Item) → start ≡ same
-    → records ≡ others
-    → AreChangeItems start (entries_of records) end list → AreChangeItems same (entries_of others) end list
-changes_from {start} {others = others} end list is are items =
-    subst (λ (s : State). AreChangeItems s (entries_of others) end list) is
-    (subst (λ (l : List Record). AreChangeItems start (entries_of l) end list) are items)
-
-entries_of-append : (before after : List Record) → entries_of (before ++ after) ≡ entries_of before ++ entries_of after
-entries_of-append [] after = refl
-entries_of-append (r ∷ before) after =
-    ap (λ (l : List Entry). r.entries ++ l) (entries_of-append before after)
-    ∙ sym (append_assoc r.entries (entries_of before) (entries_of after))
+pub changes_from : {start same : State} (records : List Record) (end : State) (list : List Item) → start ≡ same
+    → AreChangeItems start (entries_of records) end list → AreChangeItems same (entries_of records) end list
+changes_from records end list is items = subst (λ (s : State). AreChangeItems s (entries_of records) end list) is items
 
 -- items of changes behind others
 changes_then : (start mid end : State) (es fs : List Entry) (first second : List Item) → AreChangeItems start es mid first
@@ -181,6 +170,20 @@ module _ {World : Type 0} {outside : Ghosts World} where
           gave = gave_then so_far.gave (gave_no_more later now.gave);
         }
 
+  -- memory ran out before the next
+  pub underway_short : {old now : World} {start : State} {entries before left : List Entry} {engine : SpendableState}
+      → Underway outside old now start entries before left engine → outside.failed now ≡ false → (end : State)
+      → LeadOnBy start entries end → GaveChanges outside old now start entries end (Err faults.NoMemory)
+  underway_short {old} {now} {start} {entries} {before} {left} {engine} so_far intact end lead =
+      let (later, are) = some_changes engine.state end left (so_far.leads end lead) in
+      let all : AreChangeItems start (before ++ left) end (so_far.items ++ later) =
+      changes_then start engine.state end before left so_far.items later so_far.are_items are in
+      record {
+        items = so_far.items ++ later;
+        are_items = subst (λ (l : List Entry). AreChangeItems start l end (so_far.items ++ later)) (sym so_far.split) all;
+        gave = gave_then so_far.gave (gave_none later intact);
+      }
+
   -- all were made again
   module _ {old now : World} {start : State} {entries before left : List Entry} {engine : SpendableState}
       (so_far : Underway outside old now start entries before left engine) (none : left ≡ []) (end : State)
@@ -227,13 +230,7 @@ module _ {X : Type 0} (list : List X) (i : ℕ) (x : X) (lt : i < length list) (
   pub next_taken : take (i + 1) list ≡ take i list ++ x ∷ []
   next_taken = take_more list i x lt ∙ ap (λ (y : X). take i list ++ y ∷ []) (sym is)
 
--- the entries of a record
-module _ (records : List Record) (i : ℕ) (r : Record) (lt : i < length records) (is : r ≡ slice_index_or records i r)
-    (these : List Entry) (are : these ≡ r.entries) where
-  pub record_left : entries_of (drop i records) ≡ these ++ entries_of (drop (i + 1) records)
-  record_left = ap entries_of (next_left records i r lt is) ∙ ap (λ (l : List Entry). l ++ entries_of (drop (i + 1) records)) (sym are)
-
-  pub record_taken : entries_of (take (i + 1) records) ≡ entries_of (take i records) ++ these
-  record_taken =
-      ap entries_of (next_taken records i r lt is) ∙ entries_of-append (take i records) (r ∷ [])
-      ∙ ap (λ (l : List Entry). entries_of (take i records) ++ l) (append-nil r.entries ∙ sym are)
+-- the entries of a record that was read, and of those behind it
+pub next_entries : {records left : List Record} {r : Record} (these : List Entry) → records ≡ r ∷ left → these ≡ r.entries
+    → entries_of records ≡ these ++ entries_of left
+next_entries {left = left} these is are = ap entries_of is ∙ ap (λ (l : List Entry). l ++ entries_of left) (sym are)

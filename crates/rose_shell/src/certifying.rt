@@ -1,6 +1,6 @@
 //! The word `certify`: gives the certificate of what the newest file keeps, and takes nothing. Behind the start the state that the
-//! journal begins with is held and goes on from change to change, and the records are; of the text no more than the items of one
-//! change and one line.
+//! journal begins with is held and goes on from change to change, with the bytes of the records and one record at a time; of the
+//! text no more than the items of one change and one line.
 ghost use Rattle.std.specs.Prelude.{◌≡◌, ◌≢◌, ◌⊎◌, ◌++◌, ◌∷◌, [], false, List, OnOk};
 ghost use Rattle.outside_world.specs.Counts.{Rose};
 ghost use Rattle.outside_world.specs.GoesOn.{GoesOn};
@@ -24,8 +24,9 @@ use crate::status::Status;
 use outside_world::Outside;
 use realm_audit::Item;
 use realm_insert::Engine;
+use realm_journal::Records;
 use realm_store::{Journal, Started, Store};
-use record_codec::{Entry, Record, Snapshot};
+use record_codec::{Entry, Snapshot};
 use std::alloc::Global;
 use std::thread::Threads;
 use store_certificate::{certify_entry, engine_at};
@@ -66,14 +67,14 @@ fn give_journal<R: Threads + Sync, W: Outside>(
 ) -> Status
     requires intact { W.failed world.old ≡ false }
     requires valid { IsValidState (state_of started.journal.base) }
-    requires leads { LeadOn meaning (state_of started.journal.base) started.journal.records.items
+    requires leads { LeadOn meaning (state_of started.journal.base) started.journal.records
         started.store.kept.state }
     ensures ends { (result ≡ Status.Done) ⊎ ((result ≡ Status.SinkFault) ⊎ (result ≡ Status.NoMemory)) }
     ensures intact { ¬ (TellsFault result) → W.failed world.new ≡ false }
     ensures sink_fault { result ≡ Status.SinkFault
         → Rose (W.sink_faults world.old) (W.sink_faults world.new) }
     ensures told { W.tells world.new → (list : List Seen)
-        × IsCertificate started.journal.base started.journal.records.items started.store.kept.state list
+        × IsCertificate started.journal.base started.journal.records started.store.kept.state list
         × GivesItems (W.view world.old) (W.view world.new) list result }
     ensures goes_on { GoesOn ⟦<W as Outside>⟧ world.old world.new }
 {
@@ -92,10 +93,10 @@ fn give_certificate<R: Threads + Sync, W: Outside>(
 ) -> Result<(), Fault>
     requires intact { W.failed world.old ≡ false }
     requires valid { IsValidState (state_of started.journal.base) }
-    requires leads { LeadOn meaning (state_of started.journal.base) started.journal.records.items
+    requires leads { LeadOn meaning (state_of started.journal.base) started.journal.records
         started.store.kept.state }
     ensures { (list : List Seen)
-        × IsCertificate started.journal.base started.journal.records.items started.store.kept.state list
+        × IsCertificate started.journal.base started.journal.records started.store.kept.state list
         × GaveItems ⟦<W as Outside>⟧ world.old world.new list result }
 {
     let Started { store, journal } = started;
@@ -103,7 +104,7 @@ fn give_certificate<R: Threads + Sync, W: Outside>(
     let Journal { base, records } = journal;
     give_opening(alloc, world, &base)?;
     let engine = engine_at(alloc, base)?;
-    give_behind(rt, alloc, world, engine, &records)
+    give_behind(rt, alloc, world, engine, records)
 }
 
 // Gives the lines of the state at the beginning.
@@ -122,35 +123,36 @@ fn give_behind<R: Threads + Sync, W: Outside>(
     alloc: Global,
     world: &mut W,
     engine: Engine,
-    records: &[Record],
+    records: Records,
 ) -> Result<(), Fault>
     requires intact { W.failed world.old ≡ false }
     requires ready { engine.spent ≡ false }
-    requires leads { (end : State) × LeadOnBy engine.state (entries_of records.now) end }
-    ensures { (end : State) → LeadOnBy engine.state (entries_of records.now) end
-        → (changes : List Seen) × AreChangeItems engine.state (entries_of records.now) end changes
+    requires leads { (end : State) × LeadOnBy engine.state (entries_of records) end }
+    ensures { (end : State) → LeadOnBy engine.state (entries_of records) end
+        → (changes : List Seen) × AreChangeItems engine.state (entries_of records) end changes
         × GaveItems ⟦<W as Outside>⟧ world.old world.new (changes ++ items.End ∷ []) result }
 {
     let mut engine = engine;
-    give_changes(rt, alloc, world, &mut engine, records)?;
+    let mut records = records;
+    give_changes(rt, alloc, world, &mut engine, &mut records)?;
     give_item(alloc, world, &Item::End)
 }
 
-// Gives the lines of the changes of these records, which are made again one after another.
+// Gives the lines of the changes of these records, which are read and made again one after another.
 fn give_changes<R: Threads + Sync, W: Outside>(
     rt: &R,
     alloc: Global,
     world: &mut W,
     engine: &mut Engine,
-    records: &[Record],
+    records: &mut Records,
 ) -> Result<(), Fault>
     requires intact { W.failed world.old ≡ false }
     requires ready { engine.old.spent ≡ false }
-    requires leads { (end : State) × LeadOnBy engine.old.state (entries_of records.now) end }
-    ensures { (end : State) → LeadOnBy engine.old.state (entries_of records.now) end
-        → GaveChanges ⟦<W as Outside>⟧ world.old world.new engine.old.state (entries_of records.now) end result }
+    requires leads { (end : State) × LeadOnBy engine.old.state (entries_of records.old) end }
+    ensures { (end : State) → LeadOnBy engine.old.state (entries_of records.old) end
+        → GaveChanges ⟦<W as Outside>⟧ world.old world.new engine.old.state (entries_of records.old) end result }
 {
-    for record in records {
+    while let Some(record) = records.next_record(alloc)? {
         give_entries(rt, alloc, world, engine, record.entries.entries())?;
     }
     Ok(())

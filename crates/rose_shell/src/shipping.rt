@@ -19,7 +19,7 @@ use crate::frames::give_frames;
 use crate::status::Status;
 use grid_base::NoMemory;
 use outside_world::Outside;
-use realm_store::{Journal, Store};
+use realm_store::{Journal, Started, Store};
 use standby_core::{Frame, frames_for};
 use std::alloc::Global;
 use std::thread::Threads;
@@ -51,7 +51,7 @@ pub(crate) fn ship<R: Threads + Sync, W: Outside>(
     ensures goes_on { GoesOn ⟦<W as Outside>⟧ world.old world.new }
 {
     match Store::start_with_journal(rt, alloc, world) {
-        Ok(started) => match lacking(alloc, &started.store, &started.journal, changes) {
+        Ok(started) => match lacking(alloc, started, changes) {
             Ok(frames) => give_frames(alloc, world, &frames),
             Err(NoMemory) => Status::NoMemory,
         },
@@ -59,19 +59,18 @@ pub(crate) fn ship<R: Threads + Sync, W: Outside>(
     }
 }
 
-// The frames of the store with this journal that a follower with so many changes lacks.
-fn lacking(
-    alloc: Global,
-    store: &Store,
-    journal: &Journal,
-    changes: u64,
-) -> Result<Vec<Frame>, NoMemory>
-    requires ready { store.now.spent ≡ false }
-    requires records { All IsRecord journal.now.records.items }
-    ensures sent { IfOk result (λ frames. (now : Snapshot) × (state_of now ≡ present store.now)
-        × AreSent journal.now.base.changes journal.now.records.items now changes frames.items) }
+// The frames of what was started that a follower with so many changes lacks. The store is let go of before.
+fn lacking(alloc: Global, started: Started, changes: u64) -> Result<Vec<Frame>, NoMemory>
+    requires ready { started.store.spent ≡ false }
+    requires records { All IsRecord started.journal.records }
+    ensures sent { IfOk result (λ frames. (now : Snapshot) × (state_of now ≡ present started.store)
+        × AreSent started.journal.base.changes started.journal.records now changes frames.items) }
     ensures with_text { IfOk result (λ frames. All HasText frames.items) }
 {
+    let Started { store, journal } = started;
     let now = store.state().snapshot()?;
-    frames_for(alloc, journal.base.changes, &journal.records, &now, changes)
+    drop(store);
+    let Journal { base, records } = journal;
+    let list = records.into_list(alloc)?;
+    frames_for(alloc, base.changes, &list, &now, changes)
 }

@@ -10,7 +10,7 @@ use Rattle.rose_shell.proofs.certifying.give_certificate.Goals as goal
 pub returns-in_err-give_opening : goal.returns-in_err-give_opening
 returns-in_err-give_opening g c =
     let base = c.args.started.journal.base in
-    let records = c.args.started.journal.records.items in
+    let records = c.args.started.journal.records in
     let end = c.args.started.store.kept.state in
     let (changes, are) = some_changes (state_of base) end (entries_of records) (records_lead (state_of base) end records c.requires.leads) in (
       opening_items base ++ (changes ++ items.End ∷ []),
@@ -22,7 +22,7 @@ returns-in_err-give_opening g c =
 pub returns-in_err-engine : goal.returns-in_err-engine
 returns-in_err-engine g c =
     let base = c.args.started.journal.base in
-    let records = c.args.started.journal.records.items in
+    let records = c.args.started.journal.records in
     let end = c.args.started.store.kept.state in
     let (changes, are) = some_changes (state_of base) end (entries_of records) (records_lead (state_of base) end records c.requires.leads) in
     let opening = c.in_ok-give_opening.ensures in (
@@ -36,22 +36,22 @@ returns-in_err-engine g c =
 pub give_behind-requires-clause-leads : goal.give_behind-requires-clause-leads
 give_behind-requires-clause-leads g c κs within =
     let base = c.args.started.journal.base in
-    let records = c.args.started.journal.records.items in
+    let records = c.args.started.journal.records in
     let end = c.args.started.store.kept.state in (
       end,
-      lead_from end c.in_ok-engine.ensures.made.1 c.deref.ensures.value (records_lead (state_of base) end records c.requires.leads),
+      lead_from records end c.in_ok-engine.ensures.made.1 (records_lead (state_of base) end records c.requires.leads),
     )
 
 -- and the changes are told behind it
 pub returns : goal.returns
 returns g c =
     let base = c.args.started.journal.base in
-    let records = c.args.started.journal.records.items in
+    let records = c.args.started.journal.records in
     let end = c.args.started.store.kept.state in
     let at = c.in_ok-engine.ensures.made.1 in
-    let lead = lead_from end at c.deref.ensures.value (records_lead (state_of base) end records c.requires.leads) in
+    let lead = lead_from records end at (records_lead (state_of base) end records c.requires.leads) in
     let (changes, are, gave) = c.give_behind.ensures end lead in (
       opening_items base ++ (changes ++ items.End ∷ []),
-      (changes, changes_from end changes at c.deref.ensures.value are, refl),
+      (changes, changes_from records end changes at are, refl),
       gave_then c.in_ok-give_opening.ensures gave,
     )

@@ -23,7 +23,7 @@ returns-in-Ok-lacking-clause-told g c = λ tells.
       kept = kept;
       rests = started.stands.0;
       base = c.in-Ok.started.journal.base;
-      records = c.in-Ok.started.journal.records.items;
+      records = c.in-Ok.started.journal.records;
       journal = c.in-Ok.ensures.journal then;
       now = sent.0;
       is_present = sent.1 ∙ present_alone c.in-Ok.started.store c.in-Ok.ensures.no_group;
@@ -47,19 +47,19 @@ returns-in-Ok-lacking-clause-complete g c = λ tells sink disk state stands.
     ]
 
 -- the disk didn't fail, and the file isn't damaged
-pub returns-clause-complete : goal.returns-clause-complete
-returns-clause-complete g c = λ tells sink disk state stands.
+pub returns-in-Err-clause-complete : goal.returns-in-Err-clause-complete
+returns-in-Err-clause-complete g c = λ tells sink disk state stands.
     unstarted c.in-Err.error c.from.ensures
     (λ is. disk (c.in-Err.ensures.disk_fault (ap Err is)))
     (λ d is. one_reading d _ state ((c.in-Err.ensures.told tells).damaged d (ap Err is)) stands)
 
 -- where no store is started, the cause is told
-pub returns-clause-damaged : goal.returns-clause-damaged
-returns-clause-damaged g c = λ d is tells.
+pub returns-in-Err-clause-damaged : goal.returns-in-Err-clause-damaged
+returns-in-Err-clause-damaged g c = λ d is tells.
     (c.in-Err.ensures.told tells).damaged d (ap Err (damaged_at_start c.in-Err.error _ d c.from.ensures is))
 
-pub returns-clause-told : goal.returns-clause-told
-returns-clause-told g c = λ tells.
+pub returns-in-Err-clause-told : goal.returns-in-Err-clause-told
+returns-in-Err-clause-told g c = λ tells.
     let started = c.in-Err.ensures.told tells in
     let outside = g.met.W.Outside in
     inl (not_begun c.in-Err.error _ c.from.ensures started.asks (λ d is. (
