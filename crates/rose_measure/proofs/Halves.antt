@@ -1,12 +1,12 @@
 -- This file shows that the parts that a part is cut into have all its points that count.
-use Rattle.std.proofs.Common.{◌≡◌, ◌⊎◌, ℕ, ◌+◌, ◌<◌, ◌≤◌, List, [], ◌∷◌, ◌++◌, map, take, get_or, length, All, Contains}
+use Rattle.std.proofs.Common.{◌≡◌, ℕ, ◌+◌, ◌<◌, ◌≤◌, List, [], ◌∷◌, ◌++◌, map, take, get_or, length, All}
 use Rattle.std.proofs.Common.{sym, subst, ap, ◌∙◌, inl, inr, ⊎_elim, arith}
 use Rattle.std.proofs.lemmas.List.{map-append, take_more}
 use Rattle.std.proofs.lemmas.Bool.{cases_lt}
 use Rattle.std.proofs.lemmas.List.Elements.{All-append, All-cons, All-nil, All-weaker, All-contains}
 use Rattle.std.proofs.lemmas.List.Elements.{Contains-append_left, Contains-append_right, Contains-append_cases}
 use Rattle.grid_base.specs.Point.{GridPoint, point_at}
-use Rattle.rose_measure.specs.Extremes.{boxed, IsInBounds, IsSeen, AreHalves}
+use Rattle.rose_measure.specs.Extremes.{boxed, IsInBounds, AreHalves}
 
 -- ---- one element after another
 -- what holds of the points so far, and of the next, holds of them all

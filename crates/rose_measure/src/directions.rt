@@ -1,13 +1,13 @@
-//! Parts that lie apart along a direction. A box round points on a slanting line is much wider than the line, so
-//! boxes alone don't show how far two such lines are apart; a direction from one to the other does.
-ghost use Rattle.std.specs.Prelude.{◌≡◌, ◌+◌, ◌*◌, ◌<◌, ◌≤◌, ◌^◌, All, IsTrue, map};
+//! Parts along a direction. A box round points on a slanting line is much wider than the line, so boxes alone
+//! don't show how far two such lines are apart; a direction from one to the other does, and the one across it.
+ghost use Rattle.std.specs.Prelude.{◌≡◌, ℕ, ◌+◌, ◌*◌, ◌<◌, ◌≤◌, ◌^◌, All, IsTrue, map, not};
 ghost use Rattle.grid_base.specs.Grid.{grid_side, product_bound, side_bound};
-ghost use Rattle.grid_base.specs.Point.{GridPoint};
+ghost use Rattle.grid_base.specs.Point.{GridPoint, gap, point_at};
 ghost use Rattle.rose_measure.specs.Numbers.{squared_distance};
 ghost use Rattle.rose_measure.specs.Extremes.{boxed, IsInBounds, IsSeen};
 ghost use Rattle.rose_measure.specs.Directions.{along, counted};
 
-use crate::apart::least_apart;
+use crate::apart::{least_apart, most_apart};
 use crate::parts::{Bounds, Part, Placed};
 use grid_base::{GRID_SIDE, Point};
 
@@ -37,9 +37,37 @@ pub(crate) fn lies_apart<'a, T: Placed>(
         return false;
     }
     let way = way_between(&first.bounds, &second.bounds);
-    let behind = last_along(first, &way);
-    let ahead = first_along(second, &way);
+    let behind = span_along(first, &way).last;
+    let ahead = span_along(second, &way).first;
     is_gap(&way.steps, ahead.saturating_sub(behind), found)
+}
+
+// Whether the two parts lie no farther apart than what was found, as seen along the way from one box to the
+// other and across it. It isn't looked at where the boxes reach much farther, nor where one list is twice as
+// long, since that one is halved next.
+pub(crate) fn lies_within<'a, T: Placed>(
+    first: &Part<'a, T>,
+    second: &Part<'a, T>,
+    found: u64,
+) -> bool
+    ensures { IsTrue result → (p q : GridPoint)
+        → IsSeen (boxed (map (T.place_at first.now.end) first.now.list.now)
+        first.now.bounds.low first.now.bounds.high) p
+        → IsSeen (boxed (map (T.place_at second.now.end) second.now.list.now)
+        second.now.bounds.low second.now.bounds.high) q
+        → squared_distance p q ≤ found }
+{
+    if first.list.len() / 2 >= second.list.len() {
+        return false;
+    }
+    if most_apart(&first.bounds, &second.bounds) / 9 > found / 8 {
+        return false;
+    }
+    let way = way_between(&first.bounds, &second.bounds);
+    let turned = across(&way);
+    let long = reach_along(&span_along(first, &way), &span_along(second, &way));
+    let wide = reach_along(&span_along(first, &turned), &span_along(second, &turned));
+    has_both(&way.steps, long, wide, found)
 }
 
 // Whether so much along a direction that goes so many columns and rows is at least the distance.
@@ -52,6 +80,25 @@ fn is_gap(steps: &Point, gap: u64, found: u64) -> bool
     length > 0 && u128::from(found) * u128::from(length) <= u128::from(gap) * u128::from(gap)
 }
 
+// Whether so much along a direction, and so much across it, is at most the distance.
+fn has_both(steps: &Point, long: u64, wide: u64, found: u64) -> bool
+    requires { (long < side_bound) × (wide < side_bound) }
+    ensures { IsTrue result → (0 < steps.now.x * steps.now.x + steps.now.y * steps.now.y)
+        × (long * long + wide * wide ≤ found * (steps.now.x * steps.now.x + steps.now.y * steps.now.y)) }
+{
+    let length = length_squared(steps);
+    length > 0 && square_of(long) + square_of(wide) <= u128::from(found) * u128::from(length)
+}
+
+// The square of so much along a direction.
+fn square_of(n: u64) -> u128
+    requires { n < side_bound }
+    ensures square { result ≡ n * n }
+    ensures below { result < side_bound * side_bound }
+{
+    u128::from(n) * u128::from(n)
+}
+
 // The square of how long the steps are.
 fn length_squared(steps: &Point) -> u64
     ensures square { result ≡ steps.now.x * steps.now.x + steps.now.y * steps.now.y }
@@ -60,8 +107,11 @@ fn length_squared(steps: &Point) -> u64
     times(steps.x(), steps.x()) + times(steps.y(), steps.y())
 }
 
-// The direction from the middle of one box to the middle of the other.
-fn way_between(first: &Bounds, second: &Bounds) -> Direction {
+// The direction from the middle of one box to the middle of the other. Both boxes are on the grid.
+fn way_between(first: &Bounds, second: &Bounds) -> Direction
+    ensures on_grid { (first.now.high.x < grid_side) × (first.now.high.y < grid_side) }
+    ensures both { (second.now.high.x < grid_side) × (second.now.high.y < grid_side) }
+{
     let (p, q) = (middle(first), middle(second));
     Direction {
         steps: Point::at(q.x().abs_diff(p.x()), q.y().abs_diff(p.y())),
@@ -70,66 +120,82 @@ fn way_between(first: &Bounds, second: &Bounds) -> Direction {
     }
 }
 
+// The direction across it, to its right or to its left.
+fn across(way: &Direction) -> Direction
+    ensures steps { result.steps ≡ point_at way.now.steps.y way.now.steps.x }
+    ensures left { result.left ≡ not way.now.left }
+    ensures down { result.down ≡ way.now.down }
+{
+    Direction {
+        steps: Point::at(way.steps.y(), way.steps.x()),
+        left: !way.left,
+        down: way.down,
+    }
+}
+
 // The middle of a box.
-fn middle(bounds: &Bounds) -> Point {
+fn middle(bounds: &Bounds) -> Point
+    ensures on_grid { (bounds.now.high.x < grid_side) × (bounds.now.high.y < grid_side) }
+{
     let (low, high) = (bounds.low, bounds.high);
     Point::at(low.x() / 2 + high.x() / 2, low.y() / 2 + high.y() / 2)
 }
 
-// How far along the direction the last point of the part is; 0 where none counts.
-fn last_along<T: Placed>(part: &Part<'_, T>, way: &Direction) -> u64
-    ensures last { All (λ p. IsInBounds part.now.bounds.low part.now.bounds.high p
-        → along way.now.steps way.now.left way.now.down p ≤ result)
-        (map (T.place_at part.now.end) part.now.list.now) }
-    ensures below { result < side_bound }
-{
-    let mut last = 0;
-    for item in part.list {
-        last = later(way, &part.bounds, &item.place(part.end), last);
-    }
-    last
+// Where points along a direction begin, and where they end.
+#[derive(Clone, Copy)]
+pub(crate) struct Span {
+    pub(crate) first: u64,
+    pub(crate) last: u64,
 }
 
-// The place of the point along the direction, if it is in the box and farther than the last one.
-fn later(way: &Direction, bounds: &Bounds, p: &Point, last: u64) -> u64
-    requires { last < side_bound }
-    ensures has { IsInBounds bounds.now.low bounds.now.high p.now
-        → along way.now.steps way.now.left way.now.down p.now ≤ result }
-    ensures keeps { last ≤ result }
+// How far apart along a direction the points of two spans are at most.
+fn reach_along(some: &Span, others: &Span) -> u64
+    requires { (some.now.last < side_bound) × (others.now.last < side_bound) }
+    ensures most { (m n : ℕ) → some.now.first ≤ m → m ≤ some.now.last → others.now.first ≤ n
+        → n ≤ others.now.last → gap m n ≤ result }
     ensures below { result < side_bound }
+{
+    let onward = others.last.saturating_sub(some.first);
+    let back = some.last.saturating_sub(others.first);
+    onward.max(back)
+}
+
+// Where the points of the part begin along the direction, and where they end; all is behind its beginning
+// where none counts.
+fn span_along<T: Placed>(part: &Part<'_, T>, way: &Direction) -> Span
+    ensures has { All (λ p. IsInBounds part.now.bounds.low part.now.bounds.high p
+        → (result.first ≤ along way.now.steps way.now.left way.now.down p)
+        × (along way.now.steps way.now.left way.now.down p ≤ result.last))
+        (map (T.place_at part.now.end) part.now.list.now) }
+    ensures below { (result.first < side_bound) × (result.last < side_bound) }
+{
+    let mut span = Span {
+        first: FARTHEST,
+        last: 0,
+    };
+    for item in part.list {
+        span = stretched(&span, way, &part.bounds, &item.place(part.end));
+    }
+    span
+}
+
+// The span with the place of the point along the direction, if it is in the box.
+fn stretched(span: &Span, way: &Direction, bounds: &Bounds, p: &Point) -> Span
+    requires { (span.now.first < side_bound) × (span.now.last < side_bound) }
+    ensures has { IsInBounds bounds.now.low bounds.now.high p.now
+        → (result.first ≤ along way.now.steps way.now.left way.now.down p.now)
+        × (along way.now.steps way.now.left way.now.down p.now ≤ result.last) }
+    ensures keeps { (result.first ≤ span.now.first) × (span.now.last ≤ result.last) }
+    ensures below { (result.first < side_bound) × (result.last < side_bound) }
 {
     if !bounds.has(p) {
-        return last;
+        return *span;
     }
-    last.max(place_along(way, p))
-}
-
-// How far along the direction the first point of the part is; the farthest of all where none counts.
-fn first_along<T: Placed>(part: &Part<'_, T>, way: &Direction) -> u64
-    ensures first { All (λ p. IsInBounds part.now.bounds.low part.now.bounds.high p
-        → result ≤ along way.now.steps way.now.left way.now.down p)
-        (map (T.place_at part.now.end) part.now.list.now) }
-    ensures below { result < side_bound }
-{
-    let mut first = FARTHEST;
-    for item in part.list {
-        first = earlier(way, &part.bounds, &item.place(part.end), first);
+    let place = place_along(way, p);
+    Span {
+        first: span.first.min(place),
+        last: span.last.max(place),
     }
-    first
-}
-
-// The place of the point along the direction, if it is in the box and before the first one.
-fn earlier(way: &Direction, bounds: &Bounds, p: &Point, first: u64) -> u64
-    requires { first < side_bound }
-    ensures has { IsInBounds bounds.now.low bounds.now.high p.now
-        → result ≤ along way.now.steps way.now.left way.now.down p.now }
-    ensures keeps { result ≤ first }
-    ensures below { result < side_bound }
-{
-    if !bounds.has(p) {
-        return first;
-    }
-    first.min(place_along(way, p))
 }
 
 // No point is farther along a direction.

@@ -4,6 +4,7 @@ ghost use Rattle.rose_values.specs.Border.{ArePointsAscending};
 use crate::paper::{realm, region};
 use grid_base::Point;
 use rose_measure::{area2, components, diameter2, dist2};
+use rose_overlay::ascending_points;
 use rose_values::{Geometry, LinesValue, PointsValue};
 use std::alloc::Global;
 use std::process::Abort;
@@ -41,6 +42,45 @@ fn nothing_has_no_distance(rt: HostRuntime) {
     let near = PointsValue::new(single(&rt, rt.alloc(), 0, 0));
     assert!(rt; dist2(&near, &none).is_none());
     assert!(rt; diameter2(&Geometry::P(none)).is_none());
+}
+
+// Points of the grid on a circle with the radius 1105 round (1105, 1105): of each row the columns and the rows of
+// four of them, and the rows and the columns of four others.
+static CIRCLE: [[u64; 4]; 13] = [
+    [1058, 1152, 1, 2209],
+    [1000, 1210, 5, 2205],
+    [936, 1274, 13, 2197],
+    [841, 1369, 32, 2178],
+    [833, 1377, 34, 2176],
+    [680, 1530, 85, 2125],
+    [637, 1573, 104, 2106],
+    [585, 1625, 130, 2080],
+    [544, 1666, 153, 2057],
+    [529, 1681, 162, 2048],
+    [442, 1768, 221, 1989],
+    [405, 1805, 250, 1960],
+    [361, 1849, 288, 1922],
+];
+
+// The point, and that with its coordinates exchanged.
+fn add_both(rt: &impl Abort, list: &mut Vec<Point>, x: u64, y: u64) {
+    list.push(Point::new(x, y).expect(rt, "a point"))
+        .expect(rt, "memory");
+    list.push(Point::new(y, x).expect(rt, "a point"))
+        .expect(rt, "memory");
+}
+
+#[test]
+fn a_circle_is_two_radii_wide(rt: HostRuntime) {
+    let mut list = Vec::new(rt.alloc());
+    for [left, right, low, high] in CIRCLE.iter() {
+        add_both(&rt, &mut list, *left, *low);
+        add_both(&rt, &mut list, *left, *high);
+        add_both(&rt, &mut list, *right, *low);
+        add_both(&rt, &mut list, *right, *high);
+    }
+    let circle = PointsValue::new(ascending_points(list));
+    assert!(rt; diameter2(&Geometry::P(circle)) == Some(2210 * 2210));
 }
 
 /// The border of a region, its area, twice, and how many faces it has.

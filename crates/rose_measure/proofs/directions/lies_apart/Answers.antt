@@ -5,5 +5,5 @@ use Rattle.rose_measure.proofs.directions.lies_apart.Goals as goal
 pub returns : goal.returns
 returns g c told =
     let shown = c.is_gap.ensures told in
-    points_apart _ _ _ _ _ _ _ _ _ _ _ _ _ c.last_along-behind.ensures.last c.first_along-ahead.ensures.first c.saturating_sub.ensures
-    shown.0 shown.1
+    points_apart _ _ _ _ _ _ _ _ _ _ _ _ _ _ _ c.span_along-behind.ensures.has c.span_along-ahead.ensures.has
+    c.saturating_sub.ensures shown.0 shown.1
