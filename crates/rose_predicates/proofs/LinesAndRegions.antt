@@ -50,7 +50,7 @@ lines_in_region A B C lying = (
 
 -- ---- reaching into
 -- a segment that lies in the region, and not on its border, has its middle in the area
-reach_by : (A B : List GridSegment) (s : GridSegment) → AreLaid A B → Contains A s → LiesIn B s → (Contains B s → ⊥)
+pub reach_by : (A B : List GridSegment) (s : GridSegment) → AreLaid A B → Contains A s → LiesIn B s → (Contains B s → ⊥)
     → ReachesInto (L A) (R B)
 reach_by A B s h there lies absent = elim (lies (as_place (middle s)) held) [
   | inl on ↦ absurd (off on)
@@ -72,6 +72,14 @@ reaching : (A B : List GridSegment) → AreLaid A B → ReachesInto (L A) (R B)
 reaching A B h (q, (s, there, held), (free, odd)) =
     let sound = sound_line A B s h there in
     (s, there, lies_by B s sound (inr (sym (as_its_left B s q sound held free.apart) ∙ odd_is B q odd)), λ k. free.apart s k held)
+
+-- s doesn't lie in the region, or is on its border
+abbrev pub StaysOut : List GridSegment → GridSegment → Type 0
+StaysOut B s = (LiesIn B s × (Contains B s → ⊥)) → ⊥
+
+-- where each stays out, nothing of the lines is in the area
+pub none_reaches : (A B : List GridSegment) → AreLaid A B → All (StaysOut B) A → ReachesInto (L A) (R B) → ⊥
+none_reaches A B h none reach = let r = reaching A B h reach in of_each (StaysOut B) A r.0 none r.1 (r.2, r.3)
 
 -- each is in the other list, or one isn't
 all_or_other : (C B : List GridSegment) → All (Contains B) C ⊎ ((s : GridSegment) × Contains C s × (Contains B s → ⊥))

@@ -91,7 +91,7 @@ noded_back A B noded = noded_part (A ++ B) (B ++ A)
     (λ t c. elim (Contains-append_cases B A t c) [ inl k ↦ Contains-append_right A B t k | inr k ↦ Contains-append_left A B t k ]) noded
 
 -- so are the second list and a segment of either
-noded_second : (A B : List GridSegment) (s : GridSegment) → AreNoded (A ++ B) → Contains (A ++ B) s → AreNoded (s ∷ B)
+pub noded_second : (A B : List GridSegment) (s : GridSegment) → AreNoded (A ++ B) → Contains (A ++ B) s → AreNoded (s ∷ B)
 noded_second A B s noded there = noded_part (A ++ B) (s ∷ B) (with_one (A ++ B) B s there (Contains-append_right A B)) noded
 
 pub lines_inside : (A B : List GridSegment) → AreNoded (A ++ B) → AreOrdered A → All (Contains B) A ↔ IsInside (L A) (L B)

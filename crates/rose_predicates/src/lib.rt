@@ -6,6 +6,7 @@ mod enclosing;
 mod laws;
 mod members;
 mod of_boxes;
+mod of_few;
 mod of_lines;
 mod of_points;
 mod of_regions;

@@ -13,6 +13,7 @@ ghost use Rattle.rose_predicates.specs.declared.answering.HoldsError.TheVariants
 use crate::answering::HoldsError;
 use crate::members::{all_segments_in, share_segment, share_vertex};
 use crate::of_boxes::{lie_beside, reaches_out};
+use crate::of_few::{are_few, one_reaches_into};
 use grid_base::{NoMemory, Segment};
 use rose_overlay::{ascending_segments, lesser_ends_first, within};
 use rose_values::Pred;
@@ -93,6 +94,9 @@ fn reach_into(alloc: Global, lines: &[Segment], border: &[Segment]) -> Result<bo
 {
     if lie_beside(lines, border) {
         return Ok(false);
+    }
+    if are_few(lines, border) {
+        return Ok(one_reaches_into(lines, border));
     }
     lesser_ends_first(lines);
     lesser_ends_first(border);
