@@ -189,19 +189,15 @@ class Map:
 
 
 class Steady:
-    """The run that isn't killed. It is asked for one command after another, and keeps the replies since the last place. Behind each
-    checkpoint, and behind each group that is given up, it is ended by the end of its input, and started again."""
+    """The run that isn't killed. It is asked for one command after another, and keeps the replies since the last place."""
 
     def __init__(self, program, folder, author):
-        self.program, self.folder, self.author = program, folder, author
-        self.start()
+        self.author = author
+        self.run = subprocess.Popen([program, "run"], cwd=folder, stdin=subprocess.PIPE, stdout=subprocess.PIPE)
         self.commands, self.replies = [], []
         # Of each commit since the last place, that before it first: the changes that there are then, and the commands up to it.
         self.behind, self.dropped = {0: 0}, 0
         self.commits = self.checkpoints = self.given_up = 0
-
-    def start(self):
-        self.run = subprocess.Popen([self.program, "run"], cwd=self.folder, stdin=subprocess.PIPE, stdout=subprocess.PIPE)
 
     def stop(self):
         self.run.stdin.close()
@@ -209,7 +205,7 @@ class Steady:
             raise SystemExit(f"the run that isn't killed ended with status {self.run.returncode}")
 
     def more(self):
-        """Makes up one command and has it answered. True where the run was ended behind it."""
+        """Makes up one command and has it answered. True behind each checkpoint, and behind each group that is given up."""
         command = self.author.command()
         reply = self.ask(command)
         if command == b"checkpoint\n" and reply == b"ok checkpoint\n":
@@ -219,8 +215,6 @@ class Steady:
             self.ask(questions(self.author))
         else:
             return False
-        self.stop()
-        self.start()
         return True
 
     def ask(self, command):
@@ -299,7 +293,7 @@ class Soak:
         self.kept = self.kills = self.more = self.waited = 0
 
     def go_on(self):
-        """Makes up commands to where the steady run is ended."""
+        """Makes up commands up to the next checkpoint, or the next group that is given up."""
         while not self.steady.more():
             pass
 
