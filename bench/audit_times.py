@@ -42,36 +42,40 @@ def replies(count):
     return "".join("ok %d steps 0 first %d new 1\n" % (number, number) for number in range(1, count + 1))
 
 
-def timed(options, word, text, wanted):
-    """The least processor seconds of some runs, and the greatest memory in MB. The reply must be this one."""
+def works(count, seed):
+    """What is run of so many segments: a name, the word, the lines and the reply that they must get."""
+    drawn = list(apart(count, random.Random(seed)))
+    return [("run", "run", as_lines(drawn), replies(count)),
+            ("audit, changes", "audit", as_changes(drawn), f"sound {count} 0\n"),
+            ("audit, beginning", "audit", as_beginning(drawn), "sound 0 0\n")]
+
+
+def once(options, word, text, wanted):
+    """Processor seconds of one run, and its memory in MB. The reply must be this one."""
     with tempfile.NamedTemporaryFile("w", suffix=".txt") as file:
         file.write(text)
         file.flush()
-        runs = [segments.run(options.program, file, options.folder, word) for _ in range(options.times)]
-    for output, _, _ in runs:
-        if output != wanted.encode():
-            raise SystemExit(f"{word} answers {output[-80:]!r} at last, and not {wanted[-80:]!r}")
-    return min(seconds for _, seconds, _ in runs), max(memory for _, _, memory in runs) / 1e6
+        output, seconds, memory = segments.run(options.program, file, options.folder, word)
+    if output != wanted.encode():
+        raise SystemExit(f"{word} answers {output[-80:]!r} at last, and not {wanted[-80:]!r}")
+    return seconds, memory / 1e6
 
 
 def main():
     parser = argparse.ArgumentParser(description=__doc__)
     parser.add_argument("program")
     parser.add_argument("--counts", type=int, nargs="+", default=[10000, 100000])
-    parser.add_argument("--times", type=int, default=3, help="how often each is run; its best time counts")
+    parser.add_argument("--times", type=int, default=9, help="how often all are run, in turn; the best time of each counts")
     parser.add_argument("--seed", type=int, default=7)
     parser.add_argument("--folder", help="where the runs keep their files; best in memory, since each change waits for the disk")
     options = parser.parse_args()
     options.program = os.path.abspath(options.program)
-    print("segments what               seconds      MB  seconds by run  MB by run")
-    for count in options.counts:
-        drawn = list(apart(count, random.Random(options.seed)))
-        first = timed(options, "run", as_lines(drawn), replies(count))
-        rows = [("run", *first), ("audit, changes", *timed(options, "audit", as_changes(drawn), f"sound {count} 0\n")),
-                ("audit, beginning", *timed(options, "audit", as_beginning(drawn), "sound 0 0\n"))]
-        for what, seconds, memory in rows:
-            ratios = seconds / max(first[0], 0.001), memory / first[1]
-            print(f"{count:8} {what:17} {seconds:8.3f} {memory:7.1f} {ratios[0]:15.2f} {ratios[1]:10.2f}", flush=True)
+    rows = [(count, *work) for count in options.counts for work in works(count, options.seed)]
+    rounds = [[once(options, *work) for _, _, *work in rows] for _ in range(options.times)]
+    best = [(min(seconds for seconds, _ in runs), max(memory for _, memory in runs)) for runs in zip(*rounds)]
+    print("segments what               seconds  us/segment      MB")
+    for (count, what, *_), (seconds, memory) in zip(rows, best):
+        print(f"{count:8} {what:17} {seconds:8.3f} {1e6 * seconds / count:11.2f} {memory:7.1f}")
 
 
 if __name__ == "__main__":

@@ -60,13 +60,13 @@ def lay_out(names, rows, folder):
             shutil.copytree(HOME / "crates" / part, folder / "crates" / part, symlinks=True, copy_function=os.link)
 
 
-def prove(name, lower, rows):
+def prove(name, jobs, lower, rows):
     """Proves a crate and keeps its library; the seconds that took, the number of its functions, and what went wrong."""
     begun = time.monotonic()
     with tempfile.TemporaryDirectory(dir=HOME, prefix=".proving-") as folder:
         lay_out([*lower, name], rows, pathlib.Path(folder))
         crate = pathlib.Path(folder, "crates", name)
-        done = subprocess.run(["rt", "lib", "--jobs", "1"], cwd=crate, capture_output=True, text=True)
+        done = subprocess.run(["rt", "lib", "--jobs", str(jobs)], cwd=crate, capture_output=True, text=True)
         functions = re.search(r"logic=proved functions=(\d+)", done.stdout)
         if done.returncode == 0 and functions:
             shutil.rmtree(HOME / "crates" / name / "out", ignore_errors=True)
@@ -94,9 +94,13 @@ def main():
     with concurrent.futures.ThreadPoolExecutor(options.at_once) as workers:
         while left or running:
             ready = sorted((name for name in left if proved.issuperset(uses[name])), key=longest.get, reverse=True)
+            head = max((longest[name] for name in [*left, *running.values()]), default=0)
             for name in ready[: options.at_once - len(running)]:
+                # the longest chain alone decides when the last crate is proved, so its crate gets what others leave free
+                free = options.at_once - len(running) - len(ready) + 1
+                jobs = max(2, free) if longest[name] == head else 1
                 left.remove(name)
-                running[workers.submit(prove, name, below(uses, name), rows)] = name
+                running[workers.submit(prove, name, jobs, below(uses, name), rows)] = name
             done, _ = concurrent.futures.wait(running, return_when=concurrent.futures.FIRST_COMPLETED)
             for one in done:
                 name = running.pop(one)
