@@ -305,7 +305,7 @@ def shapes(found):
     cycles_at = collections.Counter(q for _, q, _ in corners)
     return {
         "faces": len(found), "holes": len(cycles) - len(found), "faces with several holes": len(several),
-        "faces in holes of others": sum(shut for _, _, shut in found), "vertices": len(cycles_at),
+        "faces in holes of others": sum(shut for _, _, shut, *_ in found), "vertices": len(cycles_at),
         "vertices of several cycles": sum(number > 1 for number in cycles_at.values()),
         "vertices at which a cycle goes straight on": sum(straight),
     }
