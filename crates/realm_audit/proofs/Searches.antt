@@ -1,6 +1,7 @@
 -- This file shows which pieces a search has listed, and that fewer shares are left behind the place at each turn.
-use Rattle.std.proofs.Common.{◌≡◌, ℕ, ◌<◌, ◌≤◌, Bool, true, false, not, ◌&&◌, cond, Ordering, Less, Equal, Greater, List, [], ◌∷◌, length, Contains, All}
-use Rattle.std.proofs.Common.{refl, sym, ap, subst, inl, inr, arith, true≢false}
+use Rattle.std.proofs.Common.{◌≡◌, ◌<◌, ◌≤◌, Bool, true, false, not, ◌&&◌, cond, Ordering, Less, Equal, Greater, List, [], ◌∷◌, length, Contains, All}
+use Rattle.std.proofs.Common.{refl, sym, ap, subst, inl, inr, arith, true≢false, Option, Some, None}
+use Rattle.std.specs.Prelude.{⊤}
 use Rattle.std.specs.Ordering.{is_gt, is_lt, ordering_reverse}
 use Rattle.std.specs.List.{filter}
 use Rattle.std.specs.BTreeMap.Range.{range_contains}
@@ -11,11 +12,11 @@ use Rattle.grid_base.specs.Segment.{GridSegment}
 use Rattle.grid_base.proofs.Elements.{Contains-nil, Contains-cases}
 use Rattle.realm_audit.specs.Shelves.{shelf_of, share_of, IsShelved, HasShare, MeetsBounds}
 use Rattle.realm_audit.specs.Ranges.{share_cmp, shares_behind, IsUpTo, NoneBehind, IsFirstBehind}
-use Rattle.realm_audit.specs.Windows.{PassesOwn, ListsUpTo, AddsReached}
+use Rattle.realm_audit.specs.Windows.{PassesBut, ListsUpTo, ListsAll, StandsBetween, AddsReached}
 use Rattle.realm_audit.specs.declared.bounds.Bounds.{Bounds}
 use Rattle.realm_audit.specs.declared.shelves.Shelf.{Shelf}
 use Rattle.realm_audit.specs.declared.shares.Share.{Share}
-use Rattle.realm_audit.proofs.ShareOrder.{share_cmp-total, shelved_is, up_to, shelf_not_behind, up_to_or_behind, less_through}
+use Rattle.realm_audit.proofs.ShareOrder.{share_cmp-total, shelved_is, up_to, of_piece, shelf_not_behind, up_to_or_behind, less_through}
 
 -- ---- what is listed
 -- no share stands up to the first place
@@ -33,16 +34,20 @@ none_yet shares b place is = record {
       absurd (omega (arith, row));
 }
 
+-- the piece is listed, if there is one and it reaches the bounds
+abbrev pub IsListedWhere : Bounds → List GridSegment → Option GridSegment → Type 0
+IsListedWhere b list None = ⊤
+IsListedWhere b list (Some s) = MeetsBounds b s → Contains list s
+
 -- the piece of a share of the list
 shared_piece : (shares : List Share) (y : Share) → All IsShelved shares → Contains shares y → HasShare shares y.piece y.id
 shared_piece shares y shelved there =
     subst (λ (z : Share). Contains shares z) (shelved_is y (All-contains IsShelved shares y shelved there).shelf_is) there
 
--- up to the next place they are listed once the piece of the next share is, where it reaches the bounds
-pub next_listed : (shares : List Share) (b : Bounds) (at y place : Share) (list new : List GridSegment) → All IsShelved shares
-    → IsFirstBehind shares at y → PassesOwn b y place → ListsUpTo shares b at list → AddsReached b y.piece list new
-    → ListsUpTo shares b place new
-next_listed shares b at y place list new shelved first passes before adds = record {
+-- up to a share they are listed once its piece is, where it reaches the bounds
+pub next_listed : (shares : List Share) (b : Bounds) (at y : Share) (list new : List GridSegment) → All IsShelved shares
+    → IsFirstBehind shares at y → ListsUpTo shares b at list → AddsReached b y.piece list new → ListsUpTo shares b y new
+next_listed shares b at y list new shelved first before adds = record {
   lists = λ s has. elim (adds.only s has) [
     | inl had ↦ before.lists s had
     | inr here ↦
@@ -51,20 +56,37 @@ next_listed shares b at y place list new shelved first passes before adds = reco
   all = λ s x has to reaches. elim (up_to_or_behind at (share_of s x)) [
     | inl early ↦ adds.stay s (before.all s x has early reaches)
     | inr late ↦
-        let same = passes s x (All-contains IsShelved shares (share_of s x) shelved has)
-        (first.first (share_of s x) late has) to reaches in
+        let same = (of_piece y y (share_of s x) refl refl (first.first (share_of s x) late has) to).1 in
         subst (λ (t : GridSegment). Contains new t) (sym same)
         (adds.own (subst (λ (t : GridSegment). MeetsBounds b t) same reaches))
   ];
 }
 
+-- up to where the search jumps they are listed, where the piece is that it jumps over
+pub jumped_listed : (shares : List Share) (b : Bounds) (at y place : Share) (piece : Option GridSegment) (list : List GridSegment)
+    → All IsShelved shares → IsFirstBehind shares at y → PassesBut piece b y place → IsListedWhere b list piece
+    → ListsUpTo shares b at list → ListsUpTo shares b place list
+jumped_listed shares b at y place piece list shelved first passes own before = record {
+  lists = before.lists;
+  all = λ s x has to reaches. elim (up_to_or_behind at (share_of s x)) [
+    | inl early ↦ before.all s x has early reaches
+    | inr late ↦
+        let is = passes s x (All-contains IsShelved shares (share_of s x) shelved has)
+        (first.first (share_of s x) late has) to reaches in
+        subst (λ (t : Option GridSegment). IsListedWhere b list t) is own reaches
+  ];
+}
+
 -- where none is left behind the place, all are listed
 pub all_listed : (shares : List Share) (b : Bounds) (at : Share) (list : List GridSegment) → NoneBehind shares at
-    → ListsUpTo shares b at list → (s : GridSegment) (x : ℕ) → HasShare shares s x → MeetsBounds b s → Contains list s
-all_listed shares b at list none listed s x has reaches = elim (up_to_or_behind at (share_of s x)) [
-  | inl early ↦ listed.all s x has early reaches
-  | inr late ↦ absurd (none (share_of s x) late has)
-]
+    → ListsUpTo shares b at list → ListsAll shares b list
+all_listed shares b at list none listed = record {
+  lists = listed.lists;
+  all = λ s x has reaches. elim (up_to_or_behind at (share_of s x)) [
+    | inl early ↦ listed.all s x has early reaches
+    | inr late ↦ absurd (none (share_of s x) late has)
+  ];
+}
 
 -- ---- how many are left
 -- a filter that lets through less leaves no more
@@ -106,13 +128,14 @@ one_fewer_passes {X} p q weaker (x ∷ xs) y has through held = elim (Contains-c
     other false false imp rest = rest
 
 -- fewer shares are left behind a place up to which there was a share more
-pub fewer_left : (keys : List Share) (at y place : Share) → IsFirstBehind keys at y → is_gt (share_cmp y place) ≡ false
+pub fewer_left : (keys : List Share) (at place : Share) → StandsBetween keys at place
     → length (shares_behind keys place) < length (shares_behind keys at)
-fewer_left keys at y place first ahead =
+fewer_left keys at place on =
+    let y = on.share in
     one_fewer_passes (range_contains share_cmp (Excluded at) Unbounded) (range_contains share_cmp (Excluded place) Unbounded)
     (λ z passes. test_of at z
-    (share_cmp-total.trans at y z first.behind (less_through y place z ahead (of_test place z passes))))
-    keys y first.there (test_of at y first.behind) (held_back (share_cmp y place) (share_cmp place y) ahead
+    (share_cmp-total.trans at y z on.behind (less_through y place z on.up_to (of_test place z passes))))
+    keys y on.there (test_of at y on.behind) (held_back (share_cmp y place) (share_cmp place y) on.up_to
     (share_cmp-total.antisymm place y))
   where
     test_of : (from z : Share) → share_cmp from z ≡ Less → range_contains share_cmp (Excluded from) Unbounded z ≡ true

@@ -1,6 +1,7 @@
 -- Where the share of a piece stands, so that pieces are found by their boxes. No public clause cites this file.
 use Rattle.std.specs.Prelude.{◌≡◌, ℕ, ◌+◌, ◌-◌, ◌*◌, ◌/◌, ◌^◌, ◌<◌, ◌≤◌, min, max, List, Contains}
 use Rattle.std.specs.Int.{leading_zeros, w32}
+use Rattle.grid_base.specs.Grid.{grid_bits}
 use Rattle.grid_base.specs.Point.{GridPoint, IsBefore}
 use Rattle.grid_base.specs.Segment.{GridSegment, width, height}
 use Rattle.realm_audit.specs.declared.shelves.Shelf.{Shelf}
@@ -11,15 +12,19 @@ use Rattle.realm_audit.specs.declared.shares.Share.{Share}
 abbrev pub extent : GridSegment → ℕ
 extent s = max (width s) (height s)
 
--- the side of the cells of a level
-abbrev pub side_of : ℕ → ℕ
-side_of level = 2 ^ (2 * level)
+-- what the pieces of a level are narrower and lower than
+abbrev pub reach_of : ℕ → ℕ
+reach_of level = 2 ^ (2 * level)
 
--- the greatest level, whose cells are no narrower than the grid
+-- the width of its columns, four times as much where the grid is as wide
+abbrev pub width_of : ℕ → ℕ
+width_of level = 2 ^ min (2 * level + 2) grid_bits
+
+-- the greatest level, whose pieces may be as wide as the grid
 abbrev pub top_level : ℕ
 top_level = 15
 
--- the level of a piece: its extent is below the side of the cells of this level
+-- the level of a piece, the least that has room for it
 abbrev pub level_of : GridSegment → ℕ
 level_of s = (33 - leading_zeros w32 (extent s)) / 2
 
@@ -31,19 +36,19 @@ lowest s = min s.a.y s.b.y
 abbrev pub highest : GridSegment → ℕ
 highest s = max s.a.y s.b.y
 
--- Its shelf: on its level, in the column of cells that its lesser end is in, at its lowest row. Rows are counted from
--- 1 here, so that row 0 comes before all.
+-- Its shelf: on its level, in the column that its lesser end is in, at its lowest row. Rows are counted from 1 here, so that
+-- row 0 comes before all.
 abbrev pub shelf_of : GridSegment → Shelf
-shelf_of s = record { level = level_of s; column = s.a.x / side_of (level_of s); row = lowest s + 1 }
+shelf_of s = record { level = level_of s; column = s.a.x / width_of (level_of s); row = lowest s + 1 }
 
 -- the share of s and x
 abbrev pub share_of : GridSegment → ℕ → Share
 share_of s x = record { shelf = shelf_of s; piece = s; id = x }
 
--- the share stands where it should, and its piece reaches less far than a cell of its level
+-- the share stands where it should, and its level has room for its piece
 pub record IsShelved (y : Share) : Type 0 where
   pub shelf_is : y.shelf ≡ shelf_of y.piece
-  pub fits : extent y.piece < side_of (level_of y.piece)
+  pub fits : extent y.piece < reach_of (level_of y.piece)
   pub level_within : level_of y.piece ≤ top_level
   pub small_id : y.id < 2 ^ 32
   pub ordered : IsBefore y.piece.a y.piece.b

@@ -1,12 +1,12 @@
 //! Shares: each is a piece and the id of an original whose chain has it. They are one ordered set, by their shelves, so that
 //! a search for the pieces near a box jumps over most of it.
 ghost use Rattle.std.specs.Prelude.{◌≡◌, ◌⊎◌, ◌↔◌, ℕ, [], All, Contains, IsTrue, false};
-ghost use Rattle.std.specs.Prelude.{MatchOption, IfOk, OnOk};
+ghost use Rattle.std.specs.Prelude.{MatchOption, IfOk, IfSome, OnOk};
 ghost use Rattle.grid_base.specs.Point.{IsBefore};
 ghost use Rattle.grid_base.specs.Segment.{GridSegment};
 ghost use Rattle.realm_audit.specs.Shelves.{HasShare, IsShelved, MeetsBounds, ListsPieces};
-ghost use Rattle.realm_audit.specs.Windows.{PassesOwn, AddsReached};
-ghost use Rattle.realm_audit.specs.Ranges.{share_cmp, ids_among, NoneBehind, IsFirstBehind};
+ghost use Rattle.realm_audit.specs.Windows.{PassesBut, AddsReached, ListsUpTo, ListsOn, ListsAll};
+ghost use Rattle.realm_audit.specs.Ranges.{share_cmp, ids_among};
 ghost use Rattle.std.specs.Ordering.{is_gt};
 
 use crate::bounds::Bounds;
@@ -120,8 +120,8 @@ impl Shares {
         Ok(!owners.is_empty())
     }
 
-    // The pieces that originals have, each once, whose boxes reach the bounds. A search goes from share to share, and over
-    // all levels, columns, rows and further shares of a piece among which none reaches them.
+    // The pieces that originals have, each once, whose boxes reach the bounds. A search goes on from share to share, and jumps
+    // over all levels, columns, rows and further shares of a piece among which none reaches them.
     pub(crate) fn around(&self, bounds: &Bounds) -> Result<Vec<Segment>, NoMemory>
         ensures shared { IfOk result (λ v. ListsPieces self.now v.items) }
         ensures all { IfOk result (λ v. (s : GridSegment) (x : ℕ) → HasShare self.now s x
@@ -134,22 +134,32 @@ impl Shares {
             column: 0,
             row: 0,
         });
-        while let Some(share) = self.first_behind(&at) {
-            add_reached(bounds, &share.piece, &mut list)?;
-            at = place_behind(bounds, &share);
+        while let Some(place) = self.list_from(bounds, &at, &mut list)? {
+            at = place;
         }
         Ok(list)
     }
 
-    // The first share behind the place.
-    fn first_behind(&self, at: &Share) -> Option<Share>
-        ensures first { MatchOption result (NoneBehind self.now at.now) (IsFirstBehind self.now at.now) }
-        ensures shelved { All IsShelved self.now }
+    // Adds the pieces behind the place that reach the bounds, up to where the search jumps, and says to which place.
+    fn list_from(
+        &self,
+        bounds: &Bounds,
+        at: &Share,
+        list: &mut Vec<Segment>,
+    ) -> Result<Option<Share>, NoMemory>
+        requires { ListsUpTo self.now bounds.now at.now list.old.items }
+        ensures { IfOk result (λ next. MatchOption next (ListsAll self.now bounds.now list.new.items)
+            (ListsOn self.now bounds.now at.now list.new.items)) }
     {
-        self.set
-            .range((Bound::Excluded(*at), Bound::Unbounded))
-            .next()
-            .copied()
+        let mut before = None;
+        for share in self.set.range((Bound::Excluded(*at), Bound::Unbounded)) {
+            if let Some(place) = jump_from(bounds, before, share) {
+                return Ok(Some(place));
+            }
+            add_reached(bounds, &share.piece, list)?;
+            before = Some(share.piece);
+        }
+        Ok(None)
     }
 }
 
@@ -163,19 +173,22 @@ fn add_reached(bounds: &Bounds, piece: &Segment, list: &mut Vec<Segment>) -> Res
     Ok(())
 }
 
-// Where a search for pieces that reach the bounds goes on behind a share.
-fn place_behind(bounds: &Bounds, share: &Share) -> Share
+// Where a search for pieces that reach the bounds jumps from a share: over all that don't stand in the window, and over the
+// further shares of the piece before.
+fn jump_from(bounds: &Bounds, before: Option<Segment>, share: &Share) -> Option<Share>
     requires { IsShelved share.now }
-    ensures ahead { is_gt (share_cmp share.now result) ≡ false }
-    ensures passed { PassesOwn bounds.now share.now result }
+    ensures ahead { IfSome result (λ place. is_gt (share_cmp share.now place) ≡ false) }
+    ensures passed { IfSome result (PassesBut before bounds.now share.now) }
 {
-    match next_shelf(bounds, &share.shelf) {
-        Some(shelf) => fence(shelf),
-        None => Share {
-            shelf: share.shelf,
-            piece: share.piece,
+    if let Some(shelf) = next_shelf(bounds, &share.shelf) {
+        return Some(fence(shelf));
+    }
+    match before {
+        Some(piece) if piece == share.piece => Some(Share {
             id: u32::MAX,
-        },
+            ..*share
+        }),
+        _ => None,
     }
 }
 

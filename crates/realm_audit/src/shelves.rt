@@ -1,15 +1,15 @@
 //! Where the share of a piece stands. A piece whose box is less than 4^k wide and high has its shelf on the level k, in one
-//! of the columns of cells with a side of 4^k, at its lowest row. So on each level the pieces that reach a box begin in its
-//! columns or in the one before, and no lower than the side of a cell below it. With sides of 2^k there would be twice as
-//! many levels, and more columns beside a box in which pieces stand.
-ghost use Rattle.std.specs.Prelude.{◌≡◌, ◌<◌, ◌≤◌, ◌↔◌, IsTrue};
+//! of its columns, at its lowest row. So on each level the pieces that reach a box begin less than 4^k before it and less
+//! than 4^k below it. A column is four times as wide as the pieces of its level may be, so that a search for what is near a
+//! piece looks into one column, or into two. With levels for each 2^k there would be twice as many.
+ghost use Rattle.std.specs.Prelude.{◌≡◌, ◌/◌, ◌<◌, ◌≤◌, ◌↔◌, IsTrue};
 ghost use Rattle.grid_base.specs.Grid.{grid_side};
 ghost use Rattle.grid_base.specs.Point.{IsBefore};
 ghost use Rattle.realm_audit.specs.Shelves as shelves;
-ghost use Rattle.realm_audit.specs.Shelves.{extent, side_of, top_level, AreBoundsOf, AreBoundsAt, MeetsBounds};
+ghost use Rattle.realm_audit.specs.Shelves.{extent, reach_of, width_of, top_level, AreBoundsOf, AreBoundsAt, MeetsBounds};
 
 use crate::bounds::Bounds;
-use grid_base::{Point, Segment};
+use grid_base::{GRID_BITS, Point, Segment};
 
 /// The shelf of a share.
 #[derive(Clone, Copy, PartialEq, Eq, PartialOrd, Ord)]
@@ -19,16 +19,23 @@ pub(crate) struct Shelf {
     pub(crate) row: u32,
 }
 
-// The greatest level, whose cells are no narrower than the grid.
+// The greatest level, whose pieces may be as wide as the grid.
 pub(crate) const TOP_LEVEL: u32 = 15;
 
-// The side of the cells of a level.
-pub(crate) fn cell_side(level: u32) -> u32
+// What the pieces of a level are narrower and lower than.
+pub(crate) fn reach(level: u32) -> u32
     requires { level ≤ top_level }
-    ensures side { result ≡ side_of level }
-    ensures some { 0 < result }
+    ensures { result ≡ reach_of level }
 {
     1 << (2 * level)
+}
+
+// The column of a level that `x` is in.
+pub(crate) fn column_of(x: u32, level: u32) -> u32
+    requires { level ≤ top_level }
+    ensures { result ≡ x / width_of level }
+{
+    x >> (2 * level + 2).min(GRID_BITS)
 }
 
 // How far the piece reaches across and up, whichever is more.
@@ -44,7 +51,7 @@ fn extent_of(piece: &Segment) -> u32
 // The level of the piece.
 fn level_of(piece: &Segment) -> u32
     ensures level { result ≡ shelves.level_of piece.now }
-    ensures fits { extent piece.now < side_of result }
+    ensures fits { extent piece.now < reach_of result }
     ensures below { result ≤ top_level }
 {
     (33 - extent_of(piece).leading_zeros()) / 2
@@ -53,7 +60,7 @@ fn level_of(piece: &Segment) -> u32
 // The shelf of the piece.
 pub(crate) fn shelf_of(piece: &Segment) -> Shelf
     ensures shelf { result ≡ shelves.shelf_of piece.now }
-    ensures fits { extent piece.now < side_of (shelves.level_of piece.now) }
+    ensures fits { extent piece.now < reach_of (shelves.level_of piece.now) }
     ensures level_within { shelves.level_of piece.now ≤ top_level }
     ensures ordered { IsBefore piece.now.a piece.now.b }
 {
@@ -61,7 +68,7 @@ pub(crate) fn shelf_of(piece: &Segment) -> Shelf
     let (a, b) = (piece.a(), piece.b());
     Shelf {
         level,
-        column: a.x() / cell_side(level),
+        column: column_of(a.x(), level),
         row: a.y().min(b.y()) + 1,
     }
 }

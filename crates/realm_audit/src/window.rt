@@ -8,7 +8,7 @@ ghost use Rattle.realm_audit.specs.Windows.{window_at, NoneUpTo};
 ghost use Rattle.realm_audit.specs.Ranges.{shelf_cmp};
 
 use crate::bounds::Bounds;
-use crate::shelves::{Shelf, TOP_LEVEL, cell_side};
+use crate::shelves::{Shelf, TOP_LEVEL, column_of, reach};
 
 /// The columns of a level from `first` to `last`, and its rows behind `below` up to `top`.
 #[derive(Clone, Copy)]
@@ -25,11 +25,11 @@ fn window_of(bounds: &Bounds, level: u32) -> Window
     ensures window { result ≡ window_at bounds.now level }
     ensures last_on_grid { result.last < grid_side }
 {
-    let side = cell_side(level);
+    let reach = reach(level);
     Window {
-        first: bounds.left.saturating_sub(side) / side,
-        last: bounds.right / side,
-        below: bounds.low.saturating_sub(side),
+        first: column_of(bounds.left.saturating_sub(reach), level),
+        last: column_of(bounds.right, level),
+        below: bounds.low.saturating_sub(reach),
         top: bounds.high + 1,
     }
 }
