@@ -17,9 +17,23 @@ use denote.Ref.{Bor}
 use Rattle.grid_base.proofs.Elements.{Contains-later, Contains-cases, Contains-nil}
 use Rattle.chain_laws.proofs.Elements.{Contains-head}
 use Rattle.chain_laws.proofs.PointSets.{Contains-filter}
-use Rattle.realm_audit.specs.Ranges.{share_cmp, shares_behind, LiesBehind, NoneBehind, IsFirstBehind}
+use Rattle.realm_audit.specs.Ranges.{share_cmp, among, LiesBehind}
 use Rattle.realm_audit.specs.declared.shares.Share.{Share}
 use Rattle.realm_audit.proofs.ShareOrder.{share_cmp-total, in_order}
+
+-- the shares of the list that come behind the place
+abbrev pub shares_behind : List Share → Share → List Share
+shares_behind keys at = among keys (Excluded at) Unbounded
+
+-- no share of the list comes behind the place
+abbrev pub NoneBehind : List Share → Share → Type 0
+NoneBehind keys at = (z : Share) → LiesBehind at z → Contains keys z → ⊥
+
+-- y is the first share of the list behind the place
+pub record IsFirstBehind (keys : List Share) (at y : Share) : Type 0 where
+  pub there : Contains keys y
+  pub behind : LiesBehind at y
+  pub first : (z : Share) → LiesBehind at z → Contains keys z → is_gt (share_cmp y z) ≡ false
 
 -- the list has all shares behind the place, ascending
 pub record AreBehind (keys : List Share) (at : Share) (rest : List Share) : Type 0 where

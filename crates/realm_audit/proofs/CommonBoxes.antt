@@ -7,7 +7,8 @@ use Rattle.grid_base.specs.Crossing.{Inside, Cross}
 use Rattle.grid_base.specs.MeetPoint.{crossing_of}
 use Rattle.grid_base.proofs.Ends.{columns_in_order}
 use Rattle.grid_rational.proofs.Crossings.{crossing_is_place}
-use Rattle.realm_audit.specs.Shelves.{AreBoundsOf, AreBoundsAt, MeetsBounds}
+use Rattle.realm_audit.specs.Shelves.{AreBoundsAt, MeetsBounds}
+use Rattle.realm_audit.specs.Groups.{Surrounds}
 use Rattle.realm_audit.specs.Kept.{Clash}
 use Rattle.realm_audit.specs.Clashes.{AreClashes}
 use Rattle.realm_audit.specs.declared.bounds.Bounds.{Bounds}
@@ -78,19 +79,19 @@ boxes_meet_crossing s t cross =
     }
 
 -- ---- pieces that reach bounds
--- a piece whose box meets that of t reaches it
-meeting_reaches : (b : Bounds) (t u : GridSegment) → AreBoundsOf b t → IsBefore t.a t.b → IsBefore u.a u.b → BoxesMeet t u
+-- a piece whose box meets that of t reaches the bounds around t
+meeting_reaches : (b : Bounds) (t u : GridSegment) → Surrounds b t → IsBefore t.a t.b → IsBefore u.a u.b → BoxesMeet t u
     → MeetsBounds b u
-meeting_reaches b t u are ordered_t ordered_u meet =
+meeting_reaches b t u around ordered_t ordered_u meet =
     let columns_t = columns_in_order t.a t.b ordered_t in
     let columns_u = columns_in_order u.a u.b ordered_u in
     let across = meet.across in
     let up = meet.up in
     record {
-      from_left = omega (arith, are.right);
-      to_right = omega (arith, are.left);
-      from_below = omega (arith, are.high);
-      to_above = omega (arith, are.low);
+      from_left = omega (arith, around.right);
+      to_right = omega (arith, around.left);
+      from_below = omega (arith, around.high);
+      to_above = omega (arith, around.low);
     }
 
 clash_meets : (t u : GridSegment) → Clash t u → BoxesMeet t u
@@ -103,13 +104,16 @@ clash_meets_back t u clash =
     let meet = clash_meets u t clash in
     record { across = (meet.across.1, meet.across.0); up = (meet.up.1, meet.up.0) }
 
--- so does a piece that clashes with t
-pub clash_reaches : (b : Bounds) (t u : GridSegment) → AreBoundsOf b t → IsBefore t.a t.b → IsBefore u.a u.b → AreClashes t u
+-- the boxes of pieces that clash, one way or the other, meet
+pub clashes_meet : (t u : GridSegment) → AreClashes t u → BoxesMeet t u
+clashes_meet t u (inl clash) = clash_meets t u clash
+clashes_meet t u (inr clash) = clash_meets_back t u clash
+
+-- so a piece that clashes with t reaches the bounds around t
+pub clash_reaches : (b : Bounds) (t u : GridSegment) → Surrounds b t → IsBefore t.a t.b → IsBefore u.a u.b → AreClashes t u
     → MeetsBounds b u
-clash_reaches b t u are ordered_t ordered_u (inl clash) =
-    meeting_reaches b t u are ordered_t ordered_u (clash_meets t u clash)
-clash_reaches b t u are ordered_t ordered_u (inr clash) =
-    meeting_reaches b t u are ordered_t ordered_u (clash_meets_back t u clash)
+clash_reaches b t u around ordered_t ordered_u clash =
+    meeting_reaches b t u around ordered_t ordered_u (clashes_meet t u clash)
 
 -- and a piece in whose box the point p is reaches p
 box_reaches : (b : Bounds) (p : GridPoint) (u : GridSegment) → AreBoundsAt b p → IsBefore u.a u.b → InBox u.a u.b p

@@ -11,7 +11,8 @@ use Rattle.std.proofs.lemmas.Map.Views.{range_contains-from_IsInRange, IsInRange
 use Rattle.grid_base.specs.Segment.{GridSegment}
 use Rattle.grid_base.proofs.Elements.{Contains-nil, Contains-cases}
 use Rattle.realm_audit.specs.Shelves.{shelf_of, share_of, IsShelved, HasShare, MeetsBounds}
-use Rattle.realm_audit.specs.Ranges.{share_cmp, shares_behind, IsUpTo, NoneBehind, IsFirstBehind}
+use Rattle.realm_audit.specs.Ranges.{share_cmp, IsUpTo}
+use Rattle.realm_audit.proofs.Behind.{shares_behind, NoneBehind, IsFirstBehind}
 use Rattle.realm_audit.specs.Windows.{PassesBut, ListsUpTo, ListsAll, StandsBetween, AddsReached}
 use Rattle.realm_audit.specs.declared.bounds.Bounds.{Bounds}
 use Rattle.realm_audit.specs.declared.shelves.Shelf.{Shelf}

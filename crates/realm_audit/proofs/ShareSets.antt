@@ -1,11 +1,9 @@
 -- This file shows which shares a set has after a change, and what of it lies in a range.
-use Rattle.std.proofs.Common.{◌≡◌, ◌⊎◌, ◌↔◌, ℕ, true, false, List, [], ◌∷◌, map, Contains, All, IsTrue, true≢false, Option, Some, None, MatchOption}
+use Rattle.std.proofs.Common.{◌≡◌, ◌⊎◌, ◌↔◌, ℕ, true, false, List, map, Contains, All, IsTrue, true≢false}
 use Rattle.std.proofs.Common.{get_or, refl, sym, ap, subst, ◌∙◌, inl, inr, arith}
 use Rattle.std.specs.BTreeMap.Range.{range_contains}
-use Rattle.std.specs.declared.ops.Bound.TheVariants.{Included, Excluded, Unbounded}
-use Rattle.std.specs.BTreeSet.{BTreeSet, Updates, contains, IsKeyRangeOf}
-use Rattle.std.specs.Option.{option_copied}
-use denote.Ref.{Bor}
+use Rattle.std.specs.declared.ops.Bound.TheVariants.{Included}
+use Rattle.std.specs.BTreeSet.{BTreeSet, Updates, contains}
 use Rattle.std.proofs.lemmas.Map.Views.{range_contains-from_IsInRange, IsInRange-from_range_contains, btree_set_contains_iff}
 use Rattle.std.proofs.lemmas.List.Elements.{All-contains, Contains-get_or}
 use Rattle.grid_base.specs.Segment.{GridSegment}
@@ -14,7 +12,7 @@ use Rattle.realm_audit.specs.declared.shares.Share.{Share}
 use Rattle.chain_laws.proofs.Elements.{Contains-map}
 use Rattle.chain_laws.proofs.Lookups.{same_or_other, passed_over}
 use Rattle.chain_laws.proofs.PointSets.{Contains-filter}
-use Rattle.realm_audit.specs.Ranges.{share_cmp, among, NoneBehind, IsFirstBehind}
+use Rattle.realm_audit.specs.Ranges.{share_cmp, among}
 use Rattle.realm_audit.proofs.ShareOrder.{share_cmp-total, share_exact, shelved_is, share_of-same, of_piece, in_order}
 
 -- ---- one change
@@ -138,20 +136,3 @@ owner_ids keys s x all =
           let (k, within, is) = (inside (share_of s x)).1 (has, passes) in
           ids.1 (k, share_of s x, within, is, refl),
     )
-
--- ---- the first behind a place
--- what a range gives first is the first that lies in it
-pub first_found : (s : BTreeSet Share) (at : Share) (r : List Share) (n : Option (Bor Share)) (t : List Share)
-    → IsKeyRangeOf share_cmp (Excluded at) Unbounded s r
-    → MatchOption n ((r ≡ []) × (t ≡ [])) (λ w. r ≡ w.now ∷ t)
-    → MatchOption (option_copied n) (NoneBehind s.keys at) (IsFirstBehind s.keys at)
-first_found s at r None t of_range first = λ z behind there.
-    true≢false (sym (has_by_test s z there) ∙ of_range.5 first.0 z (behind, tt))
-first_found s at r (Some w) t of_range first =
-    let whole = rw first at of_range in
-    let this = whole.0 0 w.now (omega arith) in
-    record {
-      there = (set_has s w.now).0 this.1;
-      behind = this.0.0;
-      first = λ z behind there. whole.2 z (behind, tt) (has_by_test s z there);
-    }

@@ -34,7 +34,7 @@ meets_in_window b s x at reaches =
     let reach = reach_of (level_of s) in
     let width = width_of (level_of s) in
     let fits : extent s < reach = at.fits in
-    let some : 0 < width = pow_pos (min (2 * level_of s + 2) grid_bits) in
+    let some : 0 < width = pow_pos (min (2 * level_of s + 7) grid_bits) in
     record {
       from_first = column_from b s reach width some fits reaches;
       to_last = column_to b s width some reaches;

@@ -22,6 +22,8 @@ pub mod Windows
 pub mod ShareChanges
 -- pieces and points in violations
 pub mod Clashes
+-- boxes around pieces
+pub mod Groups
 -- what a kept drawing is like
 pub mod Kept
 -- tokens and numbers

@@ -1,11 +1,11 @@
 -- How shares compare, and what of a list of them lies between two. No public clause cites this file.
-use Rattle.std.specs.Prelude.{◌≡◌, ℕ, ◌≤◌, false, List, Contains, map}
+use Rattle.std.specs.Prelude.{◌≡◌, ℕ, ◌≤◌, List, map}
 use Rattle.std.specs.List.{filter}
 use Rattle.std.specs.declared.cmp.Ordering.{Ordering}
 use Rattle.std.specs.declared.cmp.Ordering.TheVariants.{Less}
 use Rattle.std.specs.declared.ops.Bound.{Bound}
-use Rattle.std.specs.declared.ops.Bound.TheVariants.{Included, Excluded, Unbounded}
-use Rattle.std.specs.Ordering.{ordering_then, nat_cmp, is_gt}
+use Rattle.std.specs.declared.ops.Bound.TheVariants.{Included}
+use Rattle.std.specs.Ordering.{ordering_then, nat_cmp}
 use Rattle.std.specs.BTreeMap.Range.{range_contains}
 use Rattle.grid_base.specs.Segment.{segment_cmp}
 use Rattle.realm_audit.specs.declared.shelves.Shelf.{Shelf}
@@ -32,20 +32,6 @@ ids_among keys first last = map (λ y. y.id) (among keys (Included first) (Inclu
 -- z comes behind the place
 abbrev pub LiesBehind : Share → Share → Type 0
 LiesBehind at z = share_cmp at z ≡ Less
-
--- the shares of the list that come behind the place
-abbrev pub shares_behind : List Share → Share → List Share
-shares_behind keys at = among keys (Excluded at) Unbounded
-
--- no share of the list comes behind the place
-abbrev pub NoneBehind : List Share → Share → Type 0
-NoneBehind keys at = (z : Share) → LiesBehind at z → Contains keys z → ⊥
-
--- y is the first share of the list behind the place
-pub record IsFirstBehind (keys : List Share) (at y : Share) : Type 0 where
-  pub there : Contains keys y
-  pub behind : LiesBehind at y
-  pub first : (z : Share) → LiesBehind at z → Contains keys z → is_gt (share_cmp y z) ≡ false
 
 -- p isn't behind q: by level, then by column, then by row
 pub record IsUpTo (p q : Shelf) : Type 0 where

@@ -14,19 +14,19 @@ extent s = max (width s) (height s)
 
 -- what the pieces of a level are narrower and lower than
 abbrev pub reach_of : ℕ → ℕ
-reach_of level = 2 ^ (2 * level)
+reach_of level = 2 ^ (2 * level + 4)
 
--- the width of its columns, four times as much where the grid is as wide
+-- the width of its columns, eight times as much where the grid is as wide
 abbrev pub width_of : ℕ → ℕ
-width_of level = 2 ^ min (2 * level + 2) grid_bits
+width_of level = 2 ^ min (2 * level + 7) grid_bits
 
 -- the greatest level, whose pieces may be as wide as the grid
 abbrev pub top_level : ℕ
-top_level = 15
+top_level = 13
 
 -- the level of a piece, the least that has room for it
 abbrev pub level_of : GridSegment → ℕ
-level_of s = (33 - leading_zeros w32 (extent s)) / 2
+level_of s = (29 - leading_zeros w32 (extent s)) / 2
 
 -- its lowest row
 abbrev pub lowest : GridSegment → ℕ

@@ -7,11 +7,14 @@ ghost use Rattle.grid_base.specs.Crossing.{Inside};
 ghost use Rattle.realm_audit.specs.Shelves.{HasShare};
 ghost use Rattle.realm_audit.specs.Kept.{Clash};
 ghost use Rattle.realm_audit.specs.Clashes.{IsOwned, HasClash, IsExplicitInPiece, AreClashes};
+ghost use Rattle.realm_audit.specs.Groups.{Surrounds, ClashesAmong};
 
+use crate::bounds::Bounds;
 use crate::explicit::ExplicitPoints;
+use crate::groups::first_group;
 use crate::shares::Shares;
-use crate::shelves::{bounds_at, bounds_of};
-use grid_base::{NoMemory, Point, Segment, crosses, in_side};
+use crate::shelves::bounds_at;
+use grid_base::{NoMemory, Point, Segment, box_meets, crosses, in_side};
 
 // Whether a fresh piece or a fresh point takes part in a violation.
 pub(crate) fn have_clash(
@@ -23,10 +26,14 @@ pub(crate) fn have_clash(
     ensures { IfOk result (λ yes. IsTrue yes
         ↔ (Any (HasClash explicit.now shares.now) pieces.now ⊎ Any (IsExplicitInPiece explicit.now shares.now) points.now)) }
 {
-    for t in pieces {
-        if has_clash(explicit, shares, t)? {
+    let mut rest = pieces;
+    while !rest.is_empty() {
+        let group = first_group(rest);
+        let (close, more) = rest.split_at(group.count);
+        if some_clashes(explicit, shares, &group.bounds, close)? {
             return Ok(true);
         }
+        rest = more;
     }
     for p in points {
         if is_explicit_in_piece(explicit, shares, p)? {
@@ -36,26 +43,33 @@ pub(crate) fn have_clash(
     Ok(false)
 }
 
-// Whether `t` is a piece that takes part in a violation.
-fn has_clash(explicit: &ExplicitPoints, shares: &Shares, t: &Segment) -> Result<bool, NoMemory>
-    ensures { IfOk result (λ yes. IsTrue yes ↔ HasClash explicit.now shares.now t.now) }
+// Whether one of the pieces within the bounds takes part in a violation.
+fn some_clashes(
+    explicit: &ExplicitPoints,
+    shares: &Shares,
+    bounds: &Bounds,
+    pieces: &[Segment],
+) -> Result<bool, NoMemory>
+    requires { All (Surrounds bounds.now) pieces.now }
+    ensures { IfOk result (λ yes. IsTrue yes ↔ Any (HasClash explicit.now shares.now) pieces.now) }
 {
-    if !shares.is_piece(t)? {
-        return Ok(false);
-    }
-    if explicit.first_inside(t).is_some() {
-        return Ok(true);
-    }
-    clashes_with_pieces(shares, t)
+    let near = shares.around(bounds)?;
+    Ok(some_clashes_among(explicit, near.as_slice(), pieces))
 }
 
-// Whether `t` and a piece clash, one way or the other.
-fn clashes_with_pieces(shares: &Shares, t: &Segment) -> Result<bool, NoMemory>
-    ensures { IfOk result (λ yes. IsTrue yes
-        ↔ ((u : GridSegment) × IsOwned shares.now u × AreClashes t.now u)) }
+// The same, where all pieces near them are at hand.
+fn some_clashes_among(explicit: &ExplicitPoints, near: &[Segment], pieces: &[Segment]) -> bool
+    ensures { IsTrue result ↔ Any (ClashesAmong explicit.now near.now) pieces.now }
 {
-    let near = shares.around(&bounds_of(t))?;
-    Ok(some_clash(t, near.as_slice()))
+    pieces.iter().any(|t| clashes_among(explicit, near, t))
+}
+
+// Whether `t` is one of those near, and an explicit point or one of them clashes with it. Most clash with nothing, so that
+// is looked at first.
+fn clashes_among(explicit: &ExplicitPoints, near: &[Segment], t: &Segment) -> bool
+    ensures { IsTrue result ↔ ClashesAmong explicit.now near.now t.now }
+{
+    (explicit.first_inside(t).is_some() || some_clash(t, near)) && near.contains(t)
 }
 
 // Whether one of the list and `t` clash.
@@ -69,7 +83,7 @@ fn some_clash(t: &Segment, list: &[Segment]) -> bool
 fn are_clashes(t: &Segment, u: &Segment) -> bool
     ensures { IsTrue result ↔ AreClashes t.now u.now }
 {
-    clash(t, u) || clash(u, t)
+    box_meets(t, u) && (clash(t, u) || clash(u, t))
 }
 
 // Whether `u` crosses `t` or has an end inside it.

@@ -10,6 +10,7 @@ mod bounds;
 mod chains;
 mod explicit;
 mod fresh;
+mod groups;
 mod item;
 mod laws;
 mod links;

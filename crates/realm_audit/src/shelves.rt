@@ -1,7 +1,8 @@
-//! Where the share of a piece stands. A piece whose box is less than 4^k wide and high has its shelf on the level k, in one
-//! of its columns, at its lowest row. So on each level the pieces that reach a box begin less than 4^k before it and less
-//! than 4^k below it. A column is four times as wide as the pieces of its level may be, so that a search for what is near a
-//! piece looks into one column, or into two. With levels for each 2^k there would be twice as many.
+//! Where the share of a piece stands. A piece whose box is less than 16, 64, 256 and so on wide and high has its shelf on
+//! the level 0, 1, 2 and so on, in one of its columns, at its lowest row. So on each level the pieces that reach a box begin
+//! less than that before it and below it. A column is eight times as wide as the pieces of its level may be, so that a search
+//! for what is near a piece looks into one column of its level, or into two. Finer levels would cost more searches than they
+//! spare pieces that are looked at.
 ghost use Rattle.std.specs.Prelude.{◌≡◌, ◌/◌, ◌<◌, ◌≤◌, ◌↔◌, IsTrue};
 ghost use Rattle.grid_base.specs.Grid.{grid_side};
 ghost use Rattle.grid_base.specs.Point.{IsBefore};
@@ -20,14 +21,14 @@ pub(crate) struct Shelf {
 }
 
 // The greatest level, whose pieces may be as wide as the grid.
-pub(crate) const TOP_LEVEL: u32 = 15;
+pub(crate) const TOP_LEVEL: u32 = 13;
 
 // What the pieces of a level are narrower and lower than.
 pub(crate) fn reach(level: u32) -> u32
     requires { level ≤ top_level }
     ensures { result ≡ reach_of level }
 {
-    1 << (2 * level)
+    1 << (2 * level + 4)
 }
 
 // The column of a level that `x` is in.
@@ -35,11 +36,11 @@ pub(crate) fn column_of(x: u32, level: u32) -> u32
     requires { level ≤ top_level }
     ensures { result ≡ x / width_of level }
 {
-    x >> (2 * level + 2).min(GRID_BITS)
+    x >> (2 * level + 7).min(GRID_BITS)
 }
 
 // How far the piece reaches across and up, whichever is more.
-fn extent_of(piece: &Segment) -> u32
+pub(crate) fn extent_of(piece: &Segment) -> u32
     ensures extent { result ≡ extent piece.now }
     ensures below { result < grid_side }
 {
@@ -54,7 +55,7 @@ fn level_of(piece: &Segment) -> u32
     ensures fits { extent piece.now < reach_of result }
     ensures below { result ≤ top_level }
 {
-    (33 - extent_of(piece).leading_zeros()) / 2
+    29u32.saturating_sub(extent_of(piece).leading_zeros()) / 2
 }
 
 // The shelf of the piece.

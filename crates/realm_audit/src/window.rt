@@ -48,7 +48,7 @@ pub(crate) fn next_shelf(bounds: &Bounds, at: &Shelf) -> Option<Shelf>
             column: window.first,
             row: window.below,
         })
-    } else if column > window.last {
+    } else if column > window.last || (column == window.last && row > window.top) {
         Some(first_shelf(bounds, level + 1))
     } else if row < window.below {
         Some(Shelf {

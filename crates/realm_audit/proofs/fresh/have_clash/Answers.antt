@@ -1,30 +1,23 @@
 use Rattle.std.proofs.Common.{refl, sym, ◌∙◌, inl, inr, true≢false}
 use Rattle.realm_audit.specs.Clashes.{HasClash, IsExplicitInPiece}
-use Rattle.chain_laws.proofs.Elements.{Any-nil}
 use Rattle.realm_audit.proofs.Sought.{none_more, none_at_end, some_here}
+use Rattle.realm_audit.proofs.GroupedPieces.{first_or_rest, first_has}
 use Rattle.realm_audit.proofs.fresh.have_clash.Goals as goal
 
--- the piece takes part in a violation
+-- a piece of the group takes part in a violation
 pub returns-then-branch : goal.returns-then-branch
 returns-then-branch c =
-    let at = some_here (HasClash c.args.explicit.now c.args.shares.now) c.args.pieces.now c.loop-t.t-index c.t-item.result
-    c.loop-t-test.true c.t-item.is (c.in_ok-has_clash.ensures.0 c.if-branch.true) in
-    (λ holds. inl at, λ some. refl)
+    let some = first_has (HasClash c.args.explicit.now c.args.shares.now) _ _ _ c.split_at.ensures.front
+    (c.in_ok-some_clashes.ensures.0 c.if-branch.true) in
+    (λ holds. inl (c.loop-rest.invariant.1 some), λ either. refl)
 
--- or it doesn't
-pub loop-t-preserved : goal.loop-t-preserved
-loop-t-preserved c =
-    none_more (HasClash c.args.explicit.now c.args.shares.now) c.args.pieces.now c.loop-t.t-index c.t-item.result
-    c.loop-t-test.true c.t-item.is c.loop-t.invariant
-    (λ clash. true≢false (sym (c.in_ok-has_clash.ensures.1 clash) ∙ c.if-branch.false))
-
--- no piece does, and no point was looked at yet
-pub loop-p-init : goal.loop-p-init
-loop-p-init c = record {
-  no_piece = none_at_end (HasClash c.args.explicit.now c.args.shares.now) c.args.pieces.now c.loop-t.t-index c.loop-t-test.false
-      c.loop-t.invariant;
-  no_point = λ some. Any-nil (IsExplicitInPiece c.args.explicit.now c.args.shares.now) some;
-}
+-- or none does
+pub loop-rest-preserved : goal.loop-rest-preserved
+loop-rest-preserved c =
+    let later = first_or_rest (HasClash c.args.explicit.now c.args.shares.now) _ _ _ _ c.split_at.ensures.front
+    c.split_at.ensures.back
+    (λ clash. true≢false (sym (c.in_ok-some_clashes.ensures.1 clash) ∙ c.if-branch.false)) in
+    (λ some. later.0 (c.loop-rest.invariant.0 some), λ some. c.loop-rest.invariant.1 (later.1 some))
 
 -- the point is inside a piece
 pub returns-then-branch-2 : goal.returns-then-branch-2

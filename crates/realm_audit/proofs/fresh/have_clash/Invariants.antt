@@ -1,10 +1,13 @@
-use Rattle.std.proofs.Common.{Any, take}
+use Rattle.std.proofs.Common.{◌↔◌, Any, take, length}
 use Rattle.realm_audit.specs.Clashes.{HasClash, IsExplicitInPiece}
 use Rattle.realm_audit.proofs.fresh.have_clash.Given as goal
 
--- no piece so far takes part in a violation
-abbrev pub invariant-loop-t : goal.invariant-loop-t
-invariant-loop-t l = Any (HasClash l.explicit l.shares) (take l.t-index l.pieces) → ⊥
+-- a piece takes part in a violation just where one of the rest does
+abbrev pub invariant-loop-rest : goal.invariant-loop-rest
+invariant-loop-rest l = Any (HasClash l.explicit l.shares) l.pieces ↔ Any (HasClash l.explicit l.shares) l.rest
+
+abbrev pub decreases-loop-rest : goal.decreases-loop-rest
+decreases-loop-rest l = length l.rest
 
 -- no piece does, and no point so far
 abbrev pub invariant-loop-p : goal.invariant-loop-p

@@ -1,5 +1,5 @@
 use Rattle.std.proofs.Common.{length}
-use Rattle.realm_audit.specs.Ranges.{shares_behind}
+use Rattle.realm_audit.proofs.Behind.{shares_behind}
 use Rattle.realm_audit.specs.Windows.{ListsUpTo}
 use Rattle.realm_audit.proofs.shares.Shares.around.Given as goal
 

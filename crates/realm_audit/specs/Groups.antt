@@ -1,0 +1,20 @@
+-- Boxes around pieces. No public clause cites this file.
+use Rattle.std.specs.Prelude.{◌≤◌, List, Any, Contains, ◌⊎◌}
+use Rattle.grid_base.specs.Point.{GridPoint}
+use Rattle.grid_base.specs.Segment.{GridSegment}
+use Rattle.grid_base.specs.Crossing.{Inside}
+use Rattle.realm_audit.specs.Clashes.{AreClashes}
+use Rattle.realm_audit.specs.Shelves.{lowest, highest}
+use Rattle.realm_audit.specs.declared.bounds.Bounds.{Bounds}
+
+-- t is within the bounds
+pub record Surrounds (b : Bounds) (t : GridSegment) : Type 0 where
+  pub left : b.left ≤ t.a.x
+  pub right : t.b.x ≤ b.right
+  pub low : b.low ≤ lowest t
+  pub high : highest t ≤ b.high
+
+-- t is one of the list, and an explicit point is inside it or one of the list clashes with it
+pub record ClashesAmong (points : List GridPoint) (near : List GridSegment) (t : GridSegment) : Type 0 where
+  pub one : Contains near t
+  pub clash : Any (λ p. Inside p t) points ⊎ Any (AreClashes t) near
