@@ -3,6 +3,7 @@ use Rattle.std.proofs.Common.{◌≡◌, ℕ, ◌+◌, ◌*◌, ◌<◌, ◌≤�
 use Rattle.std.proofs.Common.{refl, sym, ap, subst, inl, inr, arith}
 use Rattle.std.proofs.lemmas.List.{length-map}
 use Rattle.std.proofs.lemmas.List.Elements.{All-map, All-contains}
+use Rattle.grid_base.specs.Grid.{grid_side, product_bound}
 use Rattle.grid_base.specs.Point.{GridPoint, OnGrid, IsBefore}
 use Rattle.grid_base.specs.Drawing.{Drawing}
 use Rattle.grid_base.specs.declared.kinds.Kind.{Kind}
@@ -44,13 +45,13 @@ few_below n bound (x ∷ xs) rising below = let room = room_behind n bound x xs 
 
 -- points in their order are numbered column by column
 abbrev place_of : GridPoint → ℕ
-place_of p = 1073741824 * p.x + p.y
+place_of p = grid_side * p.x + p.y
 
 place_rises : (p q : GridPoint) → OnGrid p → OnGrid q → IsBefore p q → place_of p < place_of q
 place_rises p q on on_too (inl left) = omega (arith, on.row, left)
 place_rises p q on on_too (inr (column, below)) = omega (arith, column, below)
 
-place_below : (p : GridPoint) → OnGrid p → place_of p < 1152921504606846976
+place_below : (p : GridPoint) → OnGrid p → place_of p < product_bound
 place_below p on = omega (arith, on.column, on.row)
 
 -- so those that ascend fit
@@ -60,7 +61,7 @@ points_fit points ascend on =
     λ i j d less within.
     place_rises (get_or points i d) (get_or points j d) (on i d (omega (arith, less, within))) (on j d within)
     (ascend i j d less within) in
-    let few = few_below place_of 1152921504606846976 points rising (λ k d within. place_below (get_or points k d) (on k d within)) in
+    let few = few_below place_of product_bound points rising (λ k d within. place_below (get_or points k d) (on k d within)) in
     fits_as_list OnGrid points (omega (arith, few)) on
 
 -- and ids do

@@ -22,7 +22,7 @@ width_of level = 2 ^ min (2 * level + 7) grid_bits
 
 -- the greatest level, whose pieces may be as wide as the grid
 abbrev pub top_level : ℕ
-top_level = 13
+top_level = (grid_bits - 3) / 2
 
 -- the level of a piece, the least that has room for it
 abbrev pub level_of : GridSegment → ℕ

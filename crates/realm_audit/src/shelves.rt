@@ -21,7 +21,7 @@ pub(crate) struct Shelf {
 }
 
 // The greatest level, whose pieces may be as wide as the grid.
-pub(crate) const TOP_LEVEL: u32 = 13;
+pub(crate) const TOP_LEVEL: u32 = (GRID_BITS - 3) / 2;
 
 // What the pieces of a level are narrower and lower than.
 pub(crate) fn reach(level: u32) -> u32
