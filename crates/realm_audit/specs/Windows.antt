@@ -27,6 +27,13 @@ pub record IsWithin (w : Window) (q : Shelf) : Type 0 where
   pub above : w.below < q.row
   pub to_top : q.row ≤ w.top
 
+-- the shelf is in the window, or just below it in one of its columns
+pub record IsAtWindow (w : Window) (q : Shelf) : Type 0 where
+  pub from_first : w.first ≤ q.column
+  pub to_last : q.column ≤ w.last
+  pub from_below : w.below ≤ q.row
+  pub to_top : q.row ≤ w.top
+
 -- the shelf is in the window of the bounds on its level
 abbrev pub IsInWindow : Bounds → Shelf → Type 0
 IsInWindow b q = IsWithin (window_at b q.level) q

@@ -1,7 +1,9 @@
 //! Pieces that lie close together, so that one search finds what is near any of them.
-ghost use Rattle.std.specs.Prelude.{◌≡◌, ◌+◌, ◌<◌, ◌≤◌, IfSome, All, length, take};
+ghost use Rattle.std.specs.Prelude.{◌≡◌, ◌+◌, ◌<◌, ◌≤◌, IfSome, IfNone, All, length, take};
 ghost use Rattle.grid_base.specs.Segment.{GridSegment};
-ghost use Rattle.realm_audit.specs.Groups.{Surrounds};
+ghost use Rattle.realm_audit.specs.Shelves.{extent};
+ghost use Rattle.realm_audit.specs.Groups as boxes;
+ghost use Rattle.realm_audit.specs.Groups.{Surrounds, AreWidened, ReachFurther};
 
 use crate::bounds::Bounds;
 use crate::shelves::{bounds_of, extent_of};
@@ -14,6 +16,7 @@ pub(crate) struct Group {
     pub(crate) bounds: Bounds,
     // how far each of them reaches, added up
     extents: u64,
+    ghost some: { 0 < count },
 }
 
 // The most pieces of a group: each is compared with all that is near one of them.
@@ -23,7 +26,6 @@ const MOST: usize = 16;
 // when they are laid one behind the other.
 pub(crate) fn first_group(pieces: &[Segment]) -> Group
     requires { 0 < length pieces.now }
-    ensures some { 0 < result.count }
     ensures within { result.count ≤ length pieces.now }
     ensures around { All (Surrounds result.bounds) (take result.count pieces.now) }
 {
@@ -40,6 +42,7 @@ pub(crate) fn first_group(pieces: &[Segment]) -> Group
 // The group of one piece.
 fn group_of(t: &Segment) -> Group
     ensures one { result.count ≡ 1 }
+    ensures extents { result.extents ≡ extent t.now }
     ensures around { Surrounds result.bounds t.now }
 {
     Group {
@@ -55,6 +58,7 @@ fn joined(group: &Group, t: &Segment) -> Option<Group>
     ensures count { IfSome result (λ more. more.count ≡ group.now.count + 1) }
     ensures around { IfSome result (λ more. Surrounds more.bounds t.now) }
     ensures stay { IfSome result (λ more. (s : GridSegment) → Surrounds group.now.bounds s → Surrounds more.bounds s) }
+    ensures far { IfNone result (ReachFurther group.now.bounds t.now (group.now.extents + extent t.now)) }
 {
     let bounds = widened(&group.bounds, t);
     let extents = group.extents.saturating_add(u64::from(extent_of(t)));
@@ -70,6 +74,7 @@ fn joined(group: &Group, t: &Segment) -> Option<Group>
 
 // The box around the bounds and the piece.
 fn widened(bounds: &Bounds, t: &Segment) -> Bounds
+    ensures least { AreWidened bounds.now t.now result }
     ensures around { Surrounds result t.now }
     ensures stay { (s : GridSegment) → Surrounds bounds.now s → Surrounds result s }
 {
@@ -83,7 +88,9 @@ fn widened(bounds: &Bounds, t: &Segment) -> Bounds
 }
 
 // How wide the box is, or how high, whichever is more.
-fn extent_of_bounds(bounds: &Bounds) -> u32 {
+fn extent_of_bounds(bounds: &Bounds) -> u32
+    ensures { result ≡ boxes.extent_of_bounds bounds.now }
+{
     let width = bounds.right.saturating_sub(bounds.left);
     let height = bounds.high.saturating_sub(bounds.low);
     width.max(height)

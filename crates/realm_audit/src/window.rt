@@ -1,10 +1,10 @@
 //! The window of a box: on each level the columns and the rows in which pieces that reach the box stand, and where a search
 //! goes on behind a shelf.
-ghost use Rattle.std.specs.Prelude.{◌≡◌, ◌+◌, ◌<◌, ◌≤◌, IfSome};
+ghost use Rattle.std.specs.Prelude.{◌≡◌, ◌+◌, ◌<◌, ◌≤◌, IfSome, IfNone};
 ghost use Rattle.std.specs.declared.cmp.Ordering.TheVariants.{Less};
 ghost use Rattle.grid_base.specs.Grid.{grid_side};
 ghost use Rattle.realm_audit.specs.Shelves.{top_level};
-ghost use Rattle.realm_audit.specs.Windows.{window_at, NoneUpTo};
+ghost use Rattle.realm_audit.specs.Windows.{window_at, NoneUpTo, IsAtWindow};
 ghost use Rattle.realm_audit.specs.Ranges.{shelf_cmp};
 
 use crate::bounds::Bounds;
@@ -34,11 +34,13 @@ fn window_of(bounds: &Bounds, level: u32) -> Window
     }
 }
 
-// Where a search goes on behind a shelf: none where that shelf is in the window of its level.
+// Where a search goes on behind a shelf: none where that shelf is in the window of its level, or just below it in one of its
+// columns.
 pub(crate) fn next_shelf(bounds: &Bounds, at: &Shelf) -> Option<Shelf>
     requires { at.now.level ≤ top_level }
     ensures ahead { IfSome result (λ next. shelf_cmp at.now next ≡ Less) }
     ensures none_between { IfSome result (NoneUpTo bounds.now at.now) }
+    ensures there { IfNone result (IsAtWindow (window_at bounds.now at.now.level) at.now) }
 {
     let Shelf { level, column, row } = *at;
     let window = window_of(bounds, level);

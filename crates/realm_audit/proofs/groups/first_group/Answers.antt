@@ -10,7 +10,6 @@ loop-group-preserved c =
     let next = c.in-Some.ensures.count in
     let inside = within c in
     record {
-      some = omega (arith, next);
       within = omega (arith, next, inside);
       around = subst (λ (n : ℕ). All (Surrounds c.in-Some.more.bounds) (take n pieces)) (sym next)
           (one_more_within c.loop-group.group.bounds c.in-Some.more.bounds pieces c.loop-group.group.count
