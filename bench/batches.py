@@ -1,13 +1,10 @@
 #!/usr/bin/env python3
-"""How long one batch of 64 heavy queries takes, against the same queries one by one.
+"""Times a batch of 64 heavy queries, beside the same one by one. Both must give the same bytes. See README.md.
 
-    bench/batches.py crates/rose/out/rose [segments]
-
-A map of so many segments (5,000 where none are told) is drawn once, in a folder that is thrown away. Then the same 64 queries are
-asked of it, first as 64 lines and then behind the line `batch 64`. Both must give the same bytes. What is told is the time of
-each run less that of a run without a query, since every run reads the map from its file first: the seconds that passed, and those
-that processors worked, which other work on the machine disturbs less.
+What is told is the time of each run less that of a run without a query, since every run reads the map from its file first: the
+seconds that passed, and those that processors worked, which other work on the machine disturbs less.
 """
+import argparse
 import os
 import resource
 import subprocess
@@ -46,8 +43,11 @@ def run(program, folder, lines):
 
 
 def main():
-    program = os.path.abspath(sys.argv[1])
-    count = int(sys.argv[2]) if len(sys.argv) > 2 else 5000
+    parser = argparse.ArgumentParser()
+    parser.add_argument("program")
+    parser.add_argument("segments", nargs="?", type=int, default=5000)
+    options = parser.parse_args()
+    program, count = os.path.abspath(options.program), options.segments
     with tempfile.TemporaryDirectory() as folder:
         run(program, folder, "".join(segments(count)))
         _, started = run(program, folder, "")

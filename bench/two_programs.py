@@ -54,7 +54,7 @@ def one_after_another(program, folder, end):
     first = started(program, folder)
     expect("the first run", first.stdout.readline(), REPLY)
     files = files_of(folder)
-    for words in (["run"], ["check"], ["ship", "0"], ["follow"]):
+    for words in (["run"], ["check"], ["ship", "0"], ["certify"], ["follow"]):
         expect(f"a second program, {words}", ended(program, folder, words, NEXT_LINE), REFUSED)
     expect("a second program, gen", ended(program, folder, ["gen", "1", "7"])[0], 0)
     expect("the files", files_of(folder), files)
