@@ -11,9 +11,9 @@ The lines are one group, from `begin` to `commit`, with the regions before the l
 
 So that borders are shared which the sheet means to be one:
 
-1. Corners that lie within one unit of each other, in x and in y, become one: the first.
+1. Corners that lie within one unit of each other, in x and in y, become one: the nearest that is kept.
 2. A border gets each corner that lies on it or within one unit of it.
-3. Each border is drawn once, in a scratch folder, by the program ROSE. The shapes are given by the vertices that it has then.
+3. Each border is drawn, in a scratch folder, by the program ROSE, until none bends. The shapes are given by the vertices that it has then.
 
 With `--beside` the sheet comes beside what the files realm.a and realm.b of FOLDER stand for, which stay as they are. Its vertices
 come first in 1 and 2. A border whose two ends are those of an original there gets the vertices of this original, and one along which
@@ -52,11 +52,12 @@ def stop(text):
 
 
 # ---- what a sheet has
-def read(text, wanted):
+def read(sheet, wanted):
     """The shapes of a sheet, with places as it has them."""
     try:
+        text = pathlib.Path(sheet).read_text("utf-8-sig")
         return list(from_geojson(text, wanted) if text.lstrip().startswith("{") else from_wkt(text))
-    except (ArithmeticError, LookupError, TypeError, ValueError) as error:
+    except (ArithmeticError, LookupError, OSError, TypeError, ValueError) as error:
         stop(f"the sheet can't be read: {error}")
 
 
@@ -439,6 +440,6 @@ def words_given():
 
 if __name__ == "__main__":
     given = words_given()
-    sheet = [on_grid(shape, given.origin, given.scale) for shape in read(pathlib.Path(given.sheet).read_text("utf-8-sig"), given.name)]
+    sheet = [on_grid(shape, given.origin, given.scale) for shape in read(given.sheet, given.name)]
     with tempfile.TemporaryDirectory() as room:
         print("\n".join(brought_in(sheet, Scratch(program(given.rose), room, given.beside))))

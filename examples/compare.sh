@@ -1,6 +1,6 @@
 #!/usr/bin/env bash
 # compare.sh ROSE: runs the program ROSE on each scene of this folder, and on the lines that the pages show, and
-# compares the replies with those that stand there. Ends with 0 where all are equal, else with 1.
+# compares the replies with those that stand there. Ends with 0 where all are equal, with 2 for wrong words, else with 1.
 #
 # A scene NAME.txt has its replies in NAME.out. In a page a block marked `input` has lines, one marked `words` a command
 # line, and the block marked `reply` behind it what they are answered. An `input killed` is killed by SIGKILL once its

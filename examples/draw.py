@@ -3,11 +3,11 @@
 
     draw.py REPLIES [LATER] > PICTURE.svg
 
-REPLIES is what `rose run` gave. The points, segments and faces of all replies to `realm`, `show` and `faces` in it are drawn, one
-over another; other replies are passed over. With a second file what stands in one of the two alone is marked: red and dashed what
+REPLIES is what `rose run` gave. The points, segments and faces of all values, faces and realms in it are drawn, one over another;
+other replies are passed over. With a second file what stands in one of the two alone is marked: red and dashed what
 only the first has, blue what only the second has, and grey what both have. Below stands which part of the grid is shown.
 
-Ends with 0, or with 1 and a line on standard error where there is nothing to draw."""
+Ends with 0, with 1 and a line on standard error where there is nothing to draw, or with 2 where the words are wrong."""
 import argparse
 import pathlib
 

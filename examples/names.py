@@ -9,7 +9,8 @@ region, with the ends that were given, or `X Y` for each of its points. At last 
 `originals COUNT`. The files are read by bench/rules.py and are left as they are. What a `let` drew since the last checkpoint stands
 in no file: give the line `checkpoint` first. Damage is found as far as names and ids need it; `rose check` finds all.
 
-Ends with 0, or with 1 and a line on standard error where the files can't be read so or the name isn't there."""
+Ends with 0, with 1 and a line on standard error where the files can't be read so or the name isn't there, or with 2 where the
+words are wrong."""
 import argparse
 import importlib.util
 import pathlib

@@ -1,6 +1,6 @@
 #!/usr/bin/env bash
 # standby.sh ROSE [--kills N] [--seed N]: keeps a map on a primary and on a standby, two folders of this machine, by `rose ship` and
-# `rose follow`, while either is killed again and again. Ends with 0 where nothing was lost, else with 1.
+# `rose follow`, while either is killed again and again. Ends with 0 where nothing was lost, with 2 for wrong words, else with 1.
 #
 # In each round the primary draws some lines, and ships from the number that was acknowledged last, or an older one, as where an
 # acknowledgement is lost. On the way standby_filter.py loses frames, gives some again, also those of earlier rounds, and changes their
@@ -157,7 +157,7 @@ told() {
     (cd "$1" && printf '%s\n' "${@:2}" | "$rose" run)
 }
 
-# same_files: where all is records, file A is the same up to the gate behind the last, which stand behind an empty payload's page. A
+# same_files: where all is records, file A is the same up to the gate behind the last, which stand behind a head without pages. A
 # kill may leave bytes behind that gate
 same_files() {
     local length
