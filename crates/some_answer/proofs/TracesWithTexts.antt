@@ -1,8 +1,9 @@
 -- This file shows that the steps of each trace have texts, and that they are few where there are few originals.
-use Rattle.std.proofs.Common.{ℕ, ◌*◌, ◌≤◌, ◌^◌, List, [], ◌∷◌, length, All, sym, subst, arith}
+use Rattle.std.proofs.Common.{ℕ, ◌*◌, ◌-◌, ◌≤◌, ◌^◌, List, [], ◌∷◌, length, All, sym, subst, arith}
 use Rattle.std.specs.List.{AllByRecursion, sum_by}
 use Rattle.std.proofs.lemmas.List.Elements.{All-head, All-tail}
 use Rattle.std.proofs.lemmas.List.Sums.{sum_by-cons}
+use Rattle.grid_base.specs.Grid.{grid_side}
 use Rattle.grid_base.specs.Point.{GridPoint, OnGrid}
 use Rattle.grid_base.specs.Segment.{GridSegment}
 use Rattle.grid_base.specs.Drawing.{Drawing, IsPoint, IsPiece}
@@ -46,9 +47,9 @@ steps_text n d e (step ∷ trace) row on settles =
     )
 
 -- ---- how many they are
--- an original has fewer than 2^31 columns and rows
+-- an original has fewer links than the grid has columns and rows
 most_few : (originals : List Original) → All (λ o. OnGrid o.a × OnGrid o.b) originals
-    → sum_by (λ (o : Original). most_links (along o)) originals ≤ 2147483646 * length originals
+    → sum_by (λ (o : Original). most_links (along o)) originals ≤ 2 * (grid_side - 1) * length originals
 most_few [] on = omega arith
 most_few (o ∷ originals) on =
     let rest = most_few originals (All-tail (λ q. OnGrid q.a × OnGrid q.b) o originals on) in
@@ -57,7 +58,7 @@ most_few (o ∷ originals) on =
     let here = few_links o ends.0 ends.1 in
     omega (arith, rest, sum, here)
   where
-    few_links : (o : Original) → OnGrid o.a → OnGrid o.b → most_links (along o) ≤ 2147483646
+    few_links : (o : Original) → OnGrid o.a → OnGrid o.b → most_links (along o) ≤ 2 * (grid_side - 1)
     few_links o first second = omega (arith, first.column, first.row, second.column, second.row)
 
 -- so each trace has a text where there are few originals

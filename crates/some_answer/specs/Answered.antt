@@ -9,7 +9,7 @@ use Rattle.realm_store.specs.Keeping.{SpendableKept, present}
 use Rattle.one_reply.specs.Answerable.{IsDrawnOnGrid, HasSomeAnswer}
 
 -- Once the change has drawn there are at most 2^26 originals. So each trace has fewer than 2^57 steps, as a record may have: an
--- original has fewer than 2^31 links.
+-- original has fewer links than twice the columns of the grid.
 abbrev pub HasFewOriginals : Change → State → Type 0
 HasFewOriginals c s = (figure : Figure) → Draws c s figure → length s.drawing.originals + length figure.segments ≤ 2 ^ 26
 

@@ -3,4 +3,5 @@
 mod certificates;
 mod hearing;
 mod lines;
+mod many;
 mod texts;

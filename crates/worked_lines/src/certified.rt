@@ -81,7 +81,7 @@ fn files_have_a_sound_certificate(rt: HostRuntime) {
 }
 
 // Lines, the certificate of what they leave from empty files on, and the verdict on it.
-static DRAWN: [(&str, &str, &str); 7] = [
+static DRAWN: [(&str, &str, &str); 8] = [
     // The second segment crosses the first, whose chain holds the grid point (5, 2) too.
     (
         "segment 0 0 10 4\nsegment 6 0 6 9\n",
@@ -100,6 +100,13 @@ static DRAWN: [(&str, &str, &str); 7] = [
         "segment 0 0 4 0\ndelete 2\ndelete 1\nunpoint 1 1\nsegment 1 1 2 2\n",
         "change\nsegment 1 0 0 4 0\nchange\nremove 1\nchange\nsegment 2 1 1 2 2\nend\n",
         "sound 3 0\n",
+    ),
+    // A piece stays as long as an original has it, and one that is gone is drawn again.
+    (
+        "segment 0 0 4 0\nsegment 4 0 0 0\ndelete 1\nsegment 0 0 4 0\ndelete 2\ndelete 3\nsegment 0 0 4 0\npoint 2 0\n",
+        "change\nsegment 1 0 0 4 0\nchange\nsegment 2 0 0 4 0\nchange\nremove 1\nchange\nsegment 3 0 0 4 0\n\
+         change\nremove 2\nchange\nremove 3\nchange\nsegment 4 0 0 4 0\nchange\npoint 2 0\nsplit 2 0 0 0 4 0\nend\n",
+        "sound 8 1\n",
     ),
     // Points come in ascending order, those alone that weren't explicit before; and they stay when their name goes.
     (
@@ -147,6 +154,31 @@ fn what_was_drawn_has_a_sound_certificate(rt: HostRuntime) {
         let done = look_at_drawn(&rt, rt.alloc(), lines, certificate, verdict);
         assert!(rt; done.is_ok(), "no memory");
     }
+}
+
+// A checkpoint of 300 originals, that with the number i from (0, 2 i) to (10, 2 i), and a change behind it that crosses the first.
+fn look_at_many<R: Threads + Sync + Abort>(rt: &R, alloc: Global) -> Result<(), NoMemory> {
+    let mut lines = String::from_str(alloc, "begin\n")?;
+    let mut certificate = String::new(alloc);
+    for id in 1..=300u32 {
+        let y = 2 * id;
+        write!(lines, "segment 10 {y} 0 {y}\n")?;
+        write!(certificate, "original {id} 0 {y} 10 {y}\n")?;
+    }
+    lines.push_str("commit\ncheckpoint\nsegment 5 3 5 1\n")?;
+    certificate.push_str("change\nsegment 301 5 1 5 3\nmeet 0 2 10 2 5 1 5 3 5 2\nend\n")?;
+    look_at_drawn(
+        rt,
+        alloc,
+        lines.as_str(),
+        certificate.as_str(),
+        "sound 1 1\n",
+    )
+}
+
+#[test]
+fn a_state_of_hundreds_of_originals_has_a_sound_certificate(rt: HostRuntime) {
+    assert!(rt; look_at_many(&rt, rt.alloc()).is_ok(), "no memory");
 }
 
 // The status where each call fails in turn, of a run that gives six lines. Seven calls are made at the start, and one gives each
