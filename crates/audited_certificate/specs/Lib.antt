@@ -1,0 +1,2 @@
+-- what an audit finds
+pub mod Found
