@@ -70,13 +70,14 @@ def write_input(segments):
     return file
 
 
-def run(program, file, folder, word="run"):
-    """The output of the program, run with this word, on the file, its processor seconds, and its greatest memory in bytes."""
+def run(program, file, folder, *words):
+    """The output of the program, run with these words (`run` where there are none) on the file, its processor seconds, and its
+    greatest memory in bytes."""
     with (open(file.name, "rb") as source, tempfile.NamedTemporaryFile("r") as told,
           tempfile.TemporaryFile(dir=folder) as given, tempfile.TemporaryDirectory(dir=folder) as empty):
         # A process that starts others counts its own memory in, so a small one stands between. The replies go to a file: a
         # pipe would wake its reader at each of them, which costs the program more than the reply.
-        command = ["/usr/bin/time", "-o", told.name, "-f", "%M", program, word]
+        command = ["/usr/bin/time", "-o", told.name, "-f", "%M", program, *(words or ["run"])]
         before = resource.getrusage(resource.RUSAGE_CHILDREN)
         subprocess.run(command, cwd=empty, stdin=source, stdout=given, check=True)
         after = resource.getrusage(resource.RUSAGE_CHILDREN)
