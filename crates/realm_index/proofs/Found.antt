@@ -13,13 +13,13 @@ use Rattle.grid_base.specs.Segment.{GridSegment}
 use Rattle.realm_index.specs.Square.{whole_grid}
 use Rattle.realm_index.specs.Bounds.{Bounds, bounds_of, meets, holds, is_near, fits, home}
 use Rattle.realm_index.specs.Branch.{Branch, if_met, if_near, AddsKeys, count_near, HasMore, Lacks}
-use Rattle.realm_index.specs.Index.{Entries, HasKeysWhere, HasCountWhere}
+use Rattle.realm_index.specs.Index.{Entries, HasKeysWhere, HasCountWhere, HasEachKeyWhere}
 use Rattle.realm_index.specs.Kept.{HasEntriesOf, HoldsEntries}
 use Rattle.realm_index.specs.declared.tree.Entry.{Entry}
 use Rattle.realm_index.proofs.Homes.{fits_from}
 use Rattle.realm_index.proofs.Sums.{fails, all_pass, none_fails}
 use Rattle.realm_index.proofs.Searches.{zero_sum}
-use Rattle.realm_index.proofs.Orders.{HasSameSums, same_sorted}
+use Rattle.realm_index.proofs.Orders.{HasSameSums, same_sorted, same_numbers, same_length}
 use Rattle.realm_index.proofs.Picked.{picks, sum_picks, length_picks, sorted_picks, entries_ascend, picked_of_map}
 
 -- ---- two facts of one result
@@ -91,6 +91,20 @@ module _ (entries : List Entry) (segments : Entries) (have : HasEntriesOf entrie
       let all = sorted_picks (is_met w) (map.entries segments) (entries_ascend segments) in
       let same = same_sorted ks met up (non_decreasing_from_sorted met all) (met_sums ks adds) in
       subst (HasKeysWhere P segments) (sym same) (picked_of_map segments P (is_met w) (λ k t there. decides t))
+
+  pub met_in_any_order : (P : GridSegment → Type 0) → ((t : GridSegment) → IsTrue (meets w (bounds_of t)) ↔ P t) → (ks : List ℕ)
+      → AddsKeys w entries [] ks → HasEachKeyWhere P segments ks
+  met_in_any_order P decides ks adds =
+      let met = picks (is_met w) (map.entries segments) in
+      let these = picked_of_map segments P (is_met w) (λ k t there. decides t) in
+      let same = met_sums ks adds in
+      record {
+        exact = λ k. (
+          λ there. (these.exact k).0 (same_numbers ks met k same there),
+          λ is. same_numbers met ks k (λ f. sym (same f)) ((these.exact k).1 is),
+        );
+        once = record { keys = met; these = these; count = sym (same_length ks met same) };
+      }
 
 module _ (tree : Branch) (segments : Entries) (kept : HoldsEntries tree segments) (w : Bounds)
     (held : All (λ e. IsTrue (holds tree.square e.bounds)) tree.entries) where

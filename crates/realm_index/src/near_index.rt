@@ -6,7 +6,7 @@ ghost use Rattle.std.specs.FinMap as map;
 ghost use Rattle.std.specs.List.Sorted.{IsNonDecreasing};
 ghost use Rattle.grid_base.specs.Point.{InBox};
 ghost use Rattle.grid_base.specs.Segment.{BoxesMeet};
-ghost use Rattle.realm_index.specs.Index.{HasKeysWhere};
+ghost use Rattle.realm_index.specs.Index.{HasKeysWhere, HasEachKeyWhere};
 ghost use Rattle.realm_index.specs.Branch.{AddsKeys};
 
 use crate::bounds::Bounds;
@@ -44,6 +44,9 @@ impl Model for NearIndex {
 const TOP: u32 = 32;
 
 const ABOVE: u32 = 33;
+
+// Most searches find no more keys than this.
+const USUAL: usize = 32;
 
 impl NearIndex {
     /// An index without entries.
@@ -111,7 +114,14 @@ impl NearIndex {
         self.segments.segment(key)
     }
 
-    /// The keys of the segments whose boxes meet that of `s`, rims included, ascending.
+    /// The keys of the segments whose boxes meet that of `s`, rims included, each once, in no order.
+    pub fn meeting_unordered(&self, s: &Segment) -> Result<Vec<usize>, NoMemory>
+        ensures keys { IfOk result (λ v. HasEachKeyWhere (BoxesMeet s.now) self.now v.items) }
+    {
+        keys_found(&self.root, self.alloc, &Bounds::of(s))
+    }
+
+    /// The same keys, ascending.
     pub fn meeting(&self, s: &Segment) -> Result<Vec<usize>, NoMemory>
         ensures keys { IfOk result (λ v. HasKeysWhere (BoxesMeet s.now) self.now v.items) }
     {
@@ -131,8 +141,16 @@ fn keys_met(root: &Cluster, alloc: Global, near: &Bounds) -> Result<Vec<usize>, 
     ensures keys { IfOk result (λ v. AddsKeys near.now root.now.entries [] v.items) }
     ensures rising { IfOk result (λ v. IsNonDecreasing v.items) }
 {
-    let mut keys = Vec::new(alloc);
-    root.find(near, &mut keys)?;
+    let mut keys = keys_found(root, alloc, near)?;
     keys.sort_unstable();
+    Ok(keys)
+}
+
+// The same keys, in no order.
+fn keys_found(root: &Cluster, alloc: Global, near: &Bounds) -> Result<Vec<usize>, NoMemory>
+    ensures { IfOk result (λ v. AddsKeys near.now root.now.entries [] v.items) }
+{
+    let mut keys = Vec::with_capacity(alloc, USUAL)?;
+    root.find(near, &mut keys)?;
     Ok(keys)
 }
