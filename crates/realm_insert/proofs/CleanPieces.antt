@@ -2,17 +2,17 @@
 use Rattle.std.proofs.Common.{◌≡◌, ◌↔◌, ℕ, ◌+◌, ◌<◌, List, [], ◌∷◌, ◌++◌, length, take, get_or, All, Contains, IsSomeAnd}
 use Rattle.std.proofs.Common.{sym, ap, subst, ◌∙◌, inl, inr}
 use Rattle.std.proofs.lemmas.List.{take_more}
-use Rattle.std.proofs.lemmas.List.Elements.{All-contains, Contains-push_cases}
+use Rattle.std.proofs.lemmas.List.Elements.{All-contains, All-contains_itself, All-weaker, Contains-push_cases}
+use Rattle.std.specs.FinMap as map
 use Rattle.grid_base.specs.Point.{GridPoint}
 use Rattle.grid_base.specs.Segment.{GridSegment, IsEnd, BoxesMeet}
 use Rattle.grid_base.specs.Crossing.{Inside}
 use Rattle.grid_base.specs.Drawing.{Drawing, IsPoint, IsPiece}
 use Rattle.hook_chain.specs.StandingChains.{AllValid}
-use Rattle.realm_drawing.specs.Keyed.{KeyedDrawing, HasKey, AreKeyed}
-use Rattle.realm_index.specs.Index.{Entries, HasKeysWhere}
+use Rattle.realm_drawing.specs.Keyed.{KeyedDrawing, HasKey}
+use Rattle.realm_index.specs.Index.{Entries}
 use Rattle.realm_insert.specs.Kept.{IsIndexed}
-use Rattle.realm_insert.specs.Clashes.{IsInsideNone, NoClash, IsWithin, HasKeysRound, HasKeysAt}
-use Rattle.realm_insert.specs.Clashes.{CanBeSearched}
+use Rattle.realm_insert.specs.Clashes.{IsInsideNone, NoClash, AreClear, IsWithin, HasPiecesAt, CanBeSearched}
 use Rattle.realm_insert.specs.Work.{IsClean}
 use Rattle.realm_insert.proofs.CommonBoxes.{boxes_meet_at_end, boxes_meet_round_end, boxes_meet_inside, boxes_meet_crossing}
 use Rattle.realm_insert.proofs.CommonBoxes.{boxes_meet_within}
@@ -30,43 +30,49 @@ next_too P xs i d y within is before here x there =
 
 -- the index lists the key of each piece as P says
 pub key_is_listed : (P : GridSegment → Type 0) (d : KeyedDrawing) (index : Entries) (keys : List ℕ) → IsIndexed d index
-    → HasKeysWhere P index keys → (t : GridSegment) (k : ℕ) → HasKey d t k → P t → Contains keys k
-key_is_listed P d index keys indexed listed t k has is =
-    (listed.exact k).1 (subst (λ o. IsSomeAnd o P) (sym ((indexed t k).1 has)) is)
+    → ((k : ℕ) → Contains keys k ↔ IsSomeAnd (map.get index k) P) → (t : GridSegment) (k : ℕ) → HasKey d t k → P t
+    → Contains keys k
+key_is_listed P d index keys indexed exact t k has is =
+    (exact k).1 (subst (λ o. IsSomeAnd o P) (sym ((indexed t k).1 has)) is)
 
--- so those that it answers to a box are what is looked for round it
-pub searched_by_index : (d : KeyedDrawing) (index : Entries) (near : GridSegment) (keys list : List ℕ) → IsIndexed d index
-    → AreKeyed d → AllValid d.drawing → HasKeysWhere (BoxesMeet near) index keys → list ≡ keys → CanBeSearched d near list
-searched_by_index d index near keys list indexed keyed valid listed is = record {
-  round = subst (HasKeysRound d near) (sym is) (key_is_listed (BoxesMeet near) d index keys indexed listed);
-  keyed = keyed;
+-- the pieces whose boxes meet a box are what is looked for round it
+pub searched_round : (d : Drawing) (near : GridSegment) (found list : List GridSegment) → AllValid d
+    → ((t : GridSegment) → Contains found t ↔ (IsPiece d t × BoxesMeet near t)) → list ≡ found → CanBeSearched d near list
+searched_round d near found list valid met is = subst (CanBeSearched d near) (sym is) (record {
+  pieces = All-weaker (Contains found) (IsPiece d) (λ t there. ((met t).0 there).0) found (All-contains_itself found);
+  round = λ t piece meet. (met t).1 (piece, meet);
   valid = valid;
-}
+})
 
--- the keys round a box are those round each segment in it
-pub searched_within : (d : KeyedDrawing) (near s : GridSegment) (keys : List ℕ) → IsWithin near s → CanBeSearched d near keys
-    → CanBeSearched d s keys
-searched_within d near s keys within search = record {
-  round = λ t k has meet. search.round t k has (boxes_meet_within near s t within meet);
-  keyed = search.keyed;
+-- and so they are round each segment in it
+pub searched_within : (d : Drawing) (near s : GridSegment) (list : List GridSegment) → IsWithin near s → CanBeSearched d near list
+    → CanBeSearched d s list
+searched_within d near s list within search = record {
+  pieces = search.pieces;
+  round = λ t piece meet. search.round t piece (boxes_meet_within near s t within meet);
   valid = search.valid;
 }
 
 -- and at each end of such a segment
-pub round_end : (d : KeyedDrawing) (s : GridSegment) (p : GridPoint) (keys : List ℕ) → IsEnd p s → HasKeysRound d s keys
-    → HasKeysAt d p keys
-round_end d s p keys end round t k has in_t = round t k has (boxes_meet_round_end s t p end in_t)
+pub round_end : (d : Drawing) (s : GridSegment) (p : GridPoint) (list : List GridSegment) → IsEnd p s → CanBeSearched d s list
+    → HasPiecesAt d p list
+round_end d s p list end search t piece in_t = search.round t piece (boxes_meet_round_end s t p end in_t)
+
+-- where none of the pieces that have p inside is listed, p is inside no piece
+pub inside_none : (d : Drawing) (p : GridPoint) (list : List GridSegment) → HasPiecesAt d p list → All (λ t. Inside p t → ⊥) list
+    → IsInsideNone d p
+inside_none d p list round none t point piece inside =
+    All-contains (λ u. Inside p u → ⊥) list t none (round t piece inside.on.box) inside
 
 -- no violation is left at the piece s where no explicit point is inside it, and no piece whose box meets its box clashes
 -- with it
-pub clean_by : (d : Drawing) (list : List GridSegment) (s : GridSegment) → AllValid d
-    → ((t : GridSegment) → Contains list t ↔ (IsPiece d t × BoxesMeet s t)) → All (λ p. Inside p s → ⊥) d.points
-    → All (NoClash d s) list → IsClean d s
-clean_by d list s valid met explicit each =
+pub clean_by : (d : Drawing) (list : List GridSegment) (s : GridSegment) → CanBeSearched d s list
+    → All (λ p. Inside p s → ⊥) d.points → AreClear d s list → IsClean d s
+clean_by d list s search explicit each =
     let clear : (t : GridSegment) → IsPiece d t → BoxesMeet s t → NoClash d s t =
-    λ t piece meet. All-contains (NoClash d s) list t each ((met t).1 (piece, meet)) in
+    λ t piece meet. All-contains (λ u. BoxesMeet s u → NoClash d s u) list t each (search.round t piece meet) meet in
     record {
-      nothing_inside = λ p point piece inside. elim (explicit_or_end d p valid point) [
+      nothing_inside = λ p point piece inside. elim (explicit_or_end d p search.valid point) [
         | inl there ↦ All-contains (λ q. Inside q s → ⊥) d.points p explicit there inside
         | inr (t, (is_piece, end)) ↦
             (clear t is_piece (boxes_meet_inside s t p end inside)).no_end_of_t p end point inside

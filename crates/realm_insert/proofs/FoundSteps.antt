@@ -1,5 +1,6 @@
 -- This file shows that each step that the search finds is permitted, and what it means that it finds none.
-use Rattle.std.proofs.Common.{◌≡◌, ◌↔◌, Option, None, Some, MatchOption, IfSome, IsNone, refl, sym, subst, ◌∙◌, inl, inr}
+use Rattle.std.proofs.Common.{◌≡◌, ◌↔◌, false, Option, None, Some, MatchOption, IfSome, IsNone, refl, sym, subst, ◌∙◌, inl, inr}
+use Rattle.std.specs.Option.{is_some}
 use Rattle.grid_base.specs.Point.{GridPoint}
 use Rattle.grid_base.specs.Segment.{GridSegment}
 use Rattle.grid_base.specs.Crossing.{Inside, Cross}
@@ -15,6 +16,17 @@ pub none_means : (found : Option Step) (P Q : Type 0) (R : Step → Type 0) → 
     → MatchOption found Q R
 none_means None P Q R weaker said = weaker said
 none_means (Some step) P Q R weaker said = said
+
+-- and where something is found, nothing is said of it
+pub none_says : {A : Type 0} (found : Option A) (P Q : Type 0) (R : A → Type 0) → (IsNone found → P → Q) → MatchOption found P R
+    → MatchOption found Q R
+none_says None P Q R weaker said = weaker refl said
+none_says (Some x) P Q R weaker said = said
+
+-- what is said of None holds where there is no Some
+pub where_none : (A : Type 0) (P : Step → Type 0) (found : Option Step) → false ≡ is_some found → MatchOption found A P → A
+where_none A P None no_step none = none
+where_none A P (Some step) no_step some = cc
 
 -- a point inside a piece splits it
 pub split_is_permitted : (d : Drawing) (p : GridPoint) (t : GridSegment) → IsPoint d p → IsPiece d t → Inside p t

@@ -1,11 +1,11 @@
 -- What the search round one segment looks for. No public clause cites this file.
-use Rattle.std.specs.Prelude.{ℕ, List, Contains}
+use Rattle.std.specs.Prelude.{ℕ, List, All, Contains}
 use Rattle.grid_base.specs.Point.{GridPoint, InBox}
 use Rattle.grid_base.specs.Segment.{GridSegment, IsEnd, BoxesMeet}
 use Rattle.grid_base.specs.Crossing.{Inside, Cross}
 use Rattle.grid_base.specs.Drawing.{Drawing, IsPoint, IsPiece}
 use Rattle.hook_chain.specs.StandingChains.{AllValid}
-use Rattle.realm_drawing.specs.Keyed.{KeyedDrawing, HasKey, AreKeyed}
+use Rattle.realm_drawing.specs.Keyed.{KeyedDrawing, HasKey}
 
 -- p is no point, or it is inside no piece
 abbrev pub IsInsideNone : Drawing → GridPoint → Type 0
@@ -21,6 +21,14 @@ pub record NoClash (d : Drawing) (s t : GridSegment) : Type 0 where
   pub no_end_of_t : HasNoEndInside d t s
   pub no_crossing : Cross s t → ⊥
 
+-- no piece of the list whose box meets that of s makes one with it
+abbrev pub AreClear : Drawing → GridSegment → List GridSegment → Type 0
+AreClear d s list = All (λ t. BoxesMeet s t → NoClash d s t) list
+
+-- t is one of the list and has p inside
+abbrev pub IsOneRound : GridPoint → List GridSegment → GridSegment → Type 0
+IsOneRound p list t = Contains list t × Inside p t
+
 -- s is in the bounding box of near
 abbrev pub IsWithin : GridSegment → GridSegment → Type 0
 IsWithin near s = InBox near.a near.b s.a × InBox near.a near.b s.b
@@ -33,8 +41,12 @@ HasKeysRound d s keys = (t : GridSegment) (k : ℕ) → HasKey d t k → BoxesMe
 abbrev pub HasKeysAt : KeyedDrawing → GridPoint → List ℕ → Type 0
 HasKeysAt d p keys = (t : GridSegment) (k : ℕ) → HasKey d t k → InBox t.a t.b p → Contains keys k
 
--- so violations at s can be looked for among these keys
-pub record CanBeSearched (d : KeyedDrawing) (s : GridSegment) (keys : List ℕ) : Type 0 where
-  pub round : HasKeysRound d s keys
-  pub keyed : AreKeyed d
-  pub valid : AllValid d.drawing
+-- the pieces whose boxes hold p are listed
+abbrev pub HasPiecesAt : Drawing → GridPoint → List GridSegment → Type 0
+HasPiecesAt d p list = (t : GridSegment) → IsPiece d t → InBox t.a t.b p → Contains list t
+
+-- pieces are listed, among them those whose boxes meet that of s: so violations at s can be looked for among them
+pub record CanBeSearched (d : Drawing) (s : GridSegment) (list : List GridSegment) : Type 0 where
+  pub pieces : All (IsPiece d) list
+  pub round : (t : GridSegment) → IsPiece d t → BoxesMeet s t → Contains list t
+  pub valid : AllValid d

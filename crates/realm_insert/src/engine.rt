@@ -1,5 +1,5 @@
 //! The engine: the drawing, an index of its pieces by their keys, and the numbers of the state. It is spent from the
-//! beginning of a change to its end, so want of memory leaves it spent.
+//! beginning of a change to its end, so want of memory, or a step that doesn't fit, leaves it spent.
 ghost use Rattle.std.specs.Prelude.{◌≡◌, ◌⊎◌, ◌↔◌, ◌+◌, ◌≤◌, ◌<◌, ◌^◌, ℕ, true, false, List, [], ◌∷◌, ◌++◌};
 ghost use Rattle.std.specs.Prelude.{All, Contains, IsTrue, min, Err, IfOk, OnOk, MatchResult, MatchOption, IfSome, IsSomeAnd, IsNone};
 ghost use Rattle.grid_base.specs.Drawing.{IsDrawnRealm};
@@ -212,7 +212,7 @@ impl Engine {
         let _ = self.table.len();
     }
 
-    /// Whether want of memory ended a change, so that the engine can't be used any more.
+    /// Whether a change ended for want of memory or by a step that didn't fit, so that the engine can't be used any more.
     pub fn is_spent(&self) -> bool
         ensures { result ≡ self.now.spent }
     {

@@ -1,5 +1,5 @@
 //! The engine: it makes each change, settles the drawing, and keeps the traces.
-//! Begin at `Engine`, then read what a change makes of the state in `specs/State.antt`.
+//! Begin at `Engine`, then read what a change makes of the state in `specs/Next.antt`.
 #![tactic(auto)]
 
 mod applied;

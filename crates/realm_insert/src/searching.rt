@@ -1,8 +1,9 @@
 //! The search for violations round one segment of the list, among the pieces that are near it. Most are pieces; of
-//! one that isn't any more only the ends count. A search goes through pieces in the order of segments and takes the least
-//! that it comes to, whatever their keys are: so which violation is mended next depends on the drawing alone, and not on
-//! how it came into memory.
-ghost use Rattle.std.specs.Prelude.{◌≡◌, ◌↔◌, IfOk, MatchOption, All, Contains};
+//! one that isn't any more only the ends count. Of the pieces that make a violation a search takes the first by an order
+//! of segments, whatever their keys are: so which is mended next depends on the drawing alone, and not on how it came into
+//! memory.
+ghost use Rattle.std.specs.Prelude.{◌≡◌, ◌↔◌, IsTrue, IfOk, IfSome, IsNone, MatchOption, All, Contains};
+ghost use Rattle.std.specs.Bool.{OnTrue};
 ghost use Rattle.grid_base.specs.Point.{InBox};
 ghost use Rattle.grid_base.specs.Segment.{GridSegment, BoxesMeet};
 ghost use Rattle.grid_base.specs.Crossing.{Inside};
@@ -11,8 +12,8 @@ ghost use Rattle.realm_drawing.specs.Keyed.{AreKeyed};
 ghost use Rattle.rose_values.specs.Border.{AreSegmentsAscending};
 ghost use Rattle.hook_chain.specs.Mending.{IsPermitted};
 ghost use Rattle.realm_insert.specs.Kept.{IsIndexed};
-ghost use Rattle.realm_insert.specs.Clashes.{IsInsideNone, HasNoEndInside, NoClash};
-ghost use Rattle.realm_insert.specs.Clashes.{HasKeysRound, HasKeysAt, CanBeSearched};
+ghost use Rattle.realm_insert.specs.Clashes.{IsInsideNone, HasNoEndInside, NoClash, AreClear, IsOneRound};
+ghost use Rattle.realm_insert.specs.Clashes.{HasKeysRound, HasKeysAt, HasPiecesAt, CanBeSearched};
 ghost use Rattle.realm_insert.specs.Work.{IsClean};
 
 use chain_laws::crossing_step;
@@ -22,33 +23,33 @@ use realm_index::NearIndex;
 use rose_overlay::ascending_segments;
 use std::alloc::Global;
 
-// A step that mends a violation with `s` or an end of it; none where there is none. The pieces that are near `s` have keys
-// of the list.
+// A step that mends a violation with `s` or an end of it; none where there is none. Among `pieces` are those that are near
+// `s`.
 pub(crate) fn violation_at(
     alloc: Global,
     drawing: &Drawing,
-    keys: &[usize],
+    pieces: &[Segment],
     s: &Segment,
 ) -> Result<Option<Step>, NoMemory>
-    requires search { CanBeSearched drawing.now s.now keys.now }
+    requires search { CanBeSearched drawing.now.drawing s.now pieces.now }
     ensures { IfOk result
         (λ found. MatchOption found (IsClean drawing.now.drawing s.now) (IsPermitted drawing.now.drawing)) }
 {
     if drawing.key(s).is_some() {
-        violation_of(alloc, drawing, keys, s)
+        violation_of(alloc, drawing, pieces, s)
     } else {
-        split_by_ends(alloc, drawing, keys, s)
+        Ok(split_by_ends(drawing, pieces, s))
     }
 }
 
-// The same of the piece `s`.
+// The same of the piece `s`. Most are clean, which is seen with nothing put in order.
 fn violation_of(
     alloc: Global,
     drawing: &Drawing,
-    keys: &[usize],
+    pieces: &[Segment],
     s: &Segment,
 ) -> Result<Option<Step>, NoMemory>
-    requires search { CanBeSearched drawing.now s.now keys.now }
+    requires search { CanBeSearched drawing.now.drawing s.now pieces.now }
     requires piece { IsPiece drawing.now.drawing s.now }
     ensures { IfOk result
         (λ found. MatchOption found (IsClean drawing.now.drawing s.now) (IsPermitted drawing.now.drawing)) }
@@ -56,106 +57,119 @@ fn violation_of(
     if let Some(p) = drawing.explicit_inside(s) {
         return Ok(Some(Step::Split { p, t: *s }));
     }
-    let met = pieces_met(alloc, drawing, keys, s)?;
-    Ok(clash_among(drawing, s, met.as_slice()))
-}
-
-// The pieces whose boxes meet that of `s`, ascending.
-fn pieces_met(
-    alloc: Global,
-    drawing: &Drawing,
-    keys: &[usize],
-    s: &Segment,
-) -> Result<Vec<Segment>, NoMemory>
-    requires round { HasKeysRound drawing.now s.now keys.now }
-    requires keyed { AreKeyed drawing.now }
-    ensures met { IfOk result (λ list. (t : GridSegment)
-        → Contains list.items t ↔ (IsPiece drawing.now.drawing t × BoxesMeet s.now t)) }
-    ensures ascending { IfOk result (λ list. AreSegmentsAscending list.items) }
-{
-    let mut list = Vec::new(alloc);
-    for key in keys {
-        if let Some(t) = drawing.piece(*key) {
-            if box_meets(s, &t) {
-                list.push(t)?;
-            }
-        }
-    }
-    Ok(ascending_segments(list))
-}
-
-// The same of `s` where it is no piece, so that only its ends are left.
-fn split_by_ends(
-    alloc: Global,
-    drawing: &Drawing,
-    keys: &[usize],
-    s: &Segment,
-) -> Result<Option<Step>, NoMemory>
-    requires round { HasKeysRound drawing.now s.now keys.now }
-    requires keyed { AreKeyed drawing.now }
-    requires no_piece { IsPiece drawing.now.drawing s.now → ⊥ }
-    ensures { IfOk result
-        (λ found. MatchOption found (IsClean drawing.now.drawing s.now) (IsPermitted drawing.now.drawing)) }
-{
-    if let Some(step) = split_by(alloc, drawing, keys, &s.a())? {
-        return Ok(Some(step));
-    }
-    split_by(alloc, drawing, keys, &s.b())
-}
-
-// A step to `p` inside a piece, the least by the order of segments; none where `p` is no point or inside no piece.
-fn split_by(
-    alloc: Global,
-    drawing: &Drawing,
-    keys: &[usize],
-    p: &Point,
-) -> Result<Option<Step>, NoMemory>
-    requires round { HasKeysAt drawing.now p.now keys.now }
-    requires keyed { AreKeyed drawing.now }
-    ensures { IfOk result (λ found.
-        MatchOption found (IsInsideNone drawing.now.drawing p.now) (IsPermitted drawing.now.drawing)) }
-{
-    if !drawing.is_point(p) {
+    if are_clear(drawing, s, pieces) {
         return Ok(None);
     }
-    let round = pieces_among(alloc, drawing, keys, p)?;
-    match round.as_slice().first() {
-        Some(t) => Ok(Some(Step::Split { p: *p, t: *t })),
-        None => Ok(None),
-    }
+    let middle = middle_met(alloc, s, pieces)?;
+    Ok(first_clash(drawing, s, pieces, &middle))
 }
 
-// A step that mends a violation of the pieces `s` and one of the list. The search begins in the middle of the
-// list, so that a long piece that many cross is mostly cut far from its ends.
-fn clash_among(drawing: &Drawing, s: &Segment, pieces: &[Segment]) -> Option<Step>
+// Whether no piece of the list whose box meets that of `s` makes a violation with it.
+fn are_clear(drawing: &Drawing, s: &Segment, pieces: &[Segment]) -> bool
     requires piece { IsPiece drawing.now.drawing s.now }
     requires pieces { All (IsPiece drawing.now.drawing) pieces.now }
-    ensures { MatchOption result (All (NoClash drawing.now.drawing s.now) pieces.now)
-        (IsPermitted drawing.now.drawing) }
-{
-    let middle = pieces.len() / 2;
-    if let Some(step) = first_clash(drawing, s, &pieces[middle..]) {
-        return Some(step);
-    }
-    first_clash(drawing, s, &pieces[..middle])
-}
-
-// The same of the first piece of the list that has one, in an ascending list the least by the order of segments.
-fn first_clash(drawing: &Drawing, s: &Segment, pieces: &[Segment]) -> Option<Step>
-    requires piece { IsPiece drawing.now.drawing s.now }
-    requires pieces { All (IsPiece drawing.now.drawing) pieces.now }
-    ensures { MatchOption result (All (NoClash drawing.now.drawing s.now) pieces.now)
-        (IsPermitted drawing.now.drawing) }
+    ensures { OnTrue result (AreClear drawing.now.drawing s.now pieces.now) }
 {
     for t in pieces {
-        if let Some(step) = clash(drawing, s, t) {
-            return Some(step);
+        if clash_met(drawing, s, t).is_some() {
+            return false;
         }
     }
-    None
+    true
 }
 
-// A step that mends a violation of the two pieces.
+// The one in the middle, by the order of segments, of those whose boxes meet that of `s`.
+fn middle_met(alloc: Global, s: &Segment, pieces: &[Segment]) -> Result<Segment, NoMemory> {
+    let mut met = Vec::new(alloc);
+    for t in pieces {
+        if box_meets(s, t) {
+            met.push(*t)?;
+        }
+    }
+    if met.is_empty() {
+        return Ok(*s);
+    }
+    let half = met.len() / 2;
+    let (_, middle, _) = met.as_mut_slice().select_nth_unstable(half);
+    Ok(*middle)
+}
+
+// A step that mends a violation of the pieces `s` and one of those whose boxes meet its box: the first that has one by the
+// order of segments, from `middle` on and then from the least. So a long piece that many cross is mostly cut far from its
+// ends.
+fn first_clash(drawing: &Drawing, s: &Segment, pieces: &[Segment], middle: &Segment) -> Option<Step>
+    requires piece { IsPiece drawing.now.drawing s.now }
+    requires pieces { All (IsPiece drawing.now.drawing) pieces.now }
+    ensures { MatchOption result (AreClear drawing.now.drawing s.now pieces.now) (IsPermitted drawing.now.drawing) }
+{
+    let mut first: Option<FoundClash> = None;
+    for t in pieces {
+        if let Some(step) = sooner_clash(drawing, s, t, &first, middle) {
+            first = Some(FoundClash { with: *t, step });
+        }
+    }
+    match first {
+        Some(found) => Some(found.step),
+        None => None,
+    }
+}
+
+// A piece that makes a violation with the one that is looked at, and the step that mends it.
+#[derive(Clone, Copy)]
+struct FoundClash {
+    with: Segment,
+    step: Step,
+}
+
+// A step that mends a violation of the two pieces, if their boxes meet and `t` comes before the piece that was found.
+fn sooner_clash(
+    drawing: &Drawing,
+    s: &Segment,
+    t: &Segment,
+    found: &Option<FoundClash>,
+    middle: &Segment,
+) -> Option<Step>
+    requires piece { IsPiece drawing.now.drawing s.now }
+    requires other { IsPiece drawing.now.drawing t.now }
+    ensures permitted { IfSome result (IsPermitted drawing.now.drawing) }
+    ensures clear { IsNone result → IsNone found.now → BoxesMeet s.now t.now → NoClash drawing.now.drawing s.now t.now }
+{
+    if comes_before(t, found, middle) {
+        clash_met(drawing, s, t)
+    } else {
+        None
+    }
+}
+
+// Whether `t` comes before the piece that was found, from `middle` on and then from the least.
+fn comes_before(t: &Segment, found: &Option<FoundClash>, middle: &Segment) -> bool
+    ensures { IsNone found.now → IsTrue result }
+{
+    match found {
+        None => true,
+        Some(first) => match (t < middle, first.with < *middle) {
+            (false, true) => true,
+            (true, false) => false,
+            _ => *t < first.with,
+        },
+    }
+}
+
+// A step that mends a violation of the two pieces, if their boxes meet.
+fn clash_met(drawing: &Drawing, s: &Segment, t: &Segment) -> Option<Step>
+    requires piece { IsPiece drawing.now.drawing s.now }
+    requires other { IsPiece drawing.now.drawing t.now }
+    ensures { MatchOption result (BoxesMeet s.now t.now → NoClash drawing.now.drawing s.now t.now)
+        (IsPermitted drawing.now.drawing) }
+{
+    if box_meets(s, t) {
+        clash(drawing, s, t)
+    } else {
+        None
+    }
+}
+
+// The same, whether their boxes meet or not.
 fn clash(drawing: &Drawing, s: &Segment, t: &Segment) -> Option<Step>
     requires piece { IsPiece drawing.now.drawing s.now }
     requires other { IsPiece drawing.now.drawing t.now }
@@ -193,6 +207,95 @@ fn split_at(drawing: &Drawing, p: &Point, t: &Segment) -> Option<Step>
     } else {
         None
     }
+}
+
+// The same of `s` where it is no piece, so that only its ends are left.
+fn split_by_ends(drawing: &Drawing, pieces: &[Segment], s: &Segment) -> Option<Step>
+    requires search { CanBeSearched drawing.now.drawing s.now pieces.now }
+    requires no_piece { IsPiece drawing.now.drawing s.now → ⊥ }
+    ensures { MatchOption result (IsClean drawing.now.drawing s.now) (IsPermitted drawing.now.drawing) }
+{
+    if let Some(step) = split_by(drawing, pieces, &s.a()) {
+        return Some(step);
+    }
+    split_by(drawing, pieces, &s.b())
+}
+
+// A step to `p` inside a piece, the least by the order of segments; none where `p` is no point or inside no piece.
+fn split_by(drawing: &Drawing, pieces: &[Segment], p: &Point) -> Option<Step>
+    requires pieces { All (IsPiece drawing.now.drawing) pieces.now }
+    requires round { HasPiecesAt drawing.now.drawing p.now pieces.now }
+    ensures { MatchOption result (IsInsideNone drawing.now.drawing p.now) (IsPermitted drawing.now.drawing) }
+{
+    if !drawing.is_point(p) {
+        return None;
+    }
+    match least_round(pieces, p) {
+        Some(t) => Some(Step::Split { p: *p, t }),
+        None => None,
+    }
+}
+
+// The least of the segments that have `p` inside.
+fn least_round(list: &[Segment], p: &Point) -> Option<Segment>
+    ensures { MatchOption result (All (λ t. Inside p.now t → ⊥) list.now) (IsOneRound p.now list.now) }
+{
+    let mut least = None;
+    for t in list {
+        if in_side(t, p) && is_less(t, &least) {
+            least = Some(*t);
+        }
+    }
+    least
+}
+
+// Whether `t` comes before the segment that was found.
+fn is_less(t: &Segment, found: &Option<Segment>) -> bool
+    ensures { IsNone found.now → IsTrue result }
+{
+    match found {
+        None => true,
+        Some(least) => t < least,
+    }
+}
+
+// The pieces whose boxes meet that of `near`, in no order.
+pub(crate) fn pieces_near(
+    alloc: Global,
+    drawing: &Drawing,
+    index: &NearIndex,
+    near: &Segment,
+) -> Result<Vec<Segment>, NoMemory>
+    requires indexed { IsIndexed drawing.now index.now }
+    requires keyed { AreKeyed drawing.now }
+    ensures { IfOk result (λ list. (t : GridSegment)
+        → Contains list.items t ↔ (IsPiece drawing.now.drawing t × BoxesMeet near.now t)) }
+{
+    let keys = index.meeting_unordered(near)?;
+    pieces_met(alloc, drawing, keys.as_slice(), near)
+}
+
+// The same, of which the keys are listed.
+fn pieces_met(
+    alloc: Global,
+    drawing: &Drawing,
+    keys: &[usize],
+    near: &Segment,
+) -> Result<Vec<Segment>, NoMemory>
+    requires round { HasKeysRound drawing.now near.now keys.now }
+    requires keyed { AreKeyed drawing.now }
+    ensures { IfOk result (λ list. (t : GridSegment)
+        → Contains list.items t ↔ (IsPiece drawing.now.drawing t × BoxesMeet near.now t)) }
+{
+    let mut list = Vec::with_capacity(alloc, keys.len())?;
+    for key in keys {
+        if let Some(t) = drawing.piece(*key) {
+            if box_meets(near, &t) {
+                list.push(t)?;
+            }
+        }
+    }
+    Ok(list)
 }
 
 // The pieces that have `p` inside, ascending.

@@ -19,7 +19,7 @@ ghost use Rattle.realm_insert.specs.declared.settling.SettleError.TheVariants.{M
 
 use crate::indexing::{forget_gone, keyed_pieces, put_in_index};
 use crate::near_box::{box_of_last, lies_within};
-use crate::searching::violation_at;
+use crate::searching::{pieces_near, violation_at};
 use grid_base::{NoMemory, Segment, Step};
 use realm_drawing::{Drawing, KeyedPiece, StepError};
 use realm_index::NearIndex;
@@ -157,12 +157,12 @@ pub(crate) fn next_step(
     while let Some(piece) = fresh.as_slice().last().copied() {
         let many = fresh.len().saturating_sub(before).saturating_add(1);
         let near = box_of_last(fresh.as_slice(), &piece, many);
-        let keys = index.meeting(&near)?;
-        let found = step_at_last(alloc, drawing, keys.as_slice(), &piece, fresh)?;
+        let pieces = pieces_near(alloc, drawing, index, &near)?;
+        let found = step_at_last(alloc, drawing, pieces.as_slice(), &piece, fresh)?;
         if found.is_some() {
             return Ok(found);
         }
-        let found = step_within(alloc, drawing, keys.as_slice(), &near, fresh)?;
+        let found = step_within(alloc, drawing, pieces.as_slice(), &near, fresh)?;
         if found.is_some() {
             return Ok(found);
         }
@@ -174,11 +174,11 @@ pub(crate) fn next_step(
 fn step_within(
     alloc: Global,
     drawing: &Drawing,
-    keys: &[usize],
+    pieces: &[Segment],
     near: &Segment,
     fresh: &mut Vec<Segment>,
 ) -> Result<Option<Step>, NoMemory>
-    requires search { CanBeSearched drawing.now near.now keys.now }
+    requires search { CanBeSearched drawing.now.drawing near.now pieces.now }
     requires covered { IsCoveredBy drawing.now.drawing fresh.old.items }
     ensures found { IfOk result (λ found. IfSome found (IsPermitted drawing.now.drawing)) }
     ensures covered { OnOk result (IsCoveredBy drawing.now.drawing fresh.new.items) }
@@ -188,7 +188,7 @@ fn step_within(
         if !lies_within(near, &piece) {
             return Ok(None);
         }
-        let found = step_at_last(alloc, drawing, keys, &piece, fresh)?;
+        let found = step_at_last(alloc, drawing, pieces, &piece, fresh)?;
         if found.is_some() {
             return Ok(found);
         }
@@ -200,12 +200,12 @@ fn step_within(
 fn step_at_last(
     alloc: Global,
     drawing: &Drawing,
-    keys: &[usize],
+    pieces: &[Segment],
     piece: &Segment,
     fresh: &mut Vec<Segment>,
 ) -> Result<Option<Step>, NoMemory>
     requires last { slice_get fresh.old.items (length fresh.old.items - 1) ≡ Some piece.now }
-    requires search { CanBeSearched drawing.now piece.now keys.now }
+    requires search { CanBeSearched drawing.now.drawing piece.now pieces.now }
     requires covered { IsCoveredBy drawing.now.drawing fresh.old.items }
     ensures found { IfOk result (λ found. IfSome found (IsPermitted drawing.now.drawing)) }
     ensures covered { OnOk result (IsCoveredBy drawing.now.drawing fresh.new.items) }
@@ -213,7 +213,7 @@ fn step_at_last(
     ensures shorter { IfOk result (λ found.
         IsNone found → length fresh.new.items < length fresh.old.items) }
 {
-    let found = violation_at(alloc, drawing, keys, piece)?;
+    let found = violation_at(alloc, drawing, pieces, piece)?;
     if found.is_none() {
         fresh.pop();
     }

@@ -28,8 +28,12 @@ fn posts(alloc: Global) -> Result<NearIndex, Fail> {
 fn compare(rt: &impl Abort, index: &NearIndex, rows: &[([u64; 4], &[usize])]) -> Result<(), Fail> {
     for row in rows {
         let ([x, y, u, v], keys) = *row;
-        let met = index.meeting(&segment(x, y, u, v)?)?;
+        let near = segment(x, y, u, v)?;
+        let met = index.meeting(&near)?;
         assert_eq!(rt; met.as_slice(), keys, "{x} {y} {u} {v}");
+        let mut met = index.meeting_unordered(&near)?;
+        met.sort_unstable();
+        assert_eq!(rt; met.as_slice(), keys, "{x} {y} {u} {v} in any order");
     }
     Ok(())
 }

@@ -6,12 +6,12 @@ use Rattle.realm_insert.proofs.searching.pieces_met.Goals.{in-Some+then-box_meet
 
 pub loop-key-init : goal.loop-key-init
 loop-key-init c =
-    nothing_listed (BoxesMeet c.args.s.now) c.args.drawing.now c.args.keys.now c.new-list.result.items c.new-list.ensures.items
+    nothing_listed (BoxesMeet c.args.near.now) c.args.drawing.now c.args.keys.now c.in_ok-list.list.items c.in_ok-list.ensures.items
 
 -- the piece with this key is listed, or its box isn't met; or there is none
 pub loop-key-preserved : goal.loop-key-preserved
 loop-key-preserved c =
-    let wanted = BoxesMeet c.args.s.now in
+    let wanted = BoxesMeet c.args.near.now in
     let d = c.args.drawing.now in
     let keys = c.args.keys.now in
     let i = c.loop-key.key-index in
@@ -39,8 +39,8 @@ loop-key-preserved c =
     ]
 
 -- the keys of all pieces that are met are gone through
-pub returns-clause-met : goal.returns-clause-met
-returns-clause-met c =
-    all_listed (BoxesMeet c.args.s.now) c.args.drawing.now c.args.keys.now c.loop-key.key-index c.loop-key.list.items
-    c.ascending_segments.result.items c.requires.keyed c.requires.round
-    (omega (arith, c.loop-key-test.false)) c.loop-key.invariant c.ascending_segments.ensures.same
+pub returns : goal.returns
+returns c =
+    let list = c.loop-key.list.items in
+    all_listed (BoxesMeet c.args.near.now) c.args.drawing.now c.args.keys.now c.loop-key.key-index list list c.requires.keyed
+    c.requires.round (omega (arith, c.loop-key-test.false)) c.loop-key.invariant (λ t. (λ there. there, λ there. there))

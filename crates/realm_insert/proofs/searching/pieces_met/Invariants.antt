@@ -5,4 +5,4 @@ use Rattle.realm_insert.proofs.searching.pieces_met.Given as goal
 
 -- the pieces so far whose boxes are met are listed
 abbrev pub invariant-loop-key : goal.invariant-loop-key
-invariant-loop-key l = ListsOf (BoxesMeet l.s) l.drawing (take l.key-index l.keys) l.list.items
+invariant-loop-key l = ListsOf (BoxesMeet l.near) l.drawing (take l.key-index l.keys) l.list.items

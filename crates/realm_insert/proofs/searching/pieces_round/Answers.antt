@@ -10,4 +10,4 @@ pieces_among-requires-clause-round c =
     let d = c.args.drawing.now in
     let p = c.args.p.now in
     subst (HasKeysAt d p) (sym c.as_slice.ensures.value)
-    (key_is_listed (λ t. InBox t.a t.b p) d c.args.index.now c.in_ok-keys.keys.items c.requires.indexed c.in_ok-keys.ensures.keys)
+    (key_is_listed (λ t. InBox t.a t.b p) d c.args.index.now c.in_ok-keys.keys.items c.requires.indexed c.in_ok-keys.ensures.keys.exact)

@@ -1,6 +1,4 @@
-use Rattle.std.proofs.Common.{Option, MatchOption, inl, inr, subst}
-use Rattle.std.proofs.lemmas.Result.{IfOk-weaker}
-use Rattle.grid_base.specs.declared.kinds.Step.{Step}
+use Rattle.std.proofs.Common.{inl, inr, subst}
 use Rattle.hook_chain.specs.Mending.{IsPermitted}
 use Rattle.realm_insert.specs.Clashes.{IsInsideNone}
 use Rattle.realm_insert.specs.Work.{IsClean}
@@ -8,14 +6,14 @@ use Rattle.realm_insert.proofs.CleanPieces.{clean_by_ends, round_end}
 use Rattle.realm_insert.proofs.FoundSteps.{none_means}
 use Rattle.realm_insert.proofs.searching.split_by_ends.Goals as goal
 
--- the keys round s are those at its ends
+-- the pieces round s are those at its ends
 pub split_by-requires-clause-round : goal.split_by-requires-clause-round
 split_by-requires-clause-round c =
-    round_end c.args.drawing.now c.args.s.now c.a.result c.args.keys.now (inl c.a.ensures.end) c.requires.round
+    round_end c.args.drawing.now.drawing c.args.s.now c.a.result c.args.pieces.now (inl c.a.ensures.end) c.requires.search
 
 pub split_by-requires-2-clause-round : goal.split_by-requires-2-clause-round
 split_by-requires-2-clause-round c =
-    round_end c.args.drawing.now c.args.s.now c.b.result c.args.keys.now (inr c.b.ensures.end) c.requires.round
+    round_end c.args.drawing.now.drawing c.args.s.now c.b.result c.args.pieces.now (inr c.b.ensures.end) c.requires.search
 
 -- the lesser end is inside no piece, and what is found of the greater is all
 pub returns : goal.returns
@@ -23,10 +21,8 @@ returns c =
     let d = c.args.drawing.now.drawing in
     let s = c.args.s.now in
     let b = c.b.result in
-    let no_a = rw c.in_default.is at c.in_ok-step.ensures in
-    IfOk-weaker c.split_by-2.result (λ (found : Option Step). MatchOption found (IsInsideNone d b) (IsPermitted d))
-    (λ (found : Option Step). MatchOption found (IsClean d s) (IsPermitted d))
-    (λ found. none_means found (IsInsideNone d b) (IsClean d s) (IsPermitted d)
+    let no_a = rw c.in_default.is at c.split_by.ensures in
+    none_means c.split_by-2.result (IsInsideNone d b) (IsClean d s) (IsPermitted d)
     (λ no_b. clean_by_ends d s c.requires.no_piece (subst (IsInsideNone d) c.a.ensures.end no_a)
-    (subst (IsInsideNone d) c.b.ensures.end no_b)))
+    (subst (IsInsideNone d) c.b.ensures.end no_b))
     c.split_by-2.ensures

@@ -1,9 +1,6 @@
-use Rattle.std.proofs.Common.{◌↔◌, List, All, Contains, refl, sym, subst, inl}
-use Rattle.std.proofs.lemmas.List.Elements.{All-contains_itself, All-weaker}
-use Rattle.grid_base.specs.Segment.{GridSegment, BoxesMeet}
-use Rattle.grid_base.specs.Drawing.{IsPiece}
+use Rattle.std.proofs.Common.{refl, inl}
 use Rattle.hook_chain.specs.Mending.{IsPermitted}
-use Rattle.realm_insert.specs.Clashes.{NoClash}
+use Rattle.realm_insert.specs.Clashes.{AreClear}
 use Rattle.realm_insert.specs.Work.{IsClean}
 use Rattle.realm_insert.proofs.CleanPieces.{clean_by}
 use Rattle.realm_insert.proofs.FoundSteps.{none_means, split_is_permitted}
@@ -15,22 +12,19 @@ returns-in-Some c =
     let found = c.in-Some.ensures.inside in
     split_is_permitted c.args.drawing.now.drawing c.in-Some.p c.args.s.now (inl found.0) c.requires.piece found.1
 
--- all that are met are pieces
-pub clash_among-requires-clause-pieces : goal.clash_among-requires-clause-pieces
-clash_among-requires-clause-pieces c =
-    let d = c.args.drawing.now.drawing in
-    let list = c.in_ok-met.met.items in
-    subst (All (IsPiece d)) (sym c.as_slice.ensures.value)
-    (All-weaker (Contains list) (IsPiece d) (λ t there. ((c.in_ok-met.ensures.met t).0 there).0) list (All-contains_itself list))
-
 -- no explicit point is inside s, and no piece whose box meets its box clashes with it
+pub returns-then-are_clear : goal.returns-then-are_clear
+returns-then-are_clear c =
+    let none = rw c.in_default.is at c.explicit_inside.ensures.none in
+    clean_by c.args.drawing.now.drawing c.args.pieces.now c.args.s.now c.requires.search (none.0 refl)
+    (rw c.if-are_clear.true at c.are_clear.ensures)
+
+-- so it would be if no clash were found
 pub returns : goal.returns
 returns c =
     let d = c.args.drawing.now.drawing in
     let s = c.args.s.now in
-    let list = c.as_slice.result.now in
+    let pieces = c.args.pieces.now in
     let none = rw c.in_default.is at c.explicit_inside.ensures.none in
-    let met = subst (λ (l : List GridSegment). (t : GridSegment) → Contains l t ↔ (IsPiece d t × BoxesMeet s t))
-    (sym c.as_slice.ensures.value) c.in_ok-met.ensures.met in
-    none_means c.clash_among.result (All (NoClash d s) list) (IsClean d s) (IsPermitted d)
-    (clean_by d list s c.requires.search.valid met (none.0 refl)) c.clash_among.ensures
+    none_means c.first_clash.result (AreClear d s pieces) (IsClean d s) (IsPermitted d)
+    (clean_by d pieces s c.requires.search (none.0 refl)) c.first_clash.ensures

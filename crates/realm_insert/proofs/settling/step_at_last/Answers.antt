@@ -1,18 +1,12 @@
-use Rattle.std.proofs.Common.{◌≡◌, ℕ, ◌-◌, false, not, Option, Some, None, MatchOption, length, get_or, sym, subst, ◌∙◌, ap, arith}
+use Rattle.std.proofs.Common.{◌≡◌, ℕ, ◌-◌, not, Some, length, get_or, sym, subst, ◌∙◌, ap, arith}
 use Rattle.std.proofs.lemmas.Option.{slice_get_within, get_or_from_slice_get}
-use Rattle.std.specs.Option.{is_some}
 use Rattle.grid_base.specs.Segment.{GridSegment}
-use Rattle.grid_base.specs.declared.kinds.Step.{Step}
 use Rattle.hook_chain.specs.Mending.{IsPermitted}
 use Rattle.realm_insert.specs.Work.{IsClean, IsCoveredBy}
 use Rattle.realm_insert.proofs.Covering.{covered_after_pop}
+use Rattle.realm_insert.proofs.FoundSteps.{where_none}
 use Rattle.realm_insert.proofs.settling.step_at_last.Goals as goal
 use Rattle.realm_insert.proofs.settling.step_at_last.Goals.{then-is_none, else-is_none}
-
--- what is said of None holds where there is no Some
-where_none : (A : Type 0) (P : Step → Type 0) (found : Option Step) → false ≡ is_some found → MatchOption found A P → A
-where_none A P None no_step none = none
-where_none A P (Some step) no_step some = cc
 
 -- the piece that is found clean comes off, and else the list stays
 pub returns-clause-covered : goal.returns-clause-covered
