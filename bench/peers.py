@@ -8,7 +8,7 @@ import subprocess
 import tempfile
 
 import overlays
-from segments import draws, run
+from segments import draws, instructions, run
 
 SOURCES = os.path.join(os.path.dirname(os.path.abspath(__file__)), "peers")
 JTS = "/usr/share/java/jts-core.jar"
@@ -94,37 +94,38 @@ def told(command, given, times):
 
 # ---- drawing
 
-def drawn(program, name, count, segments, given):
-    """The pieces that the program draws, its processor seconds, the best of some times, and its greatest memory in MB: the generated map
-    by its own word, any other as lines."""
+def drawn(programs, name, count, segments, given):
+    """Of each program the pieces that it draws, its processor seconds, the best of some times in turn, its greatest memory in MB, and
+    its instructions where they are asked for: the generated map by its own word, any other as lines."""
     if name == "generated":
         text, words, pattern = "", ["gen", str(count), "7"], rb"^pieces (\d+)$"
     else:
         text, words, pattern = "".join("segment %d %d %d %d\n" % s for s in segments) + "realm\n", ["run"], rb"^realm \d+ (\d+)$"
-    runs = []
     with tempfile.NamedTemporaryFile("w") as file:
         file.write(text)
         file.flush()
-        for _ in range(given.times):
-            runs.append(run(program, file, given.folder, *words))
-    pieces = int(re.search(pattern, runs[0][0], re.M).group(1))
-    return pieces, min(seconds for _, seconds, _ in runs), max(memory for _, _, memory in runs) / 1e6
+        turns = [[run(program, file, given.folder, *words) for program in programs] for _ in range(given.times)]
+        counts = [instructions(program, file, given.folder, *words) if given.instructions else None for program in programs]
+    for runs, counted in zip(zip(*turns), counts):
+        pieces = int(re.search(pattern, runs[0][0], re.M).group(1))
+        yield pieces, min(seconds for _, seconds, _ in runs), max(memory for _, _, memory in runs) / 1e6, counted
 
 
-def time_drawing(program, given, folder):
+def time_drawing(programs, given, folder):
     peers = here({"GEOS": compiled(folder, "noding_geos.c", "-lgeos_c"), "JTS": java(folder)})
-    print("field      number  segments  program   seconds  rose by it    pieces        MB")
+    print("field      number  segments  program   seconds  rose by it    pieces        MB  instructions")
     for name in given.fields:
         field, counts = FIELDS[name]
         for count in (n for n in counts if n <= given.most):
             segments = list(field(count))
-            rows = [("rose", *drawn(program, name, count, segments, given))]
+            names = ["rose", *(f"older {i}" for i in range(1, len(programs)))]
+            rows = [(who, *row) for who, row in zip(names, drawn(programs, name, count, segments, given))]
             for peer, command in peers.items():
                 pieces, seconds, memory = told(command, "".join("%d %d %d %d\n" % s for s in segments), given.times)
-                rows.append((peer, int(pieces), float(seconds), int(memory) / 1e3))
-            for who, pieces, seconds, memory in rows:
+                rows.append((peer, int(pieces), float(seconds), int(memory) / 1e3, None))
+            for who, pieces, seconds, memory, counted in rows:
                 by = "" if who == "rose" else f"{rows[0][2] / seconds:.2f}"
-                print(f"{name:9} {count:7} {len(segments):9}  {who:7} {seconds:9.3f}  {by:>10} {pieces:9} {memory:9.1f}", flush=True)
+                print(f"{name:9} {count:7} {len(segments):9}  {who:7} {seconds:9.3f}  {by:>10} {pieces:9} {memory:9.1f}  {counted or '-':>12}", flush=True)
 
 
 # ---- intersections
@@ -157,6 +158,8 @@ def time_overlays(program, given, folder):
 def main():
     reader = argparse.ArgumentParser(description=__doc__)
     reader.add_argument("program")
+    reader.add_argument("--older", nargs="*", default=[], help="older programs, which draw the same in turn")
+    reader.add_argument("--instructions", action="store_true", help="count those of drawing too, which is slow")
     reader.add_argument("--fields", nargs="*", choices=FIELDS, default=list(FIELDS), help="what is drawn")
     reader.add_argument("--areas", nargs="*", choices=AREAS, default=list(AREAS), help="what is intersected")
     reader.add_argument("--most", type=int, default=1000000, help="leaves out rows with a greater number")
@@ -166,7 +169,7 @@ def main():
     program = os.path.abspath(given.program)
     with tempfile.TemporaryDirectory() as folder:
         if given.fields:
-            time_drawing(program, given, folder)
+            time_drawing([program, *map(os.path.abspath, given.older)], given, folder)
         if given.areas:
             time_overlays(program, given, folder)
 

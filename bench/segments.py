@@ -93,11 +93,11 @@ def run_in_turn(programs, file, times, folder):
         yield tried[0][0], min(seconds for _, seconds, _ in tried), max(memory for _, _, memory in tried)
 
 
-def instructions(program, file, folder):
+def instructions(program, file, folder, *words):
     """How many instructions the run takes, counted by valgrind; none where it isn't there."""
     if shutil.which("valgrind") is None:
         return None
-    command = ["valgrind", "--tool=callgrind", "--callgrind-out-file=/dev/null", program, "run"]
+    command = ["valgrind", "--tool=callgrind", "--callgrind-out-file=/dev/null", program, *(words or ["run"])]
     with open(file.name, "rb") as source, tempfile.TemporaryDirectory(dir=folder) as empty:
         done = subprocess.run(command, cwd=empty, stdin=source, stdout=subprocess.DEVNULL, stderr=subprocess.PIPE, check=True)
     found = re.search(rb"Collected : (\d+)", done.stderr)
