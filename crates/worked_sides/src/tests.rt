@@ -1,8 +1,10 @@
-//! The sides of the sides of nested squares, by a sweep whose calls are counted, and by threads; and jobs that threads answer.
+//! The sides of the sides of nested squares, by a sweep whose calls are counted, and by threads; those of random borders, by
+//! one thread and by many; and jobs that threads answer.
 ghost use Rattle.std.specs.Prelude.{◌≡◌};
 
 use crate::are_one_realm;
 use crate::counting::Counting;
+use crate::fields::Field;
 use crate::letters::Letters;
 use crate::squares::{all_sides_of_squares, region, wanted};
 use grid_base::{NoMemory, Segment, Sides, Steps};
@@ -99,6 +101,52 @@ fn threads_tell_the_same(rt: HostRuntime) {
     for (times, in_order) in [(1, true), (12, false), (12, true)] {
         assert!(rt;
             look_at_threads(&rt, rt.alloc(), times, in_order).is_some(),
+            "no memory"
+        );
+    }
+}
+
+// Each segment has beside it what the cells say.
+fn compare_with_cells<R: Abort>(rt: &R, field: &Field, list: &[Segment], told: &[Sides]) {
+    assert_eq!(rt; told.len(), list.len());
+    for (s, found) in list.iter().zip(told) {
+        assert_eq!(rt; *found, field.wanted(s), "{} {s:?}", field.number);
+    }
+}
+
+// The border of a field is told by one thread, since it is short, and each segment of it twelve times by many.
+fn look_at_field<R: Threads + Sync + Abort>(rt: &R, alloc: Global, field: &Field) -> Option<()> {
+    let region = field.region(alloc)?;
+    let border = region.segments();
+    let told = shared(rt, alloc, &region, border)?;
+    compare_with_cells(rt, field, border, &told);
+    let list = twelvefold(alloc, border)?;
+    let told = shared(rt, alloc, &region, &list)?;
+    compare_with_cells(rt, field, &list, &told);
+    Some(())
+}
+
+fn twelvefold(alloc: Global, border: &[Segment]) -> Option<Vec<Segment>> {
+    let mut list = Vec::new(alloc);
+    for s in border {
+        for _ in 0..12 {
+            list.push(*s).ok()?;
+        }
+    }
+    Some(list)
+}
+
+// Of 2,000 random borders of some 270 segments. Where a field doesn't lean, upright sides lie on the edges of strips; where it
+// does, level and steep ones run through them.
+#[test]
+fn random_borders_by_one_thread_and_by_many(rt: HostRuntime) {
+    for number in 0..2_000 {
+        let field = Field {
+            number,
+            lean: number % 3,
+        };
+        assert!(rt;
+            look_at_field(&rt, rt.alloc(), &field).is_some(),
             "no memory"
         );
     }
