@@ -52,11 +52,30 @@ def points(number):
     return [f"points a {spread(0)}", f"points b {spread(1_500_000)}"]
 
 
+def round_a_centre(number, far):
+    """So many ends round one centre, the one with this number so far from it."""
+    def end(i):
+        angle = 2 * math.pi * i / number
+        return f"{round(5e8 + far(i) * math.cos(angle))} {round(5e8 + far(i) * math.sin(angle))}"
+
+    return ["lines a " + " ".join(end(i) for i in range(number))]
+
+
+def ring(number):
+    return round_a_centre(number, lambda i: 4e8 + 1e5 * (7919 * i % 1000))
+
+
+def scattered(number):
+    """So many short segments, some of which cross."""
+    def way(i):
+        x, y = 7919 * i % 20011, 104_729 * i % 20021
+        return f"{x} {y} {x + 1 + 31 * i % 97} {y + 17 * i % 89}"
+
+    return ["lines a " + " ; ".join(way(i) for i in range(number))]
+
+
 def circle(number):
-    """So many segments along a circle."""
-    ends = [(round(1e9 * (1 + math.cos(2 * math.pi * i / number)) / 2), round(1e9 * (1 + math.sin(2 * math.pi * i / number)) / 2))
-            for i in range(number)]
-    return ["lines a " + " ".join(f"{x} {y}" for x, y in ends)]
+    return round_a_centre(number, lambda i: 5e8)
 
 
 def bars(number):
@@ -76,7 +95,11 @@ ROWS = [
     ("dist2, points", points, 40000, "num dist2 a b"),
     ("diameter2, points", points, 20000, "num diameter2 a"),
     ("diameter2, points", points, 40000, "num diameter2 a"),
+    ("diameter2, scattered", scattered, 10000, "num diameter2 a"),
+    ("diameter2, ring", ring, 6881, "num diameter2 a"),
+    ("diameter2, ring", ring, 13763, "num diameter2 a"),
     ("diameter2, circle", circle, 13763, "num diameter2 a"),
+    ("diameter2, circle", circle, 27526, "num diameter2 a"),
     ("interior, bars", bars, 5000, "eval interior a"),
     ("interior, bars", bars, 10000, "eval interior a"),
 ]
