@@ -11,10 +11,12 @@ use Rattle.std.proofs.lemmas.Map.Keys.{non_decreasing_from_sorted}
 use Rattle.grid_base.specs.Grid.{grid_bits}
 use Rattle.grid_base.specs.Segment.{GridSegment}
 use Rattle.realm_index.specs.Square.{whole_grid}
-use Rattle.realm_index.specs.Bounds.{Bounds, bounds_of, meets, holds, is_near, fits, home}
-use Rattle.realm_index.specs.Branch.{Branch, if_met, if_near, AddsKeys, count_near, HasMore, Lacks}
+use Rattle.realm_index.specs.Bounds.{Bounds, bounds_of, holds, is_near, fits, home}
+use Rattle.realm_index.specs.Branch.{Branch, if_near, count_near, HasMore, Lacks}
 use Rattle.realm_index.specs.Index.{Entries, HasKeysWhere, HasCountWhere, HasEachKeyWhere}
 use Rattle.realm_index.specs.Kept.{HasEntriesOf, HoldsEntries}
+use Rattle.realm_index.specs.Near.{passes, if_passed, AddsPassed}
+use Rattle.realm_index.specs.declared.near.Near.{Near}
 use Rattle.realm_index.specs.declared.tree.Entry.{Entry}
 use Rattle.realm_index.proofs.Homes.{fits_from}
 use Rattle.realm_index.proofs.Sums.{fails, all_pass, none_fails}
@@ -69,34 +71,34 @@ is_taken mid new e true some taken none = taken
 is_taken mid new e false some taken none = let lacks = none_there mid e none in absurd (omega (arith, some, lacks))
 
 -- ---- answers
--- whether the box of the segment meets w, and whether its home is near it
-abbrev is_met : Bounds → ℕ × GridSegment → Bool
-is_met w e = meets w (bounds_of e.1)
+-- whether the box of the segment passes, and whether its home is near w
+abbrev is_met : Near → ℕ × GridSegment → Bool
+is_met n e = passes n (bounds_of e.1)
 
 abbrev is_home_near : Bounds → ℕ × GridSegment → Bool
 is_home_near w e = is_near w (home (bounds_of e.1))
 
-module _ (entries : List Entry) (segments : Entries) (have : HasEntriesOf entries segments) (w : Bounds) where
-  met_sums : (ks : List ℕ) → AddsKeys w entries [] ks → HasSameSums ks (picks (is_met w) (map.entries segments))
+module _ (entries : List Entry) (segments : Entries) (have : HasEntriesOf entries segments) (n : Near) where
+  met_sums : (ks : List ℕ) → AddsPassed n entries [] ks → HasSameSums ks (picks (is_met n) (map.entries segments))
   met_sums ks adds f =
       let found = adds f in
-      let same = have (if_met w f) in
-      let picked = sum_picks (is_met w) f (map.entries segments) in
+      let same = have (if_passed n f) in
+      let picked = sum_picks (is_met n) f (map.entries segments) in
       omega (arith, found, same, picked)
 
-  pub met_keys : (P : GridSegment → Type 0) → ((t : GridSegment) → IsTrue (meets w (bounds_of t)) ↔ P t) → (ks : List ℕ)
-      → AddsKeys w entries [] ks → IsNonDecreasing ks → HasKeysWhere P segments ks
+  pub met_keys : (P : GridSegment → Type 0) → ((t : GridSegment) → IsTrue (passes n (bounds_of t)) ↔ P t) → (ks : List ℕ)
+      → AddsPassed n entries [] ks → IsNonDecreasing ks → HasKeysWhere P segments ks
   met_keys P decides ks adds up =
-      let met = picks (is_met w) (map.entries segments) in
-      let all = sorted_picks (is_met w) (map.entries segments) (entries_ascend segments) in
+      let met = picks (is_met n) (map.entries segments) in
+      let all = sorted_picks (is_met n) (map.entries segments) (entries_ascend segments) in
       let same = same_sorted ks met up (non_decreasing_from_sorted met all) (met_sums ks adds) in
-      subst (HasKeysWhere P segments) (sym same) (picked_of_map segments P (is_met w) (λ k t there. decides t))
+      subst (HasKeysWhere P segments) (sym same) (picked_of_map segments P (is_met n) (λ k t there. decides t))
 
-  pub met_in_any_order : (P : GridSegment → Type 0) → ((t : GridSegment) → IsTrue (meets w (bounds_of t)) ↔ P t) → (ks : List ℕ)
-      → AddsKeys w entries [] ks → HasEachKeyWhere P segments ks
+  pub met_in_any_order : (P : GridSegment → Type 0) → ((t : GridSegment) → IsTrue (passes n (bounds_of t)) ↔ P t) → (ks : List ℕ)
+      → AddsPassed n entries [] ks → HasEachKeyWhere P segments ks
   met_in_any_order P decides ks adds =
-      let met = picks (is_met w) (map.entries segments) in
-      let these = picked_of_map segments P (is_met w) (λ k t there. decides t) in
+      let met = picks (is_met n) (map.entries segments) in
+      let these = picked_of_map segments P (is_met n) (λ k t there. decides t) in
       let same = met_sums ks adds in
       record {
         exact = λ k. (

@@ -24,7 +24,11 @@ pub mod Counts
 mod Guards
 -- the entries of parts, and what they lack
 pub mod Parts
+-- what the tests of a search along a segment say
+pub mod Sides
 -- what a cover tells of the boxes that it covers
 pub mod Covers
 -- a cluster and its changes
 pub mod Clusters
+-- boxes off the line of a segment
+pub mod Asides

@@ -5,11 +5,13 @@ ghost use Rattle.std.specs.Prelude.{◌≡◌, ◌<◌, ◌≤◌, ◌++◌, [],
 ghost use Rattle.std.specs.Prelude.{OnOk, IfOk, IfSome, MatchResult, vec_capacity};
 ghost use Rattle.std.specs.Bool.{OnTrue, OnFalse};
 ghost use Rattle.realm_index.specs.Branch.{flatten, AreLess, StayBelow};
-ghost use Rattle.realm_index.specs.Branch.{HasMore, HasSame, Lacks, AddsKeys, AddsNoKey};
+ghost use Rattle.realm_index.specs.Branch.{HasMore, HasSame, Lacks};
+ghost use Rattle.realm_index.specs.Near.{AddsPassed, PassesNone};
 ghost use Rattle.realm_index.specs.Cluster.{square_round, CoversAll};
 
 use crate::bounds::Bounds;
 use crate::centre::Centre;
+use crate::near::Near;
 use crate::tree::{Entry, place_among};
 use grid_base::NoMemory;
 use std::alloc::Global;
@@ -93,11 +95,11 @@ impl Cluster {
         self.cover.covers(&entry.bounds)
     }
 
-    // Whether its cover has a common point with `near`. Where it hasn't, there is nothing to be found.
-    fn is_near(&self, near: &Bounds) -> bool
-        ensures { OnFalse result (AddsNoKey near.now self.now.entries) }
+    // Whether its cover passes. Where it doesn't, there is nothing to be found.
+    fn is_near(&self, near: &Near) -> bool
+        ensures { OnFalse result (PassesNone near.now self.now.entries) }
     {
-        near.meets(&self.cover)
+        near.passes(&self.cover)
     }
 
     // Whether nothing is left at it and below it.
@@ -239,9 +241,9 @@ impl Cluster {
         self.cover = cover_of(self.own.as_slice(), self.parts.as_slice());
     }
 
-    // Adds the keys of the entries whose boxes meet `near`.
-    pub(crate) fn find(&self, near: &Bounds, keys: &mut Vec<usize>) -> Result<(), NoMemory>
-        ensures { OnOk result (AddsKeys near.now self.now.entries keys.old.items keys.new.items) }
+    // Adds the keys of the entries whose boxes pass.
+    pub(crate) fn find(&self, near: &Near, keys: &mut Vec<usize>) -> Result<(), NoMemory>
+        ensures { OnOk result (AddsPassed near.now self.now.entries keys.old.items keys.new.items) }
     {
         find_among(self.own.as_slice(), near, keys)?;
         for part in &self.parts {
@@ -426,12 +428,12 @@ fn drop_bare(parts: &mut Vec<Cluster>, place: usize)
     }
 }
 
-// Adds the keys of the entries of the list whose boxes meet `near`.
-fn find_among(own: &[Entry], near: &Bounds, keys: &mut Vec<usize>) -> Result<(), NoMemory>
-    ensures { OnOk result (AddsKeys near.now own.now keys.old.items keys.new.items) }
+// Adds the keys of the entries of the list whose boxes pass.
+fn find_among(own: &[Entry], near: &Near, keys: &mut Vec<usize>) -> Result<(), NoMemory>
+    ensures { OnOk result (AddsPassed near.now own.now keys.old.items keys.new.items) }
 {
     for entry in own {
-        if near.meets(&entry.bounds) {
+        if near.passes(&entry.bounds) {
             keys.push(entry.key)?;
         }
     }

@@ -7,11 +7,13 @@ ghost use Rattle.std.specs.List.Sorted.{IsNonDecreasing};
 ghost use Rattle.grid_base.specs.Point.{InBox};
 ghost use Rattle.grid_base.specs.Segment.{BoxesMeet};
 ghost use Rattle.realm_index.specs.Index.{HasKeysWhere, HasEachKeyWhere};
-ghost use Rattle.realm_index.specs.Branch.{AddsKeys};
+ghost use Rattle.realm_index.specs.Aside.{IsAlong};
+ghost use Rattle.realm_index.specs.Near.{AddsPassed};
 
 use crate::bounds::Bounds;
 use crate::centre::Centre;
 use crate::cluster::Cluster;
+use crate::near::Near;
 use crate::slots::Slots;
 use crate::tree::Entry;
 use grid_base::{NoMemory, Point, Segment};
@@ -118,27 +120,35 @@ impl NearIndex {
     pub fn meeting_unordered(&self, s: &Segment) -> Result<Vec<usize>, NoMemory>
         ensures keys { IfOk result (λ v. HasEachKeyWhere (BoxesMeet s.now) self.now v.items) }
     {
-        keys_found(&self.root, self.alloc, &Bounds::of(s))
+        keys_found(&self.root, self.alloc, &Near::at_box(&Bounds::of(s)))
+    }
+
+    /// Of these the keys of the segments whose boxes don't lie off the line of `s`: each once, in no order. So of a long segment
+    /// all that lie wholly on one side in a corner of its box are left out, and a search doesn't come to them.
+    pub fn along(&self, s: &Segment) -> Result<Vec<usize>, NoMemory>
+        ensures keys { IfOk result (λ v. HasEachKeyWhere (IsAlong s.now) self.now v.items) }
+    {
+        keys_found(&self.root, self.alloc, &Near::along(s))
     }
 
     /// The same keys, ascending.
     pub fn meeting(&self, s: &Segment) -> Result<Vec<usize>, NoMemory>
         ensures keys { IfOk result (λ v. HasKeysWhere (BoxesMeet s.now) self.now v.items) }
     {
-        keys_met(&self.root, self.alloc, &Bounds::of(s))
+        keys_met(&self.root, self.alloc, &Near::at_box(&Bounds::of(s)))
     }
 
     /// The keys of the segments whose boxes hold `p`, rims included, ascending.
     pub fn on_point(&self, p: &Point) -> Result<Vec<usize>, NoMemory>
         ensures keys { IfOk result (λ v. HasKeysWhere (λ t. InBox t.a t.b p.now) self.now v.items) }
     {
-        keys_met(&self.root, self.alloc, &Bounds::at(p))
+        keys_met(&self.root, self.alloc, &Near::at_box(&Bounds::at(p)))
     }
 }
 
-// The keys of the entries whose boxes meet `near`, ascending.
-fn keys_met(root: &Cluster, alloc: Global, near: &Bounds) -> Result<Vec<usize>, NoMemory>
-    ensures keys { IfOk result (λ v. AddsKeys near.now root.now.entries [] v.items) }
+// The keys of the entries whose boxes pass, ascending.
+fn keys_met(root: &Cluster, alloc: Global, near: &Near) -> Result<Vec<usize>, NoMemory>
+    ensures keys { IfOk result (λ v. AddsPassed near.now root.now.entries [] v.items) }
     ensures rising { IfOk result (λ v. IsNonDecreasing v.items) }
 {
     let mut keys = keys_found(root, alloc, near)?;
@@ -147,8 +157,8 @@ fn keys_met(root: &Cluster, alloc: Global, near: &Bounds) -> Result<Vec<usize>, 
 }
 
 // The same keys, in no order.
-fn keys_found(root: &Cluster, alloc: Global, near: &Bounds) -> Result<Vec<usize>, NoMemory>
-    ensures { IfOk result (λ v. AddsKeys near.now root.now.entries [] v.items) }
+fn keys_found(root: &Cluster, alloc: Global, near: &Near) -> Result<Vec<usize>, NoMemory>
+    ensures { IfOk result (λ v. AddsPassed near.now root.now.entries [] v.items) }
 {
     let mut keys = Vec::with_capacity(alloc, USUAL)?;
     root.find(near, &mut keys)?;
