@@ -181,7 +181,12 @@ chain_set id [] p chain sorted found = refl
 chain_set id (e ∷ es) p chain sorted found = set_step (is_at (nat_cmp id) e.0) id e es p chain sorted refl found
     (chain_set id es p chain (sorted_tail nat_cmp _ _ sorted))
 
--- ---- chains
+-- ---- ids and chains
+-- the keys of the map are the ids of the originals
+pub ids_are : (es : List (ℕ × Placed)) → keys_of es ≡ map (λ (o : Original). o.id) (listing es)
+ids_are [] = refl
+ids_are (e ∷ es) = ap (λ ids. e.0 ∷ ids) (ids_are es)
+
 -- the chains of what is placed are those of the originals
 pub chains_are : (es : List (ℕ × Placed))
     → map (λ (p : Placed). p.chain) (values_of es) ≡ map (λ (o : Original). o.chain) (listing es)

@@ -64,3 +64,9 @@ mod KeptPoints
 mod LostShares
 -- a drawing with one chain more or less
 mod KeptChanges
+-- pairs of elements of a list in two parts
+mod Pairs
+-- where a scan over the box of a segment stops
+mod Stops
+-- what such a scan has listed by then
+mod Scans

@@ -1,4 +1,5 @@
--- What a step draws: the pieces and the points that a drawing has once it is taken and may not have had before.
+-- What a step draws: the pieces that a drawing has once it is taken and didn't have before, each with its key. Each new point is
+-- an end of one of them, no point goes, and no piece but those of the step.
 use Rattle.std.specs.Prelude.{◌≢◌, ◌⊎◌, ℕ, List, Contains, Any, AllPairs}
 use Rattle.grid_base.specs.Point.{GridPoint}
 use Rattle.grid_base.specs.Segment.{GridSegment, IsEnd}

@@ -20,3 +20,5 @@ pub mod Found
 pub mod Draws
 -- registries that lose shares, for this crate's own proofs
 pub mod Leaving
+-- scans of explicit points over the box of a segment, for this crate's own proofs
+pub mod Scans

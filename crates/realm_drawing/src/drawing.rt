@@ -1,6 +1,6 @@
 //! The drawing: its explicit points in a set, its originals in a map by id, and a registry that knows which
-//! originals own each piece. A call that takes memory takes it all before it changes anything.
-ghost use Rattle.std.specs.Prelude.{◌≡◌, ◌⊎◌, ◌↔◌, ℕ, false, IsTrue, All, AllPairs, Contains, Some, Err};
+//! originals own each piece. A call that is short of memory takes back what it has changed.
+ghost use Rattle.std.specs.Prelude.{◌≡◌, ◌⊎◌, ◌↔◌, ℕ, false, IsTrue, All, AllPairs, Contains, map, Some, Err};
 ghost use Rattle.std.specs.Prelude.{OnOk, OnErr, IfOk, IsNone, IsSome, IfSome};
 ghost use Rattle.grid_base.specs.Point.{GridPoint, InBox, IsBefore};
 ghost use Rattle.grid_base.specs.Segment.{GridSegment, IsSegmentBefore};
@@ -282,6 +282,14 @@ impl Drawing {
         ensures rising { IsAscending self.now.drawing.originals }
     {
         self.originals.chain(id)
+    }
+
+    /// The ids of the originals, rising.
+    pub fn ids(&self) -> Result<Vec<u32>, NoMemory>
+        ensures ids { IfOk result (λ v. v.items ≡ map (λ o. o.id) self.now.drawing.originals) }
+        ensures rising { IsAscending self.now.drawing.originals }
+    {
+        self.originals.ids(self.alloc)
     }
 
     /// Whether `p` is a point of the drawing: explicit, or a vertex of some chain.

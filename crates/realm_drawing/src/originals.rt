@@ -1,4 +1,4 @@
-//! The originals: an ordered map by id, in which none moves where another comes or goes.
+//! The originals: an ordered map by id, so that finding, adding or taking out one doesn't pass all others.
 ghost use Rattle.std.specs.Prelude.{◌≡◌, ◌↔◌, ◌<◌, ◌==◌, ◌++◌, ◌∷◌, [], All, map, filter, not};
 ghost use Rattle.std.specs.Prelude.{IsNone, IfSome, IfOk, OnOk, OnErr};
 ghost use Rattle.std.specs.Map.Iter.{ShowsInOrder, deref};
@@ -76,6 +76,13 @@ impl Originals {
         ensures runs { ShowsInOrder (deref {X = Placed}) }
     {
         self.by_id.values()
+    }
+
+    // Their ids, rising.
+    pub(crate) fn ids(&self, alloc: Global) -> Result<Vec<u32>, NoMemory>
+        ensures { IfOk result (λ v. v.items ≡ map (λ o. o.id) self.now) }
+    {
+        Ok(self.by_id.keys().copied().collect(alloc)?)
     }
 
     // Adds an original whose id is greater than all others.

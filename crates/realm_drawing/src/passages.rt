@@ -124,7 +124,7 @@ fn is_before(chain: &[Point], place: usize, p: &Point) -> bool
     place > 0 && is_at(chain, place - 1, p)
 }
 
-// How far a chain from `first` has come at `p`: each column counts one, and each row.
+// How far a chain from `first` has come at `p`: the column of `p`, counted from 0, and the rows between the two.
 fn progress(first: &Point, p: &Point) -> u32
     ensures { result ≡ measure.progress first.now p.now }
 {

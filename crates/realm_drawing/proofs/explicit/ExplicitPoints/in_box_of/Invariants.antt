@@ -1,8 +1,11 @@
-use Rattle.std.proofs.Common.{◌≡◌, map, filter}
-use Rattle.std.specs.Map.Iter.{deref}
-use Rattle.chain_laws.proofs.PointSets.{is_in_box}
+use Rattle.std.proofs.Common.{◌-◌}
+use Rattle.realm_drawing.specs.Scans.{Reaches, ListsBefore}
 use Rattle.realm_drawing.proofs.explicit.ExplicitPoints.in_box_of.Given as goal
 
--- the list has what of the points so far is in the box
-abbrev pub invariant-loop-p : goal.invariant-loop-p
-invariant-loop-p l = l.list.items ≡ filter (is_in_box l.s.a l.s.b) (map deref l.yielded)
+-- those in the columns before are listed
+abbrev pub invariant-loop-list : goal.invariant-loop-list
+invariant-loop-list l = Reaches l.s l.column × ListsBefore l.self l.s l.column l.list.items
+
+-- fewer columns are left each time
+abbrev pub decreases-loop-list : goal.decreases-loop-list
+decreases-loop-list l = l.s.b.x - l.column
