@@ -1,22 +1,20 @@
 -- This file shows which explicit points and which originals are listed one by one.
-use Rattle.std.proofs.Common.{◌≡◌, ◌↔◌, ℕ, ◌+◌, ◌<◌, ◌≤◌, nat_lt, Bool, true, false, cond, List, [], ◌∷◌, ◌++◌, length, get_or, take}
-use Rattle.std.proofs.Common.{take_all, All, AllPairs, Contains, refl, sym, ap, subst, ◌∙◌, inl, inr, arith}
-use Rattle.std.specs.List.{filter}
+use Rattle.std.proofs.Common.{◌≡◌, ◌↔◌, ℕ, ◌+◌, ◌<◌, ◌≤◌, List, [], ◌∷◌, ◌++◌, map, length, get_or, take}
+use Rattle.std.proofs.Common.{take_all, All, AllPairs, Contains, sym, ap, subst, ◌∙◌, inl, inr, arith}
 use Rattle.std.proofs.lemmas.Bool.{cases_lt}
-use Rattle.std.proofs.lemmas.List.{take_more, get_or-take, length-take}
-use Rattle.std.proofs.lemmas.List.Elements.{All-nil, All-push, All-head, All-tail, All-contains}
+use Rattle.std.proofs.lemmas.List.{take_more, get_or-take, get_or-map, length-take, length-map}
+use Rattle.std.proofs.lemmas.List.Elements.{All-nil, All-push}
 use Rattle.std.proofs.lemmas.List.Elements.{Contains-append_left, Contains-push, Contains-push_cases}
 use Rattle.std.proofs.lemmas.List.Quantifiers.{all_pairs_push}
-use Rattle.grid_base.specs.Point.{GridPoint, IsBefore, OnGrid}
+use Rattle.grid_base.specs.Point.{GridPoint, point_at, IsBefore, OnGrid}
 use Rattle.grid_base.specs.Drawing.{Drawing}
 use Rattle.grid_base.specs.declared.original.Original.{Original}
-use Rattle.grid_base.proofs.Elements.{same_place, Contains-cases}
+use Rattle.grid_base.proofs.Elements.{same_place}
 use Rattle.grid_base.proofs.Orders.{IsBefore-asym}
-use Rattle.hook_chain.specs.Ids.{IsAscending, LacksId}
+use Rattle.hook_chain.specs.Ids.{IsAscending}
 use Rattle.record_codec.specs.Payload.{IsOriginal}
 use Rattle.rose_overlay.proofs.Sorts.{one_list}
 use Rattle.state_copies.specs.Copies.{HasAlso, HasOriginalToo}
-use Rattle.value_geometry.proofs.Counts.{AllPairs-head, AllPairs-tail}
 
 -- ---- explicit points
 -- the list has those of the first i points that are explicit
@@ -108,92 +106,58 @@ all_listed explicit points i list past among order was =
     (λ p there. (was.same p).1 (subst (λ (l : List GridPoint). Contains l p) (sym (take_all i points past)) (among p there), there))
 
 -- ---- originals by their ids
--- those of the originals with an id below n
-abbrev pub below : ℕ → List Original → List Original
-below n os = filter (λ o. nat_lt o.id n) os
+-- an original for a place where there is none
+no_original : Original
+no_original = record { id = 0; a = point_at 0 0; b = point_at 0 0; chain = [] }
 
-kept_first : (n : ℕ) (o : Original) (os : List Original) (b : Bool) → nat_lt o.id n ≡ b
-    → below n (o ∷ os) ≡ cond b (o ∷ below n os) (below n os)
-kept_first n o os b is = ap (λ (c : Bool). cond c (o ∷ below n os) (below n os)) is
+-- the original with the id of one is that one
+same_id : (os : List Original) (i : ℕ) (o : Original) → IsAscending os → i < length os → Contains os o
+    → o.id ≡ (get_or os i o).id → o ≡ get_or os i o
+same_id os i o rising within (k, k_within, at) same = elim (cases_lt k i) [
+  | inl before ↦ absurd (omega (arith, rising k i o before within, same, ap (λ (p : Original). p.id) at))
+  | inr not_before ↦ elim (cases_lt i k) [
+    | inl behind ↦ absurd (omega (arith, rising i k o behind k_within, same, ap (λ (p : Original). p.id) at))
+    | inr not_behind ↦
+        let here : k ≡ i = omega (arith, not_before, not_behind) in
+        subst (λ (j : ℕ). o ≡ get_or os j o) here (sym at)
+  ]
+]
 
-pub none_below : (n : ℕ) (os : List Original) → All (λ o. n ≤ o.id) os → below n os ≡ []
-none_below n [] above = refl
-none_below n (o ∷ os) above =
-    let here = All-head (λ (p : Original). n ≤ p.id) o os above in
-    kept_first n o os false (grind arith) ∙ none_below n os (All-tail (λ (p : Original). n ≤ p.id) o os above)
-
-pub all_below : (n : ℕ) (os : List Original) → All (λ o. o.id < n) os → below n os ≡ os
-all_below n [] less = refl
-all_below n (o ∷ os) less =
-    let here = All-head (λ (p : Original). p.id < n) o os less in
-    kept_first n o os true (grind arith)
-    ∙ ap (λ (l : List Original). o ∷ l) (all_below n os (All-tail (λ (p : Original). p.id < n) o os less))
-
--- an id that no original has
-pub lacks_next : (n : ℕ) (os : List Original) → LacksId os n → below (n + 1) os ≡ below n os
-lacks_next n [] lacks = refl
-lacks_next n (o ∷ os) lacks =
-    let here = All-head (λ (p : Original). p.id ≡ n → ⊥) o os lacks in
-    let rest = lacks_next n os (All-tail (λ (p : Original). p.id ≡ n → ⊥) o os lacks) in
-    elim (cases_lt o.id n) [
-      | inl less ↦ kept_first (n + 1) o os true (grind arith) ∙ ap (λ (l : List Original). o ∷ l) rest
-          ∙ sym (kept_first n o os true (grind arith))
-      | inr not_less ↦ elim (cases_lt n o.id) [
-        | inl more ↦ kept_first (n + 1) o os false (grind arith) ∙ rest ∙ sym (kept_first n o os false (grind arith))
-        | inr not_more ↦ absurd (here (omega (arith, not_less, not_more)))
-      ]
-    ]
-
--- an id that one has
-pub has_next_id : (n : ℕ) (os : List Original) (o : Original) → IsAscending os → Contains os o → o.id ≡ n
-    → below (n + 1) os ≡ below n os ++ o ∷ []
-has_next_id n [] o rising (k, within, at) same = absurd (omega arith)
-has_next_id n (q ∷ os) o rising there same =
-    let later = AllPairs-head (λ (p r : Original). p.id < r.id) q os rising in
-    let behind = AllPairs-tail (λ (p r : Original). p.id < r.id) q os rising in
-    elim (Contains-cases q os o there) [
-      | inl first ↦
-          let id_is : q.id ≡ n = ap (λ (r : Original). r.id) first ∙ same in
-          let above : All (λ (r : Original). n + 1 ≤ r.id) os = λ k d within.
-          let more = later k d within in
-          omega (arith, more, id_is) in
-          let above_n : All (λ (r : Original). n ≤ r.id) os = λ k d within.
-          let more = later k d within in
-          omega (arith, more, id_is) in
-          kept_first (n + 1) q os true (grind arith) ∙ ap (λ (l : List Original). q ∷ l) (none_below (n + 1) os above)
-          ∙ ap (λ (r : Original). r ∷ []) first
-          ∙ ap (λ (l : List Original). l ++ o ∷ []) (sym (kept_first n q os false (grind arith) ∙ none_below n os above_n))
-      | inr rest ↦
-          let less : q.id < n = subst (λ (m : ℕ). q.id < m) same
-          (All-contains (λ (r : Original). q.id < r.id) os o later rest) in
-          kept_first (n + 1) q os true (grind arith)
-          ∙ ap (λ (l : List Original). q ∷ l) (has_next_id n os o behind rest same)
-          ∙ ap (λ (l : List Original). l ++ o ∷ []) (sym (kept_first n q os true (grind arith)))
-    ]
-
--- the list has the originals with an id below n, each with a text
-pub record AreBelow (n : ℕ) (os list : List Original) : Type 0 where
-  pub are : list ≡ below n os
+-- the list has the first i originals, each with a text
+pub record AreFirst (i : ℕ) (os list : List Original) : Type 0 where
+  pub are : list ≡ take i os
   pub fit : All IsOriginal list
 
-pub none_listed : (n : ℕ) (os list : List Original) → All (λ o. n ≤ o.id) os → list ≡ [] → AreBelow n os list
-none_listed n os list above is = record {
-  are = is ∙ sym (none_below n os above);
+pub none_listed : (os list : List Original) → list ≡ [] → AreFirst 0 os list
+none_listed os list is = record {
+  are = is;
   fit = subst (All IsOriginal) (sym is) (All-nil IsOriginal);
 }
 
--- one id more
-pub one_id_more : (d : Drawing) (n : ℕ) (list new : List Original) → IsAscending d.originals → HasOriginalToo d n list new
-    → AreBelow n d.originals list → AreBelow (n + 1) d.originals new
-one_id_more d n list new rising (inl (o, copy, pushed)) was = record {
-  are = pushed ∙ ap (λ (l : List Original). l ++ o ∷ []) was.are ∙ sym (has_next_id n d.originals o rising copy.there copy.id_is);
-  fit = subst (All IsOriginal) (sym pushed) (All-push IsOriginal list o was.fit copy.fits);
-}
-one_id_more d n list new rising (inr (lacks, same)) was = record {
-  are = same ∙ was.are ∙ sym (lacks_next n d.originals lacks);
-  fit = subst (All IsOriginal) (sym same) was.fit;
-}
+-- with the original with the next id it has one more
+pub next_listed : (d : Drawing) (i id : ℕ) (ids : List ℕ) (list new : List Original) → IsAscending d.originals
+    → ids ≡ map (λ o. o.id) d.originals → i < length ids → id ≡ get_or ids i 0 → HasOriginalToo d id list new
+    → AreFirst i d.originals list → AreFirst (i + 1) d.originals new
+next_listed d i id ids list new rising are within is adds was = by_case adds
+  where
+    inside : i < length d.originals
+    inside = omega (arith, within, ap length are, length-map d.originals (λ (o : Original). o.id))
 
--- all ids
-pub all_ids : (n : ℕ) (os list : List Original) → All (λ o. o.id < n) os → AreBelow n os list → list ≡ os
-all_ids n os list less was = was.are ∙ all_below n os less
+    id_at : (o : Original) → (get_or d.originals i o).id ≡ id
+    id_at o = sym (is ∙ ap (λ (l : List ℕ). get_or l i 0) are ∙ get_or-map (λ (p : Original). p.id) d.originals i o 0 inside)
+
+    by_case : HasOriginalToo d id list new → AreFirst (i + 1) d.originals new
+    by_case (inl (o, copy, pushed)) =
+        let here = same_id d.originals i o rising inside copy.there (copy.id_is ∙ sym (id_at o)) in
+        record {
+          are = pushed ∙ ap (λ (l : List Original). l ++ o ∷ []) was.are
+              ∙ ap (λ (p : Original). take i d.originals ++ p ∷ []) here ∙ sym (take_more d.originals i o inside);
+          fit = subst (All IsOriginal) (sym pushed) (All-push IsOriginal list o was.fit copy.fits);
+        }
+    by_case (inr (lacks, same)) = absurd (lacks i no_original inside (id_at no_original))
+
+-- and at the end all of them
+pub all_originals : (i : ℕ) (ids : List ℕ) (os list : List Original) → ids ≡ map (λ o. o.id) os → length ids ≤ i
+    → AreFirst i os list → list ≡ os
+all_originals i ids os list are past was =
+    was.are ∙ take_all i os (omega (arith, past, ap length are, length-map os (λ (o : Original). o.id)))

@@ -12,7 +12,7 @@ use realm_drawing::Drawing;
 use state_check::copied_points;
 use std::alloc::Global;
 
-/// The originals with their chains, by rising id. A drawing finds one by its id alone, so the ids are gone through.
+/// The originals with their chains, by rising id. Only the ids that the drawing has are gone through.
 pub fn copied_originals(
     alloc: Global,
     drawing: &Drawing,
@@ -25,11 +25,10 @@ pub fn copied_originals(
     ensures fits { IfOk result (λ v. IsList IsOriginal v.items) }
     ensures rising { IfOk result (λ v. IsAscending v.items) }
 {
-    // That ids rise is known where a chain is asked for.
-    let _rising = drawing.chain(0);
-    let mut list = Vec::new(alloc);
-    for id in 1..next_id {
-        list_original(alloc, drawing, id as u32, &mut list)?;
+    let ids = drawing.ids()?;
+    let mut list = Vec::with_capacity(alloc, ids.len())?;
+    for id in &ids {
+        list_original(alloc, drawing, *id, &mut list)?;
     }
     Ok(list)
 }
