@@ -27,13 +27,13 @@ last_in_range : (a b : ℕ) → IsFromTo a b b
 last_in_range a b = (omega arith, omega arith)
 
 -- the ends of a segment are in its box
-end_in_box : (s : GridSegment) (p : GridPoint) → IsEnd p s → InBox s.a s.b p
+pub end_in_box : (s : GridSegment) (p : GridPoint) → IsEnd p s → InBox s.a s.b p
 end_in_box s p (inl first) =
     subst (InBox s.a s.b) (sym first) (first_in_range s.a.x s.b.x, first_in_range s.a.y s.b.y)
 end_in_box s p (inr last) = subst (InBox s.a s.b) (sym last) (last_in_range s.a.x s.b.x, last_in_range s.a.y s.b.y)
 
 -- an end of s is in the box of t
-pub boxes_meet_round_end : (s t : GridSegment) (p : GridPoint) → IsEnd p s → InBox t.a t.b p → BoxesMeet s t
+boxes_meet_round_end : (s t : GridSegment) (p : GridPoint) → IsEnd p s → InBox t.a t.b p → BoxesMeet s t
 boxes_meet_round_end s t p end in_t = boxes_meet_at s t p (end_in_box s p end) in_t
 
 -- an end of s is inside t

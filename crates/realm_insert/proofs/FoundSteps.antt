@@ -1,5 +1,5 @@
 -- This file shows that each step that the search finds is permitted, and what it means that it finds none.
-use Rattle.std.proofs.Common.{◌≡◌, ◌↔◌, false, Option, None, Some, MatchOption, IfSome, IsNone, refl, sym, subst, ◌∙◌, inl, inr}
+use Rattle.std.proofs.Common.{◌≡◌, ◌↔◌, false, Option, None, Some, Result, Ok, Err, MatchOption, IfOk, IfSome, IsNone, refl, sym, subst, ◌∙◌, inl, inr}
 use Rattle.std.specs.Option.{is_some}
 use Rattle.grid_base.specs.Point.{GridPoint}
 use Rattle.grid_base.specs.Segment.{GridSegment}
@@ -16,6 +16,12 @@ pub none_means : (found : Option Step) (P Q : Type 0) (R : Step → Type 0) → 
     → MatchOption found Q R
 none_means None P Q R weaker said = weaker said
 none_means (Some step) P Q R weaker said = said
+
+-- so it may where there was memory to look
+pub none_found_means : {E : Type 0} (r : Result (Option Step) E) (P Q : Type 0) (R : Step → Type 0) → (P → Q)
+    → IfOk r (λ found. MatchOption found P R) → IfOk r (λ found. MatchOption found Q R)
+none_found_means (Ok found) P Q R weaker said = none_means found P Q R weaker said
+none_found_means (Err e) P Q R weaker said = said
 
 -- and where something is found, nothing is said of it
 pub none_says : {A : Type 0} (found : Option A) (P Q : Type 0) (R : A → Type 0) → (IsNone found → P → Q) → MatchOption found P R

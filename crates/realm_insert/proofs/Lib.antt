@@ -10,6 +10,8 @@ pub mod ForgottenPieces
 pub mod MissingPieces
 -- boxes that meet
 pub mod CommonBoxes
+-- pieces whose boxes lie off the line of another
+pub mod AsidePieces
 -- points that are explicit or ends of pieces
 pub mod Vertices
 -- pieces that the index lists, and when no violation is left

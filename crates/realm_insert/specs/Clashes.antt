@@ -41,12 +41,23 @@ HasKeysRound d s keys = (t : GridSegment) (k : ℕ) → HasKey d t k → BoxesMe
 abbrev pub HasKeysAt : KeyedDrawing → GridPoint → List ℕ → Type 0
 HasKeysAt d p keys = (t : GridSegment) (k : ℕ) → HasKey d t k → InBox t.a t.b p → Contains keys k
 
--- the pieces whose boxes hold p are listed
-abbrev pub HasPiecesAt : Drawing → GridPoint → List GridSegment → Type 0
-HasPiecesAt d p list = (t : GridSegment) → IsPiece d t → InBox t.a t.b p → Contains list t
+-- t is a piece with one of the keys
+abbrev pub HasKeyAmong : KeyedDrawing → List ℕ → GridSegment → Type 0
+HasKeyAmong d keys t = (k : ℕ) × (Contains keys k × HasKey d t k)
 
--- pieces are listed, among them those whose boxes meet that of s: so violations at s can be looked for among them
+-- where p is a point, no piece that has it inside is missing in the list
+abbrev pub HasPiecesRound : Drawing → GridPoint → List GridSegment → Type 0
+HasPiecesRound d p list = (t : GridSegment) → IsPoint d p → IsPiece d t → Inside p t → (Contains list t → ⊥) → ⊥
+
+-- pieces are listed, among them all whose boxes meet that of near
+pub record HasPiecesMet (d : Drawing) (near : GridSegment) (list : List GridSegment) : Type 0 where
+  pub pieces : All (IsPiece d) list
+  pub round : (t : GridSegment) → IsPiece d t → BoxesMeet near t → Contains list t
+  pub valid : AllValid d
+
+-- Pieces are listed. Of those whose boxes meet that of s each that isn't listed makes no violation with it: so violations at s
+-- can be looked for among the others.
 pub record CanBeSearched (d : Drawing) (s : GridSegment) (list : List GridSegment) : Type 0 where
   pub pieces : All (IsPiece d) list
-  pub round : (t : GridSegment) → IsPiece d t → BoxesMeet s t → Contains list t
+  pub round : (t : GridSegment) → IsPiece d t → BoxesMeet s t → (Contains list t → ⊥) → NoClash d s t
   pub valid : AllValid d

@@ -6,18 +6,19 @@ ghost use Rattle.std.specs.Prelude.{◌≡◌, ◌↔◌, IsTrue, IfOk, IfSome, 
 ghost use Rattle.std.specs.Bool.{OnTrue};
 ghost use Rattle.grid_base.specs.Point.{InBox};
 ghost use Rattle.grid_base.specs.Segment.{GridSegment, BoxesMeet};
-ghost use Rattle.grid_base.specs.Crossing.{Inside};
+ghost use Rattle.grid_base.specs.Crossing.{Inside, Cross};
 ghost use Rattle.grid_base.specs.Drawing.{IsPoint, IsPiece};
 ghost use Rattle.realm_drawing.specs.Keyed.{AreKeyed};
+ghost use Rattle.realm_index.specs.Aside.{IsAlong};
 ghost use Rattle.rose_values.specs.Border.{AreSegmentsAscending};
-ghost use Rattle.hook_chain.specs.Mending.{IsPermitted};
+ghost use Rattle.hook_chain.specs.Mending.{IsPermitted, MendsCrossing};
 ghost use Rattle.realm_insert.specs.Kept.{IsIndexed};
 ghost use Rattle.realm_insert.specs.Clashes.{IsInsideNone, HasNoEndInside, NoClash, AreClear, IsOneRound};
-ghost use Rattle.realm_insert.specs.Clashes.{HasKeysRound, HasKeysAt, HasPiecesAt, CanBeSearched};
+ghost use Rattle.realm_insert.specs.Clashes.{HasKeysRound, HasKeysAt, HasKeyAmong, HasPiecesRound, CanBeSearched};
 ghost use Rattle.realm_insert.specs.Work.{IsClean};
 
 use chain_laws::crossing_step;
-use grid_base::{NoMemory, Point, Segment, Step, box_meets, in_side};
+use grid_base::{NoMemory, Point, Segment, Step, box_meets, crosses, in_side};
 use realm_drawing::Drawing;
 use realm_index::NearIndex;
 use rose_overlay::ascending_segments;
@@ -181,7 +182,19 @@ fn clash(drawing: &Drawing, s: &Segment, t: &Segment) -> Option<Step>
     if let Some(step) = end_inside(drawing, t, s) {
         return Some(step);
     }
-    crossing_step(s, t)
+    crossing_of(s, t)
+}
+
+// The step that mends the crossing of two pieces. Most don't cross, which is told before they are put in order.
+fn crossing_of(s: &Segment, t: &Segment) -> Option<Step>
+    ensures apart { IsNone result ↔ (Cross s.now t.now → ⊥) }
+    ensures mends { IfSome result (MendsCrossing s.now t.now) }
+{
+    if crosses(s, t) {
+        crossing_step(s, t)
+    } else {
+        None
+    }
 }
 
 // The step to an end of `s` inside the piece `t`.
@@ -202,14 +215,57 @@ fn split_at(drawing: &Drawing, p: &Point, t: &Segment) -> Option<Step>
     ensures { MatchOption result (IsPoint drawing.now.drawing p.now → Inside p.now t.now → ⊥)
         (IsPermitted drawing.now.drawing) }
 {
-    if in_side(t, p) && drawing.is_point(p) {
+    if is_inside(p, t) && drawing.is_point(p) {
         Some(Step::Split { p: *p, t: *t })
     } else {
         None
     }
 }
 
-// The same of `s` where it is no piece, so that only its ends are left.
+// Whether `p` is inside `t`. Most points that are near are its ends, which is told first.
+fn is_inside(p: &Point, t: &Segment) -> bool
+    ensures { IsTrue result ↔ Inside p.now t.now }
+{
+    *p != t.a() && *p != t.b() && in_side(t, p)
+}
+
+// The same of `s` where it is no piece, so that only its ends are left. What is near them is looked for by the index: a long
+// piece that was cut has many others in its box.
+pub(crate) fn split_at_ends(
+    alloc: Global,
+    drawing: &Drawing,
+    index: &NearIndex,
+    s: &Segment,
+) -> Result<Option<Step>, NoMemory>
+    requires indexed { IsIndexed drawing.now index.now }
+    requires keyed { AreKeyed drawing.now }
+    requires no_piece { IsPiece drawing.now.drawing s.now → ⊥ }
+    ensures { IfOk result
+        (λ found. MatchOption found (IsClean drawing.now.drawing s.now) (IsPermitted drawing.now.drawing)) }
+{
+    if let Some(step) = split_round(alloc, drawing, index, &s.a())? {
+        return Ok(Some(step));
+    }
+    split_round(alloc, drawing, index, &s.b())
+}
+
+// A step to `p` inside a piece, the least by the order of segments; none where `p` is no point or inside no piece.
+fn split_round(
+    alloc: Global,
+    drawing: &Drawing,
+    index: &NearIndex,
+    p: &Point,
+) -> Result<Option<Step>, NoMemory>
+    requires indexed { IsIndexed drawing.now index.now }
+    requires keyed { AreKeyed drawing.now }
+    ensures { IfOk result
+        (λ found. MatchOption found (IsInsideNone drawing.now.drawing p.now) (IsPermitted drawing.now.drawing)) }
+{
+    let round = pieces_round(alloc, drawing, index, p)?;
+    Ok(split_by(drawing, round.as_slice(), p))
+}
+
+// The same, of which the pieces near it are listed.
 fn split_by_ends(drawing: &Drawing, pieces: &[Segment], s: &Segment) -> Option<Step>
     requires search { CanBeSearched drawing.now.drawing s.now pieces.now }
     requires no_piece { IsPiece drawing.now.drawing s.now → ⊥ }
@@ -221,10 +277,10 @@ fn split_by_ends(drawing: &Drawing, pieces: &[Segment], s: &Segment) -> Option<S
     split_by(drawing, pieces, &s.b())
 }
 
-// A step to `p` inside a piece, the least by the order of segments; none where `p` is no point or inside no piece.
+// The same, of which the pieces that have `p` inside are listed, among others.
 fn split_by(drawing: &Drawing, pieces: &[Segment], p: &Point) -> Option<Step>
     requires pieces { All (IsPiece drawing.now.drawing) pieces.now }
-    requires round { HasPiecesAt drawing.now.drawing p.now pieces.now }
+    requires round { HasPiecesRound drawing.now.drawing p.now pieces.now }
     ensures { MatchOption result (IsInsideNone drawing.now.drawing p.now) (IsPermitted drawing.now.drawing) }
 {
     if !drawing.is_point(p) {
@@ -293,6 +349,38 @@ fn pieces_met(
             if box_meets(near, &t) {
                 list.push(t)?;
             }
+        }
+    }
+    Ok(list)
+}
+
+// The pieces whose boxes meet that of `s` and don't lie off its line, in no order. All others make no violation with it: of a
+// long piece these are most of those in the corners of its box.
+pub(crate) fn pieces_met_along(
+    alloc: Global,
+    drawing: &Drawing,
+    index: &NearIndex,
+    s: &Segment,
+) -> Result<Vec<Segment>, NoMemory>
+    requires indexed { IsIndexed drawing.now index.now }
+    requires keyed { AreKeyed drawing.now }
+    ensures { IfOk result (λ list. (t : GridSegment)
+        → Contains list.items t ↔ (IsPiece drawing.now.drawing t × IsAlong s.now t)) }
+{
+    let keys = index.along(s)?;
+    pieces_of(alloc, drawing, keys.as_slice())
+}
+
+// The pieces with these keys.
+fn pieces_of(alloc: Global, drawing: &Drawing, keys: &[usize]) -> Result<Vec<Segment>, NoMemory>
+    requires keyed { AreKeyed drawing.now }
+    ensures { IfOk result (λ list. (t : GridSegment)
+        → Contains list.items t ↔ HasKeyAmong drawing.now keys.now t) }
+{
+    let mut list = Vec::with_capacity(alloc, keys.len())?;
+    for key in keys {
+        if let Some(t) = drawing.piece(*key) {
+            list.push(t)?;
         }
     }
     Ok(list)

@@ -5,21 +5,21 @@
 ghost use Rattle.std.specs.Prelude.{◌≡◌, ◌<◌, ◌≤◌, ◌-◌, ◌++◌, ℕ, length, map, Some, Err, IfOk, OnOk, MatchOption};
 ghost use Rattle.std.specs.Prelude.{IfSome, IsNone, IsSomeAnd};
 ghost use Rattle.std.specs.List.{slice_get};
-ghost use Rattle.grid_base.specs.Drawing.{HasViolation};
+ghost use Rattle.grid_base.specs.Drawing.{HasViolation, IsPiece};
 ghost use Rattle.hook_chain.specs.Steps.{Permitted, Settles};
 ghost use Rattle.hook_chain.specs.StandingChains.{AllValid};
 ghost use Rattle.realm_drawing.specs.Keyed.{AreKeyed};
 ghost use Rattle.hook_chain.specs.Mending.{IsPermitted};
 ghost use Rattle.realm_drawing.specs.declared.errors.StepError.TheVariants.{NotPermitted};
-ghost use Rattle.realm_insert.specs.Clashes.{CanBeSearched};
+ghost use Rattle.realm_insert.specs.Clashes.{IsWithin, HasPiecesMet, CanBeSearched};
 ghost use Rattle.realm_insert.specs.Kept.{IsIndexed};
 ghost use Rattle.realm_insert.specs.Misfits.{Misfits};
-ghost use Rattle.realm_insert.specs.Work.{IsCoveredBy};
+ghost use Rattle.realm_insert.specs.Work.{IsClean, IsCoveredBy};
 ghost use Rattle.realm_insert.specs.declared.settling.SettleError.TheVariants.{Mismatch, NoMemory as NoRoom};
 
 use crate::indexing::{forget_gone, keyed_pieces, put_in_index};
 use crate::near_box::{box_of_last, lies_within};
-use crate::searching::{pieces_near, violation_at};
+use crate::searching::{pieces_met_along, pieces_near, split_at_ends, violation_at};
 use grid_base::{NoMemory, Segment, Step};
 use realm_drawing::{Drawing, KeyedPiece, StepError};
 use realm_index::NearIndex;
@@ -155,19 +155,117 @@ pub(crate) fn next_step(
     ensures covered { OnOk result (IsCoveredBy drawing.now.drawing fresh.new.items) }
 {
     while let Some(piece) = fresh.as_slice().last().copied() {
-        let many = fresh.len().saturating_sub(before).saturating_add(1);
-        let near = box_of_last(fresh.as_slice(), &piece, many);
-        let pieces = pieces_near(alloc, drawing, index, &near)?;
-        let found = step_at_last(alloc, drawing, pieces.as_slice(), &piece, fresh)?;
-        if found.is_some() {
-            return Ok(found);
-        }
-        let found = step_within(alloc, drawing, pieces.as_slice(), &near, fresh)?;
+        let found = if drawing.key(&piece).is_some() {
+            step_at_group(alloc, drawing, index, &piece, fresh, before)?
+        } else {
+            step_at_gone(alloc, drawing, index, &piece, fresh)?
+        };
         if found.is_some() {
             return Ok(found);
         }
     }
     Ok(None)
+}
+
+// A step that mends a violation at an end of the last of the list, which is no piece any more. It comes off where it is clean.
+fn step_at_gone(
+    alloc: Global,
+    drawing: &Drawing,
+    index: &NearIndex,
+    gone: &Segment,
+    fresh: &mut Vec<Segment>,
+) -> Result<Option<Step>, NoMemory>
+    requires last { slice_get fresh.old.items (length fresh.old.items - 1) ≡ Some gone.now }
+    requires indexed { IsIndexed drawing.now index.now }
+    requires keyed { AreKeyed drawing.now }
+    requires no_piece { IsPiece drawing.now.drawing gone.now → ⊥ }
+    requires covered { IsCoveredBy drawing.now.drawing fresh.old.items }
+    ensures found { IfOk result (λ found. IfSome found (IsPermitted drawing.now.drawing)) }
+    ensures covered { OnOk result (IsCoveredBy drawing.now.drawing fresh.new.items) }
+    ensures shorter { IfOk result (λ found.
+        IsNone found → length fresh.new.items < length fresh.old.items) }
+{
+    let found = split_at_ends(alloc, drawing, index, gone)?;
+    drop_if_clean(drawing, gone, &found, fresh);
+    Ok(found)
+}
+
+// A step that mends a violation at the last piece of the list, or at one of those before it that lie by it.
+fn step_at_group(
+    alloc: Global,
+    drawing: &Drawing,
+    index: &NearIndex,
+    piece: &Segment,
+    fresh: &mut Vec<Segment>,
+    before: usize,
+) -> Result<Option<Step>, NoMemory>
+    requires last { slice_get fresh.old.items (length fresh.old.items - 1) ≡ Some piece.now }
+    requires indexed { IsIndexed drawing.now index.now }
+    requires keyed { AreKeyed drawing.now }
+    requires valid { AllValid drawing.now.drawing }
+    requires covered { IsCoveredBy drawing.now.drawing fresh.old.items }
+    ensures found { IfOk result (λ found. IfSome found (IsPermitted drawing.now.drawing)) }
+    ensures covered { OnOk result (IsCoveredBy drawing.now.drawing fresh.new.items) }
+    ensures shorter { IfOk result (λ found.
+        IsNone found → length fresh.new.items < length fresh.old.items) }
+{
+    let many = fresh.len().saturating_sub(before).saturating_add(1);
+    let near = box_of_last(fresh.as_slice(), piece, many);
+    if lies_within(piece, &near) {
+        step_alone(alloc, drawing, index, piece, fresh)
+    } else {
+        step_near(alloc, drawing, index, piece, &near, fresh)
+    }
+}
+
+// The same of the last piece alone, where the box of the group is the one of that piece.
+fn step_alone(
+    alloc: Global,
+    drawing: &Drawing,
+    index: &NearIndex,
+    piece: &Segment,
+    fresh: &mut Vec<Segment>,
+) -> Result<Option<Step>, NoMemory>
+    requires last { slice_get fresh.old.items (length fresh.old.items - 1) ≡ Some piece.now }
+    requires indexed { IsIndexed drawing.now index.now }
+    requires keyed { AreKeyed drawing.now }
+    requires valid { AllValid drawing.now.drawing }
+    requires covered { IsCoveredBy drawing.now.drawing fresh.old.items }
+    ensures found { IfOk result (λ found. IfSome found (IsPermitted drawing.now.drawing)) }
+    ensures covered { OnOk result (IsCoveredBy drawing.now.drawing fresh.new.items) }
+    ensures shorter { IfOk result (λ found.
+        IsNone found → length fresh.new.items < length fresh.old.items) }
+{
+    let pieces = pieces_met_along(alloc, drawing, index, piece)?;
+    step_at_last(alloc, drawing, pieces.as_slice(), piece, fresh)
+}
+
+// The same of all in the box of `near`, where the last piece lies.
+fn step_near(
+    alloc: Global,
+    drawing: &Drawing,
+    index: &NearIndex,
+    piece: &Segment,
+    near: &Segment,
+    fresh: &mut Vec<Segment>,
+) -> Result<Option<Step>, NoMemory>
+    requires last { slice_get fresh.old.items (length fresh.old.items - 1) ≡ Some piece.now }
+    requires within { IsWithin near.now piece.now }
+    requires indexed { IsIndexed drawing.now index.now }
+    requires keyed { AreKeyed drawing.now }
+    requires valid { AllValid drawing.now.drawing }
+    requires covered { IsCoveredBy drawing.now.drawing fresh.old.items }
+    ensures found { IfOk result (λ found. IfSome found (IsPermitted drawing.now.drawing)) }
+    ensures covered { OnOk result (IsCoveredBy drawing.now.drawing fresh.new.items) }
+    ensures shorter { IfOk result (λ found.
+        IsNone found → length fresh.new.items < length fresh.old.items) }
+{
+    let pieces = pieces_near(alloc, drawing, index, near)?;
+    let found = step_at_last(alloc, drawing, pieces.as_slice(), piece, fresh)?;
+    if found.is_some() {
+        return Ok(found);
+    }
+    step_within(alloc, drawing, pieces.as_slice(), near, fresh)
 }
 
 // A step that mends a violation at one of the pieces at the end of the list that lie in the box of `near`.
@@ -178,7 +276,7 @@ fn step_within(
     near: &Segment,
     fresh: &mut Vec<Segment>,
 ) -> Result<Option<Step>, NoMemory>
-    requires search { CanBeSearched drawing.now.drawing near.now pieces.now }
+    requires met { HasPiecesMet drawing.now.drawing near.now pieces.now }
     requires covered { IsCoveredBy drawing.now.drawing fresh.old.items }
     ensures found { IfOk result (λ found. IfSome found (IsPermitted drawing.now.drawing)) }
     ensures covered { OnOk result (IsCoveredBy drawing.now.drawing fresh.new.items) }
@@ -214,10 +312,22 @@ fn step_at_last(
         IsNone found → length fresh.new.items < length fresh.old.items) }
 {
     let found = violation_at(alloc, drawing, pieces, piece)?;
+    drop_if_clean(drawing, piece, &found, fresh);
+    Ok(found)
+}
+
+// Takes the last piece off the list where no violation was found at it.
+fn drop_if_clean(drawing: &Drawing, piece: &Segment, found: &Option<Step>, fresh: &mut Vec<Segment>)
+    requires last { slice_get fresh.old.items (length fresh.old.items - 1) ≡ Some piece.now }
+    requires found { MatchOption found.now (IsClean drawing.now.drawing piece.now) (IsPermitted drawing.now.drawing) }
+    requires covered { IsCoveredBy drawing.now.drawing fresh.old.items }
+    ensures covered { IsCoveredBy drawing.now.drawing fresh.new.items }
+    ensures longer { length fresh.new.items ≤ length fresh.old.items }
+    ensures shorter { IsNone found.now → length fresh.new.items < length fresh.old.items }
+{
     if found.is_none() {
         fresh.pop();
     }
-    Ok(found)
 }
 
 // Takes a step that is permitted.

@@ -5,4 +5,4 @@ use Rattle.realm_insert.proofs.searching.split_at.Goals as goal
 pub returns-then-is_point : goal.returns-then-is_point
 returns-then-is_point c =
     split_is_permitted c.args.drawing.now.drawing c.args.p.now c.args.t.now (c.is_point.ensures.0 c.if-is_point.true)
-    c.requires.piece (c.in_side.ensures.0 c.if-in_side.true)
+    c.requires.piece (c.is_inside.ensures.0 c.if-is_inside.true)
