@@ -57,12 +57,6 @@ halves_by_places place whole some rest front back end e f low high some_low some
     (boxed (map (place f) rest) rest_low rest_high)) points
     (halves_of_lists (map (place e) some) (map (place f) rest) low high some_low some_high rest_low rest_high inside inside_too)
 
--- what is in a box whatever was asked
-pub inside_anyway : (low high some_low some_high : GridPoint) (points : List GridPoint) → All (IsInBounds some_low some_high) points
-    → All (λ p. IsInBounds low high p → IsInBounds some_low some_high p) points
-inside_anyway low high some_low some_high points =
-    All-weaker (IsInBounds some_low some_high) (λ p. IsInBounds low high p → IsInBounds some_low some_high p) (λ p h _. h) points
-
 -- ---- by rows
 -- a point that isn't below the middle row is in it or above
 halves_of_rows : (points : List GridPoint) (low high some_low some_high rest_low rest_high v_low v_high w_low w_high : GridPoint)

@@ -69,7 +69,7 @@ abbrev pub IsSpan : GridPoint → Bool → Bool → List GridPoint → GridPoint
 IsSpan steps left down points low high first last =
     All (λ p. IsInBounds low high p → (first ≤ along steps left down p) × (along steps left down p ≤ last)) points
 
-in_span : (steps : GridPoint) (left down : Bool) (points : List GridPoint) (low high : GridPoint) (first last : ℕ)
+pub in_span : (steps : GridPoint) (left down : Bool) (points : List GridPoint) (low high : GridPoint) (first last : ℕ)
     → IsSpan steps left down points low high first last → (p : GridPoint) → IsSeen (boxed points low high) p
     → (first ≤ along steps left down p) × (along steps left down p ≤ last)
 in_span steps left down points low high first last span p seen =
@@ -165,7 +165,7 @@ near_enough found long wide length k l n some less lower is shown =
     divided n found length some (omega (arith, is, shown, square, square_across))
 
 -- two points of the grid whose places along a direction and across it show it
-pair_within : (steps : GridPoint) (left down : Bool) (found long wide : ℕ) (p q : GridPoint)
+pub pair_within : (steps : GridPoint) (left down : Bool) (found long wide : ℕ) (p q : GridPoint)
     → p.x < grid_side → p.y < grid_side → q.x < grid_side → q.y < grid_side
     → gap (along steps left down p) (along steps left down q) ≤ long
     → gap (along (point_at steps.y steps.x) (not left) down p) (along (point_at steps.y steps.x) (not left) down q) ≤ wide
@@ -181,45 +181,3 @@ pair_within steps left down found long wide p q px py qx qy less lower some show
     let near = near_enough found long wide (steps.x * steps.x + steps.y * steps.y) _ _ _ some less lower is shown in
     subst (λ z. gap p.x q.x * gap p.x q.x + z * z ≤ found) rows
     (subst (λ z. z * z + gap (counted down p.y) (counted down q.y) * gap (counted down p.y) (counted down q.y) ≤ found) columns near)
-
--- how far apart along a direction points of two parts are at most
-gap_of_spans : (steps : GridPoint) (left down : Bool) (points others : List GridPoint) (low high other_low other_high : GridPoint)
-    (first last other_first other_last most : ℕ)
-    → IsSpan steps left down points low high first last → IsSpan steps left down others other_low other_high other_first other_last
-    → ((m n : ℕ) → first ≤ m → m ≤ last → other_first ≤ n → n ≤ other_last → gap m n ≤ most)
-    → (p q : GridPoint) → IsSeen (boxed points low high) p → IsSeen (boxed others other_low other_high) q
-    → gap (along steps left down p) (along steps left down q) ≤ most
-gap_of_spans steps left down points others low high other_low other_high first last other_first other_last most one other at_most p q
-    p_seen q_seen =
-    let here = in_span steps left down points low high first last one p p_seen in
-    let there = in_span steps left down others other_low other_high other_first other_last other q q_seen in
-    at_most _ _ here.0 here.1 there.0 there.1
-
--- the points of two parts are no farther apart than what was found, if what they reach along the direction and across it shows it
-pub points_within : (steps t : GridPoint) (left down t_left t_down : Bool) (points others : List GridPoint)
-    (low high other_low other_high : GridPoint)
-    (first last other_first other_last t_first t_last t_other_first t_other_last long wide found : ℕ)
-    → t ≡ point_at steps.y steps.x → t_left ≡ not left → t_down ≡ down
-    → (high.x < grid_side) × (high.y < grid_side) → (other_high.x < grid_side) × (other_high.y < grid_side)
-    → IsSpan steps left down points low high first last → IsSpan steps left down others other_low other_high other_first other_last
-    → ((m n : ℕ) → first ≤ m → m ≤ last → other_first ≤ n → n ≤ other_last → gap m n ≤ long)
-    → IsSpan t t_left t_down points low high t_first t_last → IsSpan t t_left t_down others other_low other_high t_other_first t_other_last
-    → ((m n : ℕ) → t_first ≤ m → m ≤ t_last → t_other_first ≤ n → n ≤ t_other_last → gap m n ≤ wide)
-    → 0 < steps.x * steps.x + steps.y * steps.y → long * long + wide * wide ≤ found * (steps.x * steps.x + steps.y * steps.y)
-    → (p q : GridPoint) → IsSeen (boxed points low high) p → IsSeen (boxed others other_low other_high) q → squared_distance p q ≤ found
-points_within steps t left down t_left t_down points others low high other_low other_high first last other_first other_last
-    t_first t_last t_other_first t_other_last long wide found steps_is left_is down_is grid other_grid one other at_most t_one t_other
-    t_at_most some shown p q p_seen q_seen =
-    let along_them = gap_of_spans steps left down points others low high other_low other_high first last other_first other_last long
-    one other at_most p q p_seen q_seen in
-    let across_them : gap (along t t_left t_down p) (along t t_left t_down q) ≤ wide =
-    gap_of_spans t t_left t_down points others low high other_low other_high t_first t_last t_other_first t_other_last wide
-    t_one t_other t_at_most p q p_seen q_seen in
-    pair_within steps left down found long wide p q
-    (omega (arith, p_seen.inside.left_of_right_side, grid.0)) (omega (arith, p_seen.inside.below_upper_side, grid.1))
-    (omega (arith, q_seen.inside.left_of_right_side, other_grid.0)) (omega (arith, q_seen.inside.below_upper_side, other_grid.1))
-    along_them
-    (subst (λ d. gap (along (point_at steps.y steps.x) (not left) d p) (along (point_at steps.y steps.x) (not left) d q) ≤ wide) down_is
-    (subst (λ b. gap (along (point_at steps.y steps.x) b t_down p) (along (point_at steps.y steps.x) b t_down q) ≤ wide) left_is
-    (subst (λ v. gap (along v t_left t_down p) (along v t_left t_down q) ≤ wide) steps_is across_them)))
-    some shown

@@ -1,13 +1,13 @@
 //! Parts along a direction. A box round points on a slanting line is much wider than the line, so boxes alone
-//! don't show how far two such lines are apart; a direction from one to the other does, and the one across it.
+//! don't show how far two such lines are apart; a direction from one to the other, and the one across it, do.
 ghost use Rattle.std.specs.Prelude.{◌≡◌, ℕ, ◌+◌, ◌*◌, ◌<◌, ◌≤◌, ◌^◌, All, IsTrue, map, not};
 ghost use Rattle.grid_base.specs.Grid.{grid_side, product_bound, side_bound};
-ghost use Rattle.grid_base.specs.Point.{GridPoint, gap, point_at};
+ghost use Rattle.grid_base.specs.Point.{GridPoint, point_at};
 ghost use Rattle.rose_measure.specs.Numbers.{squared_distance};
 ghost use Rattle.rose_measure.specs.Extremes.{boxed, IsInBounds, IsSeen};
 ghost use Rattle.rose_measure.specs.Directions.{along, counted};
 
-use crate::apart::{least_apart, most_apart};
+use crate::apart::least_apart;
 use crate::parts::{Bounds, Part, Placed};
 use grid_base::{GRID_SIDE, Point};
 
@@ -42,34 +42,6 @@ pub(crate) fn lies_apart<'a, T: Placed>(
     is_gap(&way.steps, ahead.saturating_sub(behind), found)
 }
 
-// Whether the two parts lie no farther apart than what was found, as seen along the way from one box to the
-// other and across it. It isn't looked at where the boxes reach much farther, nor where one list is twice as
-// long, since that one is halved next.
-pub(crate) fn lies_within<'a, T: Placed>(
-    first: &Part<'a, T>,
-    second: &Part<'a, T>,
-    found: u64,
-) -> bool
-    ensures { IsTrue result → (p q : GridPoint)
-        → IsSeen (boxed (map (T.place_at first.now.end) first.now.list.now)
-        first.now.bounds.low first.now.bounds.high) p
-        → IsSeen (boxed (map (T.place_at second.now.end) second.now.list.now)
-        second.now.bounds.low second.now.bounds.high) q
-        → squared_distance p q ≤ found }
-{
-    if first.list.len() / 2 >= second.list.len() {
-        return false;
-    }
-    if most_apart(&first.bounds, &second.bounds) / 9 > found / 8 {
-        return false;
-    }
-    let way = way_between(&first.bounds, &second.bounds);
-    let turned = across(&way);
-    let long = reach_along(&span_along(first, &way), &span_along(second, &way));
-    let wide = reach_along(&span_along(first, &turned), &span_along(second, &turned));
-    has_both(&way.steps, long, wide, found)
-}
-
 // Whether so much along a direction that goes so many columns and rows is at least the distance.
 fn is_gap(steps: &Point, gap: u64, found: u64) -> bool
     requires { gap < side_bound }
@@ -80,27 +52,8 @@ fn is_gap(steps: &Point, gap: u64, found: u64) -> bool
     length > 0 && u128::from(found) * u128::from(length) <= u128::from(gap) * u128::from(gap)
 }
 
-// Whether so much along a direction, and so much across it, is at most the distance.
-fn has_both(steps: &Point, long: u64, wide: u64, found: u64) -> bool
-    requires { (long < side_bound) × (wide < side_bound) }
-    ensures { IsTrue result → (0 < steps.now.x * steps.now.x + steps.now.y * steps.now.y)
-        × (long * long + wide * wide ≤ found * (steps.now.x * steps.now.x + steps.now.y * steps.now.y)) }
-{
-    let length = length_squared(steps);
-    length > 0 && square_of(long) + square_of(wide) <= u128::from(found) * u128::from(length)
-}
-
-// The square of so much along a direction.
-fn square_of(n: u64) -> u128
-    requires { n < side_bound }
-    ensures square { result ≡ n * n }
-    ensures below { result < side_bound * side_bound }
-{
-    u128::from(n) * u128::from(n)
-}
-
 // The square of how long the steps are.
-fn length_squared(steps: &Point) -> u64
+pub(crate) fn length_squared(steps: &Point) -> u64
     ensures square { result ≡ steps.now.x * steps.now.x + steps.now.y * steps.now.y }
     ensures below { result < side_bound }
 {
@@ -108,7 +61,7 @@ fn length_squared(steps: &Point) -> u64
 }
 
 // The direction from the middle of one box to the middle of the other. Both boxes are on the grid.
-fn way_between(first: &Bounds, second: &Bounds) -> Direction
+pub(crate) fn way_between(first: &Bounds, second: &Bounds) -> Direction
     ensures on_grid { (first.now.high.x < grid_side) × (first.now.high.y < grid_side) }
     ensures both { (second.now.high.x < grid_side) × (second.now.high.y < grid_side) }
 {
@@ -121,7 +74,7 @@ fn way_between(first: &Bounds, second: &Bounds) -> Direction
 }
 
 // The direction across it, to its right or to its left.
-fn across(way: &Direction) -> Direction
+pub(crate) fn across(way: &Direction) -> Direction
     ensures steps { result.steps ≡ point_at way.now.steps.y way.now.steps.x }
     ensures left { result.left ≡ not way.now.left }
     ensures down { result.down ≡ way.now.down }
@@ -148,21 +101,9 @@ pub(crate) struct Span {
     pub(crate) last: u64,
 }
 
-// How far apart along a direction the points of two spans are at most.
-fn reach_along(some: &Span, others: &Span) -> u64
-    requires { (some.now.last < side_bound) × (others.now.last < side_bound) }
-    ensures most { (m n : ℕ) → some.now.first ≤ m → m ≤ some.now.last → others.now.first ≤ n
-        → n ≤ others.now.last → gap m n ≤ result }
-    ensures below { result < side_bound }
-{
-    let onward = others.last.saturating_sub(some.first);
-    let back = some.last.saturating_sub(others.first);
-    onward.max(back)
-}
-
 // Where the points of the part begin along the direction, and where they end; all is behind its beginning
 // where none counts.
-fn span_along<T: Placed>(part: &Part<'_, T>, way: &Direction) -> Span
+pub(crate) fn span_along<T: Placed>(part: &Part<'_, T>, way: &Direction) -> Span
     ensures has { All (λ p. IsInBounds part.now.bounds.low part.now.bounds.high p
         → (result.first ≤ along way.now.steps way.now.left way.now.down p)
         × (along way.now.steps way.now.left way.now.down p ≤ result.last))
@@ -201,9 +142,10 @@ fn stretched(span: &Span, way: &Direction, bounds: &Bounds, p: &Point) -> Span
 // No point is farther along a direction.
 const FARTHEST: u64 = 2 * (GRID_SIDE as u64) * (GRID_SIDE as u64) - 1;
 
-// How far along the direction the point is.
-fn place_along(way: &Direction, p: &Point) -> u64
+// How far along the direction the point is, which is on the grid.
+pub(crate) fn place_along(way: &Direction, p: &Point) -> u64
     ensures along { result ≡ along way.now.steps way.now.left way.now.down p.now }
+    ensures on_grid { (p.now.x < grid_side) × (p.now.y < grid_side) }
     ensures below { result < side_bound }
 {
     times(way.steps.x(), count(way.left, p.x())) + times(way.steps.y(), count(way.down, p.y()))

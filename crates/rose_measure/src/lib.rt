@@ -7,6 +7,7 @@ mod areas;
 mod counting;
 mod directions;
 mod distances;
+mod narrowing;
 mod parts;
 mod widths;
 
