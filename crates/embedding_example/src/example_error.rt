@@ -6,7 +6,7 @@ use realm_store::{CheckpointError, CommitError, StartError};
 use std::io;
 use thiserror::Error;
 
-/// Why the example stops early. None of these comes with enough memory and with the lines that it has.
+/// Why the example stops early. With the lines that it has none of these comes while there is memory and the disk works.
 #[derive(Debug, Drop, Error)]
 pub enum ExampleError {
     #[error("the line is no command: {0:?}")]

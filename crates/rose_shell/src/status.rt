@@ -17,7 +17,7 @@ pub enum Status {
     SourceFault,
     /// The output took no more.
     SinkFault,
-    /// A file could not be read or written on.
+    /// A file could not be read or written on, or another program holds the folder.
     DiskFault,
     /// The files stand for no state.
     Damaged(Damage),
