@@ -1,12 +1,15 @@
 #!/usr/bin/env python3
 """Times intersections of two regions, and sums, parts and overlays of many values, by `rose run`. See README.md."""
 import argparse
+import fcntl
 import os
 import subprocess
 import tempfile
 import time
 
 SIZES = [400, 4000, 40000]
+BLOCK = 1 << 20
+F_SETPIPE_SZ = 1031
 
 
 def square(low, high):
@@ -106,26 +109,56 @@ SETS = {"overlay": (overlaid, [500, 1000]), "sum": (summed, [5000, 10000]), "fac
         "network": (network, [25000, 50000])}
 
 
+class Lines:
+    """The lines of a pipe, read by large blocks, so that long replies take hardly any time of their own."""
+
+    def __init__(self, pipe):
+        self.pipe, self.block, self.at = pipe, b"", 0
+        fcntl.fcntl(pipe, F_SETPIPE_SZ, BLOCK)
+
+    def read_on(self):
+        more = os.read(self.pipe.fileno(), BLOCK)
+        if not more:
+            raise SystemExit("the program ended")
+        self.block, self.at = self.block[self.at:] + more, 0
+
+    def next(self):
+        while (end := self.block.find(b"\n", self.at)) < 0:
+            self.read_on()
+        line, self.at = self.block[self.at:end], end + 1
+        return line.decode()
+
+    def skip(self, count):
+        while (has := self.block.count(b"\n", self.at)) <= count:
+            self.at, count = max(self.at, self.block.rfind(b"\n") + 1), count - has
+            if not count:
+                return
+            self.read_on()
+        for _ in range(count):
+            self.at = self.block.find(b"\n", self.at) + 1
+
+
 class Run:
     """A run that is fed one line at a time, as each reply comes."""
 
     def __init__(self, program, folder):
-        self.run = subprocess.Popen([program, "run"], cwd=folder, stdin=subprocess.PIPE, stdout=subprocess.PIPE)
+        self.run = subprocess.Popen([program, "run"], cwd=folder, stdin=subprocess.PIPE, stdout=subprocess.PIPE, bufsize=0)
+        self.lines = Lines(self.run.stdout)
 
     def ask(self, line):
         """The head of the reply, and the processor seconds and the seconds that the program took for it."""
         begin, before = time.monotonic(), self.used()
-        self.run.stdin.write(line.encode() + b"\n")
-        self.run.stdin.flush()
+        unsent = memoryview(line.encode() + b"\n")
+        while unsent:
+            unsent = unsent[self.run.stdin.write(unsent):]
         head, rest = self.reply()
         return head, rest, self.used() - before, time.monotonic() - begin
 
     def reply(self):
         """The head of a reply, and the pairs and keys that it names."""
-        head = self.run.stdout.readline().decode().split()
+        head = self.lines.next().split()
         if head[0] in ("points", "lines", "regions"):
-            for _ in range(int(head[1])):
-                self.run.stdout.readline()
+            self.lines.skip(int(head[1]))
         rest = []
         if head[0] == "set":
             for _ in range(int(head[1])):
