@@ -1,6 +1,5 @@
 -- This file shows which lines a change has that was made.
 use Rattle.std.proofs.Common.{◌≡◌, ◌⊎◌, ℕ, ◌≤◌, List, ◌∷◌, ◌++◌, map, Contains, ap, subst, ◌∙◌}
-use Rattle.grid_base.specs.Drawing.{Drawing}
 use Rattle.grid_base.specs.declared.kinds.Step.{Step}
 use Rattle.grid_base.specs.declared.original.Original.{Original}
 use Rattle.line_grammar.specs.declared.command.Change.{Change}

@@ -1,6 +1,5 @@
 -- This file shows where an entry leads whose line is the text of a change.
-use Rattle.std.proofs.Common.{◌≡◌, List, sym, subst, ◌∙◌}
-use Rattle.grid_base.specs.declared.kinds.Step.{Step}
+use Rattle.std.proofs.Common.{◌≡◌, sym, subst, ◌∙◌}
 use Rattle.line_grammar.specs.declared.command.Change.{Change}
 use Rattle.record_codec.specs.declared.entry.Entry.{Entry}
 use Rattle.realm_insert.specs.State.{State}

@@ -6,6 +6,8 @@ pub mod SettledIds
 pub mod ChangedIds
 -- what a change takes away
 pub mod LostItems
+-- which originals have an id below a number
+pub mod RisingIds
 -- what a change draws
 pub mod NewOriginals
 -- the lines of a change

@@ -15,7 +15,7 @@ use Rattle.realm_audit.specs.declared.item.Item.{Item}
 use Rattle.realm_audit.specs.declared.item.Item.TheVariants as items
 use Rattle.hook_chain.specs.Ids.{IsAscending}
 use Rattle.chain_laws.proofs.Elements.{Contains-head}
-use Rattle.realm_insert.specs.Changes.{IsChangedTo, IsExplicitAfter, redrawn}
+use Rattle.realm_insert.specs.Changes.{IsChangedTo}
 use Rattle.realm_insert.specs.Differences.{is_among, has_id, points_besides, originals_besides}
 use Rattle.realm_insert.specs.Figures.{Figure}
 use Rattle.realm_insert.specs.Lines.{grid_point}

@@ -1,8 +1,8 @@
 -- This file shows that the new originals of a change are those with its first id and all later ones.
-use Rattle.std.proofs.Common.{◌≡◌, ◌⊎◌, ℕ, ◌+◌, ◌<◌, ◌≤◌, nat_le, nat_lt, not, true, cond, List, [], ◌∷◌, ◌++◌, map, filter, All, Contains}
-use Rattle.std.proofs.Common.{inl, inr, refl, sym, ap, subst, ◌∙◌, arith, append_assoc}
+use Rattle.std.proofs.Common.{◌≡◌, ◌⊎◌, ℕ, ◌+◌, ◌<◌, ◌≤◌, nat_le, nat_lt, not, true, cond, List, [], ◌∷◌, ◌++◌, map, All, Contains}
+use Rattle.std.proofs.Common.{inl, inr, sym, ap, ◌∙◌, arith, append_assoc}
 use Rattle.std.proofs.lemmas.Bool.Decides.{nat_tests}
-use Rattle.std.proofs.lemmas.List.{map-append, append-nil}
+use Rattle.std.proofs.lemmas.List.{map-append}
 use Rattle.std.proofs.lemmas.List.Elements.{All-contains, filter-append}
 use Rattle.std.proofs.lemmas.List.Kept.{AllPairs-filter}
 use Rattle.grid_base.specs.Drawing.{Drawing}
@@ -13,8 +13,8 @@ use Rattle.chain_laws.proofs.PointSets.{Contains-filter}
 use Rattle.realm_insert.specs.Differences.{has_id, originals_besides}
 use Rattle.rose_overlay.proofs.Sorts.{one_list}
 use Rattle.certificate_law.specs.Certificates.{segment_item}
-use Rattle.state_copies.proofs.Listing.{below, all_below, lacks_next, has_next_id}
 use Rattle.store_certificate.specs.Telling.{from_id, HasSegmentToo}
+use Rattle.store_certificate.proofs.RisingIds.{below, all_below, lacks_next, has_next_id}
 use Rattle.store_certificate.proofs.Ids.{nothing, ids, has_its_id, with_id, besides_has}
 
 -- where all old ids are less, the originals whose ids the old ones lack have this id or a later one

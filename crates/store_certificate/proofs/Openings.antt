@@ -1,5 +1,5 @@
 -- This file shows that a chain which may stand for an original has two points at least.
-use Rattle.std.proofs.Common.{◌≡◌, ◌≤◌, List, [], ◌∷◌, length, sym, subst, ◌∙◌, arith}
+use Rattle.std.proofs.Common.{◌≤◌, List, [], ◌∷◌, length, sym, subst, ◌∙◌, arith}
 use Rattle.grid_base.specs.Point.{GridPoint, IsBefore}
 use Rattle.grid_base.proofs.Orders.{IsBefore-asym}
 use Rattle.hook_chain.specs.Chains.{RunsFrom}

@@ -1,4 +1,4 @@
-use Rattle.std.proofs.Common.{◌≡◌, ℕ, List, sym, ap₂, subst, ◌∙◌}
+use Rattle.std.proofs.Common.{ℕ, List, sym, ap₂, subst, ◌∙◌}
 use Rattle.grid_base.specs.Point.{GridPoint}
 use Rattle.grid_base.specs.declared.kinds.Step.{Step}
 use Rattle.realm_insert.specs.Next.{Next}
