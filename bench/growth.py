@@ -135,12 +135,12 @@ DRAWINGS = {
 }
 
 
-def seconds_drawn(program, folder, lines):
-    """The seconds of a processor that a run of the lines takes, and how many points and pieces there are at the end."""
+def seconds_drawn(program, folder, lines, times):
+    """The least seconds of a processor of so many runs of the lines, and how many points and pieces there are at the end."""
     with tempfile.NamedTemporaryFile("w", suffix=".txt") as file:
         file.write("".join(line + "\n" for line in lines))
         file.flush()
-        _, seconds, _ = segments.run(program, file, folder)
+        seconds = min(segments.run(program, file, folder)[1] for _ in range(times))
         file.write("realm\n")
         file.flush()
         output, _, _ = segments.run(program, file, folder)
@@ -183,7 +183,7 @@ def time_drawings(programs, given):
         for program in programs:
             before, held = None, None
             for size in (least << k for k in range(given.doublings + 1)):
-                seconds, parts = seconds_drawn(program, given.folder, make(size))
+                seconds, parts = seconds_drawn(program, given.folder, make(size), given.times)
                 print(f"{what:16} {size:7} {seconds * 1e3:9.2f} {grown(seconds, before):>7} {parts:9} {grown(parts, held):>7}  {program}", flush=True)
                 before, held = seconds, parts or None
 
@@ -206,6 +206,7 @@ def main():
     parser.add_argument("--cases", nargs="*", choices=CASES, default=list(CASES))
     parser.add_argument("--drawings", nargs="*", choices=DRAWINGS, default=list(DRAWINGS))
     parser.add_argument("--doublings", type=int, default=2, help="how often a value or a drawing is made twice as large")
+    parser.add_argument("--times", type=int, default=3, help="how often a drawing is made; the least time counts")
     parser.add_argument("--folder", help="where the file of a run is put")
     given = parser.parse_args()
     programs = [os.path.abspath(program) for program in given.programs]
