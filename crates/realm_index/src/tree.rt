@@ -1,4 +1,4 @@
-//! A tree of squares: each has the entries whose home it is, and the quarters that have entries below it.
+//! A tree of squares: each has the entries whose home it is, and a smaller tree in each quarter that has others.
 ghost use Rattle.std.specs.Prelude.{◌≡◌, ◌↔◌, ◌+◌, ◌<◌, ◌≤◌, ◌++◌, ◌∷◌, ℕ, [], IsTrue, false, All, length, get_or};
 ghost use Rattle.std.specs.Prelude.{OnOk, OnErr, IfOk, MatchOption, MatchResult};
 ghost use Rattle.std.specs.Bool.{OnTrue, OnFalse};
