@@ -1,6 +1,7 @@
 #!/usr/bin/env python3
 """Times questions on large values by `rose run`, of several programs in turn, on one processor and on all. See README.md."""
 import argparse
+import concurrent.futures
 import math
 import os
 import tempfile
@@ -108,16 +109,38 @@ ROWS = [
 def clock(program, lines, question, processors, folder):
     """The milliseconds by the clock that the question takes on so many processors."""
     with tempfile.TemporaryDirectory(dir=folder) as place:
-        allowed = os.sched_getaffinity(0)
-        os.sched_setaffinity(0, sorted(allowed)[:processors])
-        run = Run(program, place)
-        os.sched_setaffinity(0, allowed)
-        drawn(run, lines)
+        run = started(program, lines, sorted(os.sched_getaffinity(0))[:processors], place)
         head, _, passed = timed(run, question)
         run.end()
     if head[0] in ("no", "refused"):
         raise SystemExit(f"{question}: {' '.join(head)}")
     return passed * 1e3
+
+
+def started(program, lines, processors, folder):
+    """A run on these processors, with the lines drawn."""
+    allowed = os.sched_getaffinity(0)
+    os.sched_setaffinity(0, processors)
+    run = Run(program, folder)
+    os.sched_setaffinity(0, allowed)
+    drawn(run, lines)
+    return run
+
+
+def given_at_most(program, folder):
+    """How many processors' worth of work the machine does: the same question alone, and on each processor at once."""
+    lines, question = circle(27526), "num diameter2 a"
+    processors = sorted(os.sched_getaffinity(0))
+    with tempfile.TemporaryDirectory(dir=folder) as place, concurrent.futures.ThreadPoolExecutor() as pool:
+        runs = []
+        for processor in processors:
+            os.mkdir(f"{place}/{processor}")
+            runs.append(started(program, lines, [processor], f"{place}/{processor}"))
+        alone = min(timed(runs[0], question)[2] for _ in range(7))
+        at_once = min(max(each[2] for each in pool.map(lambda run: timed(run, question), runs)) for _ in range(7))
+        for run in runs:
+            run.end()
+    return len(processors) * alone / at_once
 
 
 def main():
@@ -138,6 +161,7 @@ def main():
                  for _ in range(given.times)]
         best = [min(column) for column in zip(*tried)]
         print(f"{what:21} {size:6}" + "".join(f"{each:10.2f}" for each in best), flush=True)
+    print(f"runs side by side do the work of {given_at_most(programs[0], given.folder):.2f} processors")
 
 
 if __name__ == "__main__":

@@ -1,5 +1,5 @@
-//! The search for a violation, which takes no memory: each piece is compared with every point and every piece.
-//! Pieces are found as the links of chains, so one that several chains have is compared as often.
+//! The search for a violation, which takes no memory: each piece is compared with every vertex and every piece, and with
+//! explicit points near it. Pieces and vertices are found along the chains, so one that several chains have is compared as often.
 ghost use Rattle.std.specs.Prelude.{◌↔◌, MatchOption, IsNone, IfSome, All, Any, Contains};
 ghost use Rattle.grid_base.specs.Point.{GridPoint};
 ghost use Rattle.grid_base.specs.Crossing.{Inside, Cross};

@@ -12,6 +12,8 @@ pub mod MissingPieces
 pub mod CommonBoxes
 -- pieces whose boxes lie off the line of another
 pub mod AsidePieces
+-- segments that lead different ways from a common end
+pub mod PartedWays
 -- points that are explicit or ends of pieces
 pub mod Vertices
 -- pieces that the index lists, and when no violation is left

@@ -1,8 +1,9 @@
 -- What the search round one segment looks for. No public clause cites this file.
-use Rattle.std.specs.Prelude.{ℕ, List, All, Contains}
+use Rattle.std.specs.Prelude.{◌≢◌, ◌⊎◌, ℕ, List, All, Contains}
 use Rattle.grid_base.specs.Point.{GridPoint, InBox}
 use Rattle.grid_base.specs.Segment.{GridSegment, IsEnd, BoxesMeet}
 use Rattle.grid_base.specs.Crossing.{Inside, Cross}
+use Rattle.grid_base.specs.Sides.{On, side}
 use Rattle.grid_base.specs.Drawing.{Drawing, IsPoint, IsPiece}
 use Rattle.hook_chain.specs.StandingChains.{AllValid}
 use Rattle.realm_drawing.specs.Keyed.{KeyedDrawing, HasKey}
@@ -20,6 +21,13 @@ pub record NoClash (d : Drawing) (s t : GridSegment) : Type 0 where
   pub no_end_of_s : HasNoEndInside d s t
   pub no_end_of_t : HasNoEndInside d t s
   pub no_crossing : Cross s t → ⊥
+
+-- s and t have a common end, and each end of t is one of s or off its line
+pub record PartWays (s t : GridSegment) : Type 0 where
+  pub common : GridPoint
+  pub of_s : IsEnd common s
+  pub of_t : IsEnd common t
+  pub apart : (p : GridPoint) → IsEnd p t → IsEnd p s ⊎ (side s.a s.b p ≢ On)
 
 -- no piece of the list whose box meets that of s makes one with it
 abbrev pub AreClear : Drawing → GridSegment → List GridSegment → Type 0

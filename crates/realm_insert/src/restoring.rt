@@ -13,7 +13,7 @@ ghost use Rattle.state_check.specs.Numbers.{HaveFitting};
 ghost use Rattle.state_check.specs.Tabled.{entries_of, AreTabled};
 
 use crate::indexing::put_if_missing;
-use crate::settling::next_step;
+use crate::settling::{Round, next_step};
 use chain_laws::step_mends;
 use grid_base::{NoMemory, Segment, settled_is_realm};
 use realm_drawing::Drawing;
@@ -111,8 +111,8 @@ fn is_settled(
         (HasViolation drawing.now.drawing)) }
 {
     step_mends();
-    let before = pieces.len();
-    let found = next_step(alloc, drawing, index, &mut pieces, before)?;
+    let mut round = Round::behind(pieces.len());
+    let found = next_step(alloc, drawing, index, &mut pieces, &mut round)?;
     Ok(found.is_none())
 }
 

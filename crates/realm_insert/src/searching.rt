@@ -2,10 +2,11 @@
 //! one that isn't any more only the ends count. Of the pieces that make a violation a search takes the first by an order
 //! of segments, whatever their keys are: so which is mended next depends on the drawing alone, and not on how it came into
 //! memory.
-ghost use Rattle.std.specs.Prelude.{◌≡◌, ◌↔◌, IsTrue, IfOk, IfSome, IsNone, MatchOption, All, Contains};
+ghost use Rattle.std.specs.Prelude.{◌≡◌, ◌≢◌, ◌⊎◌, ◌↔◌, IsTrue, IfOk, IfSome, IsNone, MatchOption, All, Contains};
 ghost use Rattle.std.specs.Bool.{OnTrue};
-ghost use Rattle.grid_base.specs.Point.{InBox};
-ghost use Rattle.grid_base.specs.Segment.{GridSegment, BoxesMeet};
+ghost use Rattle.grid_base.specs.Point.{InBox, IsBefore};
+ghost use Rattle.grid_base.specs.Segment.{GridSegment, IsEnd, BoxesMeet};
+ghost use Rattle.grid_base.specs.Sides.{On, side};
 ghost use Rattle.grid_base.specs.Crossing.{Inside, Cross};
 ghost use Rattle.grid_base.specs.Drawing.{IsPoint, IsPiece};
 ghost use Rattle.realm_drawing.specs.Keyed.{AreKeyed};
@@ -13,12 +14,12 @@ ghost use Rattle.realm_index.specs.Aside.{IsAlong};
 ghost use Rattle.rose_values.specs.Border.{AreSegmentsAscending};
 ghost use Rattle.hook_chain.specs.Mending.{IsPermitted, MendsCrossing};
 ghost use Rattle.realm_insert.specs.Kept.{IsIndexed};
-ghost use Rattle.realm_insert.specs.Clashes.{IsInsideNone, HasNoEndInside, NoClash, AreClear, IsOneRound};
+ghost use Rattle.realm_insert.specs.Clashes.{IsInsideNone, HasNoEndInside, NoClash, AreClear, IsOneRound, PartWays};
 ghost use Rattle.realm_insert.specs.Clashes.{HasKeysRound, HasKeysAt, HasKeyAmong, HasPiecesRound, CanBeSearched};
 ghost use Rattle.realm_insert.specs.Work.{IsClean};
 
 use chain_laws::crossing_step;
-use grid_base::{NoMemory, Point, Segment, Step, box_meets, crosses, in_side};
+use grid_base::{NoMemory, Point, Segment, Step, box_meets, cross_of, crosses, in_side};
 use realm_drawing::Drawing;
 use realm_index::NearIndex;
 use rose_overlay::ascending_segments;
@@ -44,7 +45,7 @@ pub(crate) fn violation_at(
 }
 
 // The same of the piece `s`. Most are clean, which is seen with nothing put in order.
-fn violation_of(
+pub(crate) fn violation_of(
     alloc: Global,
     drawing: &Drawing,
     pieces: &[Segment],
@@ -176,6 +177,9 @@ fn clash(drawing: &Drawing, s: &Segment, t: &Segment) -> Option<Step>
     requires other { IsPiece drawing.now.drawing t.now }
     ensures { MatchOption result (NoClash drawing.now.drawing s.now t.now) (IsPermitted drawing.now.drawing) }
 {
+    if part_ways(s, t) {
+        return None;
+    }
     if let Some(step) = end_inside(drawing, s, t) {
         return Some(step);
     }
@@ -183,6 +187,34 @@ fn clash(drawing: &Drawing, s: &Segment, t: &Segment) -> Option<Step>
         return Some(step);
     }
     crossing_of(s, t)
+}
+
+// Whether the two lead different ways from a common end, or are one. Of the pieces that a search comes to most do.
+fn part_ways(s: &Segment, t: &Segment) -> bool
+    ensures part { IsTrue result → PartWays s.now t.now }
+    ensures ordered { IsBefore t.now.a t.now.b }
+{
+    let (a, b) = (t.a(), t.b());
+    if is_end(s, &a) {
+        return is_apart(s, &b);
+    }
+    if is_end(s, &b) {
+        return is_apart(s, &a);
+    }
+    false
+}
+
+fn is_end(s: &Segment, p: &Point) -> bool
+    ensures { IsTrue result ↔ IsEnd p.now s.now }
+{
+    *p == s.a() || *p == s.b()
+}
+
+// Whether `p` is an end of `s` or off its line.
+fn is_apart(s: &Segment, p: &Point) -> bool
+    ensures { IsTrue result → IsEnd p.now s.now ⊎ (side s.now.a s.now.b p.now ≢ On) }
+{
+    is_end(s, p) || cross_of(s, p) != 0
 }
 
 // The step that mends the crossing of two pieces. Most don't cross, which is told before they are put in order.

@@ -19,12 +19,31 @@ ghost use Rattle.realm_insert.specs.declared.settling.SettleError.TheVariants.{M
 
 use crate::indexing::{forget_gone, keyed_pieces, put_in_index};
 use crate::near_box::{box_of_last, lies_within};
-use crate::searching::{pieces_met_along, pieces_near, split_at_ends, violation_at};
+use crate::searching::{pieces_met_along, pieces_near, split_at_ends, violation_at, violation_of};
 use grid_base::{NoMemory, Segment, Step};
 use realm_drawing::{Drawing, KeyedPiece, StepError};
 use realm_index::NearIndex;
 use record_codec::Trace;
 use std::alloc::Global;
+
+// Where the last search came to more pieces, the next piece is looked at alone: what lies along it is mostly far less than
+// what lies in a box round several.
+const CROWD: usize = 64;
+
+// How long the list was before the last step drew its pieces, and to how many pieces the last search came. Both tell what is
+// looked at together, and nothing else.
+#[derive(Clone, Copy, Debug)]
+pub(crate) struct Round {
+    before: usize,
+    met: usize,
+}
+
+impl Round {
+    // Those behind the first `before` of the list lie by one another.
+    pub(crate) fn behind(before: usize) -> Round {
+        Round { before, met: 0 }
+    }
+}
 
 // Why a drawing isn't settled.
 #[derive(Clone, Copy, Debug, PartialEq, Eq)]
@@ -90,6 +109,7 @@ fn retrace(
 {
     let mut fresh = fresh;
     let mut trace = Trace::new(alloc);
+    let mut round = Round::behind(fresh.len());
     for i in 0..steps.len() {
         let step = &steps[i];
         match take(alloc, drawing, index, step, &mut fresh) {
@@ -100,8 +120,7 @@ fn retrace(
             }
         }
     }
-    let before = fresh.len();
-    match next_step(alloc, drawing, index, &mut fresh, before)? {
+    match next_step(alloc, drawing, index, &mut fresh, &mut round)? {
         None => Ok(trace),
         Some(_) => Err(SettleError::Mismatch {
             step: steps.len() as u64 + 1,
@@ -127,9 +146,9 @@ fn settle(
 {
     let mut fresh = fresh;
     let mut trace = Trace::new(alloc);
-    let mut before = fresh.len();
-    while let Some(step) = next_step(alloc, drawing, index, &mut fresh, before)? {
-        before = fresh.len();
+    let mut round = Round::behind(fresh.len());
+    while let Some(step) = next_step(alloc, drawing, index, &mut fresh, &mut round)? {
+        round.before = fresh.len();
         mend(alloc, drawing, index, &step, &mut fresh)?;
         trace.push(step)?;
     }
@@ -137,14 +156,14 @@ fn settle(
 }
 
 // A step that may be taken, and the list without the pieces that were found clean; none where no violation is
-// left. The last step drew the pieces behind the first `before`: of these, and of the one before them, those that lie
-// by one another are looked at together.
+// left. Of the pieces that were drawn last, and of the one before them, those that lie by one another are looked at
+// together.
 pub(crate) fn next_step(
     alloc: Global,
     drawing: &Drawing,
     index: &NearIndex,
     fresh: &mut Vec<Segment>,
-    before: usize,
+    round: &mut Round,
 ) -> Result<Option<Step>, NoMemory>
     requires indexed { IsIndexed drawing.now index.now }
     requires keyed { AreKeyed drawing.now }
@@ -156,7 +175,7 @@ pub(crate) fn next_step(
 {
     while let Some(piece) = fresh.as_slice().last().copied() {
         let found = if drawing.key(&piece).is_some() {
-            step_at_group(alloc, drawing, index, &piece, fresh, before)?
+            step_at_group(alloc, drawing, index, &piece, fresh, round)?
         } else {
             step_at_gone(alloc, drawing, index, &piece, fresh)?
         };
@@ -197,9 +216,10 @@ fn step_at_group(
     index: &NearIndex,
     piece: &Segment,
     fresh: &mut Vec<Segment>,
-    before: usize,
+    round: &mut Round,
 ) -> Result<Option<Step>, NoMemory>
     requires last { slice_get fresh.old.items (length fresh.old.items - 1) ≡ Some piece.now }
+    requires piece { IsPiece drawing.now.drawing piece.now }
     requires indexed { IsIndexed drawing.now index.now }
     requires keyed { AreKeyed drawing.now }
     requires valid { AllValid drawing.now.drawing }
@@ -209,24 +229,26 @@ fn step_at_group(
     ensures shorter { IfOk result (λ found.
         IsNone found → length fresh.new.items < length fresh.old.items) }
 {
-    let many = fresh.len().saturating_sub(before).saturating_add(1);
+    let many = fresh.len().saturating_sub(round.before).saturating_add(1);
     let near = box_of_last(fresh.as_slice(), piece, many);
-    if lies_within(piece, &near) {
-        step_alone(alloc, drawing, index, piece, fresh)
+    if round.met > CROWD || lies_within(piece, &near) {
+        step_alone(alloc, drawing, index, piece, fresh, round)
     } else {
-        step_near(alloc, drawing, index, piece, &near, fresh)
+        step_near(alloc, drawing, index, piece, &near, fresh, round)
     }
 }
 
-// The same of the last piece alone, where the box of the group is the one of that piece.
+// The same of the last piece alone.
 fn step_alone(
     alloc: Global,
     drawing: &Drawing,
     index: &NearIndex,
     piece: &Segment,
     fresh: &mut Vec<Segment>,
+    round: &mut Round,
 ) -> Result<Option<Step>, NoMemory>
     requires last { slice_get fresh.old.items (length fresh.old.items - 1) ≡ Some piece.now }
+    requires piece { IsPiece drawing.now.drawing piece.now }
     requires indexed { IsIndexed drawing.now index.now }
     requires keyed { AreKeyed drawing.now }
     requires valid { AllValid drawing.now.drawing }
@@ -237,7 +259,10 @@ fn step_alone(
         IsNone found → length fresh.new.items < length fresh.old.items) }
 {
     let pieces = pieces_met_along(alloc, drawing, index, piece)?;
-    step_at_last(alloc, drawing, pieces.as_slice(), piece, fresh)
+    round.met = pieces.len();
+    let found = violation_of(alloc, drawing, pieces.as_slice(), piece)?;
+    drop_if_clean(drawing, piece, &found, fresh);
+    Ok(found)
 }
 
 // The same of all in the box of `near`, where the last piece lies.
@@ -248,6 +273,7 @@ fn step_near(
     piece: &Segment,
     near: &Segment,
     fresh: &mut Vec<Segment>,
+    round: &mut Round,
 ) -> Result<Option<Step>, NoMemory>
     requires last { slice_get fresh.old.items (length fresh.old.items - 1) ≡ Some piece.now }
     requires within { IsWithin near.now piece.now }
@@ -261,6 +287,7 @@ fn step_near(
         IsNone found → length fresh.new.items < length fresh.old.items) }
 {
     let pieces = pieces_near(alloc, drawing, index, near)?;
+    round.met = pieces.len();
     let found = step_at_last(alloc, drawing, pieces.as_slice(), piece, fresh)?;
     if found.is_some() {
         return Ok(found);

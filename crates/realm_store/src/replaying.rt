@@ -18,15 +18,15 @@ pub(crate) fn replay_one<R: Threads + Sync>(
     rt: &R,
     alloc: Global,
     engine: &mut Engine,
-    record: &Record,
+    one: &Record,
 ) -> Result<bool, NoMemory>
     requires ready { engine.old.spent ≡ false }
-    ensures { IfOk result (λ leads. Remade engine.old.state record.now leads engine.new) }
+    ensures { IfOk result (λ leads. Remade engine.old.state one.now leads engine.new) }
 {
-    if record.number != engine.changes() + 1 {
+    if one.number != engine.changes() + 1 {
         return Ok(false);
     }
-    match replay_entries(rt, alloc, engine, record.entries.entries())? {
+    match replay_entries(rt, alloc, engine, one.entries.entries())? {
         None => Ok(true),
         Some(_) => Ok(false),
     }

@@ -8,11 +8,11 @@ pub returns-in-None : goal.returns-in-None
 returns-in-None g c =
     let made = subst (λ l. RemadeOnBy c.args.engine.now.state l c.in_ok-replay_entries.field-0 c.replay_entries.new.engine) c.entries.ensures.entries
     c.in_ok-replay_entries.ensures in
-    remade_led (c.if-record-changes.false ∙ ap (λ n. n + 1) c.changes.ensures.changes) made c.in-None.is
+    remade_led (c.if-one-changes.false ∙ ap (λ n. n + 1) c.changes.ensures.changes) made c.in-None.is
 
 -- or one of them leads nowhere
 pub returns-in-Some : goal.returns-in-Some
 returns-in-Some g c =
     let made = subst (λ l. RemadeOnBy c.args.engine.now.state l c.in_ok-replay_entries.field-0 c.replay_entries.new.engine) c.entries.ensures.entries
     c.in_ok-replay_entries.ensures in
-    remade_failed (c.if-record-changes.false ∙ ap (λ n. n + 1) c.changes.ensures.changes) made c.in-Some.is
+    remade_failed (c.if-one-changes.false ∙ ap (λ n. n + 1) c.changes.ensures.changes) made c.in-Some.is
