@@ -1,26 +1,23 @@
 -- This file shows how counts change with a value, whose parts name each key at most once.
 use Rattle.std.proofs.Common.{◌≡◌, ℕ, ◌+◌, ◌<◌, ◌≤◌, ◌^◌, Bool, true, false, cond, refl, ap, ◌∙◌, arith}
-use Rattle.std.proofs.Common.{List, [], ◌∷◌, ◌++◌, All, AllPairs, suc, nat_eq, String, Some, count_by}
+use Rattle.std.proofs.Common.{List, [], ◌∷◌, All, AllPairs, suc, nat_eq, Some, count_by}
 use Rattle.std.specs.List.{list_any}
 use Rattle.std.specs.Cmp.{IsTotalOrder}
 use Rattle.std.specs.declared.cmp.Ordering.{Ordering}
 use Rattle.std.proofs.lemmas.List.Elements.{All-head, All-tail}
-use Rattle.std.proofs.lemmas.List.{map-append}
 use Rattle.std.proofs.lemmas.List.Sums.{sum_by-cons}
-use Rattle.std.specs.Map.{lookup, values_of, remove_entry}
+use Rattle.std.specs.Map.{values_of, remove_entry}
+use Rattle.std.specs.Str.{bytes_eq}
 use Rattle.std.specs.Ordering.{nat_cmp, eq_by_cmp}
 use Rattle.std.proofs.lemmas.Cmp.{eq_by_cmp_equiv, nat_cmp_total}
 use Rattle.std.proofs.lemmas.Bool.Decides.{nat_tests}
-use Rattle.std.proofs.lemmas.List.Sums.{sum_by_push}
 use Rattle.std.proofs.lemmas.Map.Entries.{sum_by-remove_entry}
 use Rattle.grid_base.specs.Point.{GridPoint, IsBefore, is_point, point_cmp}
 use Rattle.grid_base.proofs.Orders.{point_cmp-total}
 use Rattle.value_table.specs.declared.value.Value.{Value}
 use Rattle.value_table.specs.Value.{ids_among, points_among, names_id, names_point}
-use Rattle.value_table.specs.Table.{NamedValues}
-use Rattle.value_table.specs.Kept.{seen_of}
+use Rattle.value_table.specs.Table.{NamedValues, value_named}
 use Rattle.value_table.specs.Users.{times_among}
-use Rattle.value_table.proofs.Tables.{values-seen}
 
 module _ {K : Type 0} {cmp : K → K → Ordering} (total : IsTotalOrder cmp) (B : K → K → Type 0)
     (tells : (x y : K) → B x y → eq_by_cmp cmp x y ≡ false) where
@@ -98,21 +95,12 @@ point_times v points are ascending p =
     ∙ ap (λ b. cond b 1 0) (any_same (eq_by_cmp point_cmp p) (is_point p) (point_ties p) points)
     ∙ ap (λ xs. cond (list_any (is_point p) xs) 1 0) are
 
--- one more value
-pub count_push : (passes : Value → Bool) (table : NamedValues) (name : List ℕ) (v : Value)
-    → count_by passes (values_of (table ++ (name, v) ∷ [])) ≡ count_by passes (values_of table) + cond (passes v) 1 0
-count_push passes table name v =
-    ap (count_by passes) (map-append (λ e. e.1) table ((name, v) ∷ []))
-    ∙ sum_by_push (λ w. cond (passes w) 1 0) (values_of table) v
-
 -- one value fewer
-pub count_removed : {Y : Type 0} (passes : Value → Bool) (test : String Y → Bool) (es : List (String Y × Value)) (v : Value)
-    → lookup test es ≡ Some v
-    → count_by passes (values_of (seen_of (remove_entry test es))) + cond (passes v) 1 0
-    ≡ count_by passes (values_of (seen_of es))
-count_removed passes test es v there =
-    let removed = sum_by-remove_entry (λ w. cond (passes w) 1 0) test es in
-    rw (values-seen (remove_entry test es), values-seen es) (rw there at removed)
+pub count_removed : (passes : Value → Bool) (name : List ℕ) (table : NamedValues) (v : Value) → value_named name table ≡ Some v
+    → count_by passes (values_of (remove_entry (bytes_eq name) table)) + cond (passes v) 1 0
+    ≡ count_by passes (values_of table)
+count_removed passes name table v there =
+    rw there at (sum_by-remove_entry (λ w. cond (passes w) 1 0) (bytes_eq name) table)
 
 -- one use at most still fits
 pub fits_once : (uses times : ℕ) → uses + 1 < 2 ^ 64 → times ≤ 1 → uses + times < 2 ^ 64

@@ -2,9 +2,11 @@
 //! Only `define` and `copied` take memory.
 #![tactic(auto)]
 
+mod definitions;
 mod table;
 mod users;
 mod value;
 
+pub use definitions::Definition;
 pub use table::{Table, TableError};
 pub use value::{IdList, Parts, Value};

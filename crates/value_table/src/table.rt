@@ -1,22 +1,18 @@
-//! Values by name, in the order in which they were defined. Room for a name is made before its uses are
-//! counted, so want of memory leaves nothing to undo but counts.
+//! Values by name, in the order in which they were defined, with counts of the uses of ids and points.
 ghost use Rattle.std.specs.Prelude.{◌≡◌, ◌↔◌, ◌++◌, ◌∷◌, [], Err, IsTrue, IfOk, OnOk, OnErr};
-ghost use Rattle.std.specs.Prelude.{length, slice_get};
+ghost use Rattle.std.specs.Prelude.{length};
+ghost use Rattle.std.specs.Map.Iter.{ShowsInOrder, deref};
 ghost use Rattle.std.specs.Option.{option_copied};
-ghost use Rattle.std.specs.Map.{keys_of};
-ghost use Rattle.std.specs.HashMap.{IsUnique};
-ghost use Rattle.std.specs.String.{string_eq};
-ghost use Rattle.value_table.specs.Kept.{seen_of};
 ghost use Rattle.value_table.specs.Table.{value_named, IsNamed, without, HasDistinctNames};
 ghost use Rattle.value_table.specs.Table.{users_of, users_of_point};
 
+use crate::definitions::{Definition, Definitions};
 use crate::users;
 use crate::value::Value;
 use grid_base::{NoMemory, Point};
-use indexmap::IndexMap;
 use std::alloc::Global;
 use std::collections::BTreeMap;
-use std::hash::{BuildHasherDefault, DefaultHasher};
+use std::collections::btree_map::Values;
 use std::marker::Model;
 use thiserror::Error;
 
@@ -31,17 +27,13 @@ pub enum TableError {
     NoMemory,
 }
 
-// The hash is SipHash: of the faster one that maps have by default, names that collide can be worked out.
-type Values = IndexMap<String, Value, BuildHasherDefault<DefaultHasher>>;
-
 /// Values by name, in the order in which they were defined. Contracts see the list of names with
 /// their values.
 #[derive(Drop)]
 pub struct Table {
-    values: Values,
+    definitions: Definitions,
     ids: BTreeMap<u32, u64>,
     points: BTreeMap<Point, u64>,
-    alloc: Global,
 }
 
 impl Model for Table {
@@ -49,11 +41,11 @@ impl Model for Table {
 
     ghost Value = { NamedValues };
 
-    ghost use Rattle.value_table.specs.Kept.{seen_of, CountsUses};
+    ghost use Rattle.value_table.specs.Kept.{CountsUses};
 
-    ghost view = { λ t. seen_of t.values.entries };
+    ghost view = { λ t. t.definitions };
 
-    ghost invariant = { λ t. CountsUses t.values t.ids t.points };
+    ghost invariant = { λ t. CountsUses t.definitions t.ids t.points };
 }
 
 impl Table {
@@ -62,10 +54,9 @@ impl Table {
         ensures { result ≡ [] }
     {
         Table {
-            values: IndexMap::with_hasher(alloc, BuildHasherDefault::new()),
+            definitions: Definitions::new(alloc),
             ids: BTreeMap::new(alloc),
             points: BTreeMap::new(alloc),
-            alloc,
         }
     }
 
@@ -74,10 +65,9 @@ impl Table {
         ensures same { IfOk result (λ copy. copy ≡ self.now) }
     {
         Ok(Table {
-            values: copied_values(self.alloc, &self.values)?,
+            definitions: self.definitions.copied()?,
             ids: self.ids.clone()?,
             points: self.points.clone()?,
-            alloc: self.alloc,
         })
     }
 
@@ -100,7 +90,7 @@ impl Table {
     fn has(&self, name: &str) -> bool
         ensures { IsTrue result ↔ IsNamed name.now self.now }
     {
-        self.values.contains_key(name)
+        self.definitions.get(name).is_some()
     }
 
     // Gives a name that isn't there to `v`, after all others.
@@ -109,14 +99,15 @@ impl Table {
         ensures ok { OnOk result (self.new ≡ self.old ++ (name.now, v) ∷ []) }
         ensures unchanged { OnErr result (self.new ≡ self.old) }
     {
-        let name = String::from_str(self.alloc, name)?;
-        self.values.reserve(1)?;
-        // The length of a map is below 2^63, so each count is.
-        let _ = self.values.len();
+        // There are fewer than 2^63 definitions, so each count is.
+        let _ = self.definitions.len();
         users::note(&mut self.ids, &mut self.points, &v)?;
-        match self.values.insert(name, v) {
-            Ok(_) => Ok(()),
-            Err(_) => unreachable!(),
+        match self.definitions.put(name, v) {
+            Ok(()) => Ok(()),
+            Err(v) => {
+                users::forget(&mut self.ids, &mut self.points, v);
+                Err(NoMemory)
+            }
         }
     }
 
@@ -125,7 +116,7 @@ impl Table {
         ensures found { IsTrue result ↔ IsNamed name.now self.old }
         ensures others { self.new ≡ without name.now self.old }
     {
-        match self.values.shift_remove(name) {
+        match self.definitions.take(name) {
             Some(v) => {
                 users::forget(&mut self.ids, &mut self.points, v);
                 true
@@ -139,24 +130,22 @@ impl Table {
         ensures len { result ≡ length self.now }
         ensures distinct { HasDistinctNames self.now }
     {
-        self.values.len()
+        self.definitions.len()
     }
 
-    /// Of the names, in the order of definition, the one behind `k` others; none past the last.
-    pub fn name_at(&self, k: usize) -> Option<&str>
-        ensures { option_copied result ≡ slice_get (keys_of self.now) k }
+    /// The names with their values, in the order of definition.
+    pub fn definitions(&self) -> Values<'_, u64, Definition>
+        ensures definitions { result ≡ self.now }
+        ensures runs { ShowsInOrder (deref {X = Definition}) }
     {
-        match self.values.get_index(k) {
-            Some((name, _)) => Some(name.as_str()),
-            None => None,
-        }
+        self.definitions.all()
     }
 
     /// The value with this name.
     pub fn get(&self, name: &str) -> Option<&Value>
         ensures { option_copied result ≡ value_named name.now self.now }
     {
-        self.values.get(name)
+        self.definitions.get(name)
     }
 
     /// How many values name the id among their parts.
@@ -172,23 +161,4 @@ impl Table {
     {
         users::count_of(&self.points, p)
     }
-}
-
-// The same names with the same values, in their order.
-fn copied_values(alloc: Global, values: &Values) -> Result<Values, NoMemory>
-    requires distinct { IsUnique string_eq values.now }
-    ensures same { IfOk result (λ copy. seen_of copy.entries ≡ seen_of values.now.entries) }
-    ensures distinct { IfOk result (IsUnique string_eq) }
-{
-    let count = values.len();
-    let mut copy = IndexMap::with_capacity_and_hasher(alloc, count, BuildHasherDefault::new())?;
-    for k in 0..count {
-        let Some((name, value)) = values.get_index(k) else {
-            unreachable!()
-        };
-        let name = String::from_str(alloc, name.as_str())?;
-        let value = value.copied(alloc)?;
-        copy.insert(name, value)?;
-    }
-    Ok(copy)
 }
