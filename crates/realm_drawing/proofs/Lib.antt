@@ -4,6 +4,8 @@ pub mod StraightPieces
 pub mod Additions
 -- originals in a map by id
 pub mod ById
+-- walks along originals by their ids
+pub mod ChainWalks
 -- copies of originals and of points
 pub mod Copies
 -- a search along the chains of a map of originals

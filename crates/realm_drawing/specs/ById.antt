@@ -9,6 +9,10 @@ use Rattle.realm_drawing.specs.declared.originals.Placed.{Placed}
 abbrev pub original_of : ℕ × Placed → Original
 original_of e = record { id = e.0; a = e.1.line.a; b = e.1.line.b; chain = e.1.chain }
 
+-- the id and the chain that is placed with it
+abbrev pub chain_of : ℕ × Placed → ℕ × List GridPoint
+chain_of e = (e.0, e.1.chain)
+
 -- the originals, in the order of the map
 abbrev pub listed : BTreeMap ℕ Placed → List Original
 listed m = map original_of m.entries

@@ -4,6 +4,8 @@ pub mod ById
 pub mod Kept
 -- drawings with the keys of their pieces
 pub mod Keyed
+-- walks along originals by their ids
+pub mod Walks
 -- the new chains of a step, for this crate's own proofs
 pub mod Redraws
 -- shares of pieces, and registries with more and with fewer of them, for this crate's own proofs

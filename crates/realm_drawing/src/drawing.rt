@@ -13,6 +13,7 @@ ghost use Rattle.hook_chain.specs.Ids.{IsAscending, LacksId, IsChainOf};
 ghost use Rattle.hook_chain.specs.StandingChains.{IsSomeChain, AllStand};
 ghost use Rattle.realm_drawing.specs.Keyed.{empty_drawing, HasKey, KeepsKeys, AreKeyed};
 ghost use Rattle.realm_drawing.specs.Keyed.{AddsPoint, TakesPoint};
+ghost use Rattle.realm_drawing.specs.Walks.{chains_from};
 ghost use Rattle.hook_chain.specs.Mending.{IsPermitted, IsMending, HasParts};
 ghost use Rattle.realm_drawing.specs.Draws.{DrawsAnew};
 ghost use Rattle.hook_chain.specs.Changed.{PlacesChain, with_chain, without_id};
@@ -27,6 +28,7 @@ use crate::originals::{Originals, copied};
 use crate::redrawing::put_paths;
 use crate::shares::{add_shares, chain_shares};
 use crate::violations::first_violation;
+use crate::walks::Chains;
 use chain_laws::{is_mending, original_of, redrawings_of};
 use component_registry::Registry;
 use grid_base::{Chain, NoMemory, Point, Segment, Step};
@@ -282,6 +284,17 @@ impl Drawing {
         ensures rising { IsAscending self.now.drawing.originals }
     {
         self.originals.chain(id)
+    }
+
+    /// The originals with this id or a greater one, by rising id, each as its id and the points that it leads by.
+    /// Takes no memory.
+    pub fn chains_from(&self, id: u32) -> Chains<'_>
+        ensures exact { result ≡ chains_from id self.now.drawing.originals }
+        ensures chain { All (λ c. IsChainOf self.now.drawing c.0 c.1) result }
+        ensures stand { AllStand self.now.drawing }
+        ensures rising { IsAscending self.now.drawing.originals }
+    {
+        self.originals.chains_from(id)
     }
 
     /// The ids of the originals, rising.

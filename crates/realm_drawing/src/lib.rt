@@ -12,7 +12,9 @@ mod passages;
 mod redrawing;
 mod shares;
 mod violations;
+mod walks;
 
 pub use drawing::Drawing;
 pub use errors::{ChainError, StepError};
 pub use keyed::KeyedPiece;
+pub use walks::Chains;

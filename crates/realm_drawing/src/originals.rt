@@ -4,7 +4,9 @@ ghost use Rattle.std.specs.Prelude.{IsNone, IfSome, IfOk, OnOk, OnErr};
 ghost use Rattle.std.specs.Map.Iter.{ShowsInOrder, deref};
 ghost use Rattle.hook_chain.specs.Ids.{LacksId, IsChainAmong};
 ghost use Rattle.realm_drawing.specs.ById.{rechained};
+ghost use Rattle.realm_drawing.specs.Walks.{chains_from};
 
+use crate::walks::Chains;
 use grid_base::{Chain, NoMemory, Point, Segment};
 use std::alloc::Global;
 use std::collections::BTreeMap;
@@ -68,6 +70,13 @@ impl Originals {
             Some(placed) => Some(placed.chain.points()),
             None => None,
         }
+    }
+
+    // The chains of those with this id or a greater one, by rising id.
+    pub(crate) fn chains_from(&self, id: u32) -> Chains<'_>
+        ensures { result ≡ chains_from id self.now }
+    {
+        Chains::new(self.by_id.range(id..))
     }
 
     // What is placed, in the order of the list.

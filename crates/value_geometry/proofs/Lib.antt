@@ -6,6 +6,8 @@ mod ChainLinks
 pub mod PartLinks
 -- the part at a place
 mod ListedParts
+-- what a walk along originals comes by first
+mod WalkedChains
 -- pieces of a realm, and values that are made of them
 pub mod RealmPieces
 -- equal neighbours that cancel each other

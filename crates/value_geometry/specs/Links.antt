@@ -1,10 +1,11 @@
 -- All links of chains in one list. No public clause cites this file.
-use Rattle.std.specs.Prelude.{◌≡◌, ◌<◌, ◌-◌, ℕ, if◌then◌else◌, List, [], ◌∷◌, ◌++◌, All, HoldsAt, length}
+use Rattle.std.specs.Prelude.{◌≡◌, ◌≢◌, ◌<◌, ◌-◌, ⊤, ℕ, if◌then◌else◌, List, [], ◌∷◌, ◌++◌, All, HoldsAt, length}
 use Rattle.std.specs.List.{flat_map}
 use Rattle.grid_base.specs.Point.{GridPoint, is_point}
 use Rattle.grid_base.specs.Segment.{GridSegment, segment_of}
 use Rattle.grid_base.specs.Drawing.{Drawing}
 use Rattle.grid_base.specs.declared.original.Original.{Original}
+use Rattle.hook_chain.specs.Ids.{IsChainOf}
 use Rattle.hook_chain.specs.StandingChains.{HasValidChain}
 use Rattle.value_geometry.specs.Parts.{AreOriginals}
 
@@ -35,6 +36,15 @@ pub record AreLinksOf (d : Drawing) (parts : List Original) (list : List GridSeg
 -- the list has the links of the originals with these ids
 abbrev pub HasLinksOf : Drawing → List ℕ → List GridSegment → Type 0
 HasLinksOf d ids list = (parts : List Original) → AreOriginals d ids parts → AreLinksOf d parts list
+
+-- each chain is that of the original of d with the id beside it
+abbrev pub AreChainsOf : Drawing → List (ℕ × List GridPoint) → Type 0
+AreChainsOf d walk = All (λ c. IsChainOf d c.0 c.1) walk
+
+-- the walk comes by no original next, or by one with another id
+abbrev pub BeginsOtherwise : ℕ → List (ℕ × List GridPoint) → Type 0
+BeginsOtherwise id [] = ⊤
+BeginsOtherwise id (c ∷ walk) = c.0 ≢ id
 
 -- s is the last of the list
 pub record IsLast (list : List GridSegment) (s : GridSegment) : Type 0 where

@@ -1,6 +1,7 @@
 //! Values by name, in the order in which they were defined, with counts of the uses of ids and points.
 ghost use Rattle.std.specs.Prelude.{◌≡◌, ◌↔◌, ◌++◌, ◌∷◌, [], Err, IsTrue, IfOk, OnOk, OnErr};
-ghost use Rattle.std.specs.Prelude.{length};
+ghost use Rattle.std.specs.Prelude.{length, slice_get};
+ghost use Rattle.std.specs.Map.{keys_of};
 ghost use Rattle.std.specs.Map.Iter.{ShowsInOrder, deref};
 ghost use Rattle.std.specs.Option.{option_copied};
 ghost use Rattle.value_table.specs.Table.{value_named, IsNamed, without, HasDistinctNames};
@@ -139,6 +140,17 @@ impl Table {
         ensures runs { ShowsInOrder (deref {X = Definition}) }
     {
         self.definitions.all()
+    }
+
+    /// Of the names, in the order of definition, the one behind `k` others; none past the last. It passes these: to see all,
+    /// go through `definitions`.
+    pub fn name_at(&self, k: usize) -> Option<&str>
+        ensures { option_copied result ≡ slice_get (keys_of self.now) k }
+    {
+        match self.definitions.all().nth(k) {
+            Some(definition) => Some(definition.name()),
+            None => None,
+        }
     }
 
     /// The value with this name.

@@ -11,10 +11,16 @@ loop-id-preserved c =
     let i = c.loop-id.id-index in
     let list = c.loop-id.list.items in
     let within = c.loop-id-test.true in
-    elim c.match-chain.branch [
-      | in-Some+in_ok-add_links w ↦ λ parts are.
-          rw w.list-is
-          (one_part d ids parts are i w.in-Some.chain.now list w.add_links.new.list.items within w.in-Some.ensures.chain
-          w.in-Some.ensures.stand (c.loop-id.invariant parts are) w.in_ok-add_links.ensures)
-      | in_default w ↦ λ parts are. absurd (no_part d ids parts are i within (w.in_default.ensures.none.0 refl))
+    elim c.match-chain_at.branch [
+      | in-Some+in_ok-add_links w ↦ (
+        λ parts are.
+            rw w.list-is
+            (one_part d ids parts are i w.in-Some.chain.now list w.add_links.new.list.items within w.in-Some.ensures.chain
+            c.chains_from-walk.ensures.stand (c.loop-id.invariant.0 parts are) w.in_ok-add_links.ensures),
+        c.chain_at.ensures.chains,
+      )
+      | in_default w ↦ (
+        λ parts are. absurd (no_part d ids parts are i within (w.in_default.ensures.none refl)),
+        c.chain_at.ensures.chains,
+      )
     ]
