@@ -1,5 +1,5 @@
 //! The values of a table, once more in a list with their names.
-ghost use Rattle.std.specs.Prelude.{◌≡◌, ◌<◌, length, slice_get, Some, All, IfOk};
+ghost use Rattle.std.specs.Prelude.{◌≡◌, All, IfOk};
 ghost use Rattle.line_grammar.specs.Spellable.{IsName};
 ghost use Rattle.record_codec.specs.Fitting.{IsList};
 ghost use Rattle.record_codec.specs.Payload.{IsNamed, AreParts, AreOfKind};
@@ -10,7 +10,7 @@ use grid_base::{NoMemory, Reply};
 use record_codec::Named;
 use state_check::kept_value;
 use std::alloc::Global;
-use value_table::Table;
+use value_table::{Definition, Table};
 
 /// The values with their names, in the order of definition.
 pub fn copied_values(alloc: Global, table: &Table) -> Result<Vec<Named>, NoMemory>
@@ -20,30 +20,23 @@ pub fn copied_values(alloc: Global, table: &Table) -> Result<Vec<Named>, NoMemor
     ensures ascend { IfOk result (λ v. All (λ entry. AreAscending entry.1.parts) (entries_of v.items)) }
     ensures distinct { HasDistinctNames table.now }
 {
-    let mut list = Vec::new(alloc);
-    for k in 0..table.len() {
-        let n = copied_value(alloc, table, k)?;
+    let mut list = Vec::with_capacity(alloc, table.len())?;
+    for definition in table.definitions() {
+        let n = copied_value(alloc, definition)?;
         list.push(n)?;
     }
     Ok(list)
 }
 
-// The value at place `k`, with its name.
-fn copied_value(alloc: Global, table: &Table, k: usize) -> Result<Named, NoMemory>
-    requires within { k < length table.now }
-    requires distinct { HasDistinctNames table.now }
-    ensures same { IfOk result (λ n. slice_get table.now k ≡ Some (entry_of n)) }
+// The value with its name.
+fn copied_value(alloc: Global, definition: &Definition) -> Result<Named, NoMemory>
+    ensures same { IfOk result (λ n. entry_of n ≡ definition.now) }
     ensures ascend { IfOk result (λ n. AreAscending (parts_of n.value.parts)) }
     ensures fits { IfOk result (λ n. AreParts n.value.parts) }
 {
-    let Some(name) = table.name_at(k) else {
-        unreachable!()
-    };
-    let Some(value) = table.get(name) else {
-        unreachable!()
-    };
+    let name = definition.name();
     let bytes = Vec::from_slice(alloc, name.as_bytes())?;
-    let value = kept_value(alloc, value)?;
+    let value = kept_value(alloc, definition.value())?;
     Ok(Named {
         name: Reply::new(bytes),
         value,

@@ -1,6 +1,8 @@
+use Rattle.std.proofs.Common.{map}
+use Rattle.std.specs.Map.Iter.{deref}
 use Rattle.state_copies.proofs.NamedValues.{AreNamed}
 use Rattle.state_copies.proofs.values.copied_values.Given as goal
 
 -- the values so far are listed
-abbrev pub invariant-loop-k : goal.invariant-loop-k
-invariant-loop-k l = AreNamed l.k l.table l.list.items
+abbrev pub invariant-loop-definition : goal.invariant-loop-definition
+invariant-loop-definition l = AreNamed (map deref l.yielded) l.list.items
