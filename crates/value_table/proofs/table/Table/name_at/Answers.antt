@@ -6,7 +6,6 @@ use Rattle.std.proofs.lemmas.Iterator.Consumers.{nth_from_yields_List, YieldsLis
 use Rattle.value_table.specs.Table.{NamedValues}
 use Rattle.value_table.proofs.table.Table.name_at.Goals as goal
 
-
 -- the name of the definition at the place
 pub returns-in-Some : goal.returns-in-Some
 returns-in-Some c =
