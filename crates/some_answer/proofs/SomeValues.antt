@@ -1,20 +1,20 @@
 -- This file shows what a change makes of the values, and that no two have one name.
 use Rattle.std.proofs.Common.{◌≡◌, ◌≢◌, ℕ, Bool, true, false, cond, List, [], ◌∷◌, ◌++◌, length, filter, not, All}
-use Rattle.std.proofs.Common.{AllPairs, Option, Some, None}
-use Rattle.std.proofs.Common.{IsSome, refl, sym, ap, subst, ◌∙◌}
+use Rattle.std.proofs.Common.{AllPairs, Contains, refl, sym, ap, subst}
 use Rattle.std.specs.Map.{keys_of}
 use Rattle.std.specs.Str.{bytes_eq}
+use Rattle.std.proofs.lemmas.Cmp.{nat_list_eq_equiv}
 use Rattle.std.proofs.lemmas.List.{map-append}
+use Rattle.std.proofs.lemmas.List.Elements.{Contains-get_or}
 use Rattle.std.proofs.lemmas.List.Kept.{AllPairs-filter}
-use Rattle.std.proofs.lemmas.Option.{slice_get-get_or}
+use Rattle.std.proofs.lemmas.Map.Views.{IsSome-lookup_from_Contains}
 use Rattle.grid_base.specs.declared.kinds.Kind.{Kind}
 use Rattle.grid_base.specs.declared.kinds.Kind.TheVariants as kinds
 use Rattle.line_grammar.specs.declared.command.Change.{Change}
 use Rattle.line_grammar.specs.declared.command.Change.TheVariants.{Points, Lines, Regions, Let, Drop}
-use Rattle.value_table.specs.Table.{NamedValues, IsNamed, value_named, without, HasDistinctNames}
+use Rattle.value_table.specs.Table.{NamedValues, IsNamed, without, HasDistinctNames}
 use Rattle.value_table.specs.declared.value.Value.{Value}
 use Rattle.value_table.specs.declared.value.Parts.TheVariants as parts
-use Rattle.state_copies.proofs.NamedValues.{value_there}
 use Rattle.realm_insert.specs.Changes.{AreValuesAfter, Defines, IsValueOfFigure, ids_from}
 use Rattle.realm_insert.specs.Figures.{Figure}
 use Rattle.realm_insert.specs.Refusals.{DefinesTwice}
@@ -52,12 +52,8 @@ some_values c figure first old = (old, refl)
 -- a new name isn't among the keys
 new_name : (name : List ℕ) (old : NamedValues) → (IsNamed name old → ⊥) → All (λ other. other ≢ name) (keys_of old)
 new_name name old lacks = λ k d within same.
-    value_there old k name (slice_get-get_or (keys_of old) k d within ∙ ap (λ (other : List ℕ). Some other) same)
-    (none_there (value_named name old) lacks)
-  where
-    none_there : (found : Option Value) → (IsSome found → ⊥) → found ≡ None
-    none_there None lacks = refl
-    none_there (Some v) lacks = absurd (lacks refl)
+    let among = subst (Contains (keys_of old)) same (Contains-get_or (keys_of old) k d within) in
+    lacks (IsSome-lookup_from_Contains nat_list_eq_equiv name old among)
 
 one_more_name : (name : List ℕ) (v : Value) (old new : NamedValues) → (IsNamed name old → ⊥) → HasDistinctNames old
     → new ≡ old ++ (name, v) ∷ [] → HasDistinctNames new
