@@ -1,76 +1,93 @@
--- This file shows which points a part can be narrowed to, as another is seen from them.
-use Rattle.std.proofs.Common.{◌≡◌, ◌⊎◌, ℕ, ◌+◌, ◌*◌, ◌<◌, ◌≤◌, Bool, not, List, All}
-use Rattle.std.proofs.Common.{subst, ap, ◌∙◌, inl, inr, ⊎_elim, arith}
-use Rattle.std.proofs.lemmas.List.Elements.{All-contains}
-use Rattle.grid_base.specs.Grid.{grid_side}
-use Rattle.grid_base.specs.Point.{GridPoint, gap, point_at}
-use Rattle.rose_measure.specs.Extremes.{Boxed, boxed, IsInBounds, IsSeen, IsNarrowed}
-use Rattle.rose_measure.specs.Directions.{along, across, IsInSight, IsNear}
+-- This file shows which points a part can be narrowed to, as another is seen from a point between them.
+use Rattle.std.proofs.Common.{◌≡◌, ◌⊎◌, ℕ, ◌-◌, ◌+◌, ◌*◌, ◌≤◌, List, [], ◌∷◌, ◌++◌, All, Contains}
+use Rattle.std.proofs.Common.{sym, subst, ap, ◌∙◌, inl, inr, ⊎_elim}
+use Rattle.std.proofs.lemmas.Grind.{flat_map-append}
+use Rattle.std.proofs.lemmas.List.Elements.{All-contains, Contains-append_left, Contains-append_right, Contains-append_cases}
+use Rattle.grid_base.specs.Point.{GridPoint}
+use Rattle.rose_measure.specs.Numbers.{squared_distance}
+use Rattle.rose_measure.specs.Extremes.{Boxed, boxed, both_ends, at_ends, IsInBounds, IsSeen, IsNarrowed, IsTrimmed}
+use Rattle.rose_measure.specs.Sights.{IsInSight, IsNear, sum_of, twice}
 use Rattle.rose_measure.specs.declared.narrowing.Sight.{Sight}
-use Rattle.rose_measure.proofs.Ways.{IsSpan, in_span, pair_within}
+use Rattle.rose_measure.specs.declared.parts.End.{End}
+use Rattle.rose_measure.specs.declared.parts.End.TheVariants.{Lesser, Greater}
+use Rattle.rose_measure.proofs.Ends.{one_of_both}
+use Rattle.rose_measure.proofs.Opposites.{near_by_middle}
 
--- along the turned direction is across the direction
-across_turned : (steps t : GridPoint) (left t_left down t_down : Bool) → t ≡ point_at steps.y steps.x → t_left ≡ not left → t_down ≡ down
-    → (p : GridPoint) → along t t_left t_down p ≡ across steps left down p
-across_turned steps t left t_left down t_down steps_is left_is down_is p =
-    ap (λ v. along v t_left t_down p) steps_is
-    ∙ ap (λ b. along (point_at steps.y steps.x) b t_down p) left_is
-    ∙ ap (λ b. along (point_at steps.y steps.x) (not left) b p) down_is
-
--- a point that counts is in sight, if its places along the direction and across it are in the spans
-pub seen_in_sight : (sight : Sight) (t : GridPoint) (t_left t_down : Bool) (points : List GridPoint) (low high : GridPoint)
-    → t ≡ point_at sight.way.steps.y sight.way.steps.x → t_left ≡ not sight.way.left → t_down ≡ sight.way.down
-    → (high.x < grid_side) × (high.y < grid_side)
-    → IsSpan sight.way.steps sight.way.left sight.way.down points low high sight.long.first sight.long.last
-    → IsSpan t t_left t_down points low high sight.wide.first sight.wide.last
+-- a point that counts is in sight, if it is no farther from the middle
+pub seen_in_sight : (sight : Sight) (points : List GridPoint) (low high middle : GridPoint) (far : ℕ)
+    → sight.bounds.low ≡ low → sight.bounds.high ≡ high → sight.middle ≡ middle → sight.far ≡ far
+    → All (λ q. IsInBounds low high q → squared_distance q middle ≤ far) points
     → (q : GridPoint) → IsSeen (boxed points low high) q → IsInSight sight q
-seen_in_sight sight t t_left t_down points low high steps_is left_is down_is grid long wide q seen =
-    let way = sight.way in
-    let here = in_span way.steps way.left way.down points low high sight.long.first sight.long.last long q seen in
-    let there : (sight.wide.first ≤ across way.steps way.left way.down q) × (across way.steps way.left way.down q ≤ sight.wide.last) =
-    subst (λ place. (sight.wide.first ≤ place) × (place ≤ sight.wide.last))
-    (across_turned way.steps t way.left t_left way.down t_down steps_is left_is down_is q)
-    (in_span t t_left t_down points low high sight.wide.first sight.wide.last wide q seen) in
-    record {
-      on_grid = (omega (arith, seen.inside.left_of_right_side, grid.0), omega (arith, seen.inside.below_upper_side, grid.1));
-      begun_along = here.0;
-      not_ended_along = here.1;
-      begun_across = there.0;
-      not_ended_across = there.1;
-    }
+seen_in_sight sight points low high middle far low_is high_is middle_is far_is most q seen = record {
+  inside = rw (low_is, high_is) seen.inside;
+  within = rw (middle_is, far_is)
+      (All-contains (λ p. IsInBounds low high p → squared_distance p middle ≤ far) points q most seen.there seen.inside);
+}
 
--- nothing in sight is farther than what was found, if what it reaches along the direction and across it shows it
-pub near_by_reach : (sight : Sight) (t : GridPoint) (t_left t_down : Bool) (p : GridPoint) (place turned_place long wide found : ℕ)
-    → t ≡ point_at sight.way.steps.y sight.way.steps.x → t_left ≡ not sight.way.left → t_down ≡ sight.way.down
-    → p.x < grid_side → p.y < grid_side
-    → place ≡ along sight.way.steps sight.way.left sight.way.down p → turned_place ≡ along t t_left t_down p
-    → ((n : ℕ) → sight.long.first ≤ n → n ≤ sight.long.last → gap place n ≤ long)
-    → ((n : ℕ) → sight.wide.first ≤ n → n ≤ sight.wide.last → gap turned_place n ≤ wide)
-    → 0 < sight.way.steps.x * sight.way.steps.x + sight.way.steps.y * sight.way.steps.y
-    → long * long + wide * wide ≤ found * (sight.way.steps.x * sight.way.steps.x + sight.way.steps.y * sight.way.steps.y)
-    → IsNear sight found p
-near_by_reach sight t t_left t_down p place turned_place long wide found steps_is left_is down_is px py place_is turned_is
-    reach turned_reach some shown q seen =
-    let way = sight.way in
-    let here = reach _ seen.begun_along seen.not_ended_along in
-    let there = turned_reach _ seen.begun_across seen.not_ended_across in
-    let turned_here : turned_place ≡ across way.steps way.left way.down p =
-    turned_is ∙ across_turned way.steps t way.left t_left way.down t_down steps_is left_is down_is p in
-    pair_within way.steps way.left way.down found long wide p q px py seen.on_grid.0 seen.on_grid.1
-    (subst (λ z. gap z (along way.steps way.left way.down q) ≤ long) place_is here)
-    (subst (λ z. gap z (across way.steps way.left way.down q) ≤ wide) turned_here there)
-    some shown
+-- nothing in sight is farther than what was found, if how far it is from the middle and how far off opposite shows it
+pub near_in_sight : (sight : Sight) (p : GridPoint) (near off found : ℕ) → near ≡ squared_distance p sight.middle
+    → ((q : GridPoint) → IsInBounds sight.bounds.low sight.bounds.high q → off ≤ squared_distance (sum_of p q) (twice sight.middle))
+    → 2 * (near + sight.far) - off ≤ found → IsNear sight found p
+near_in_sight sight p near off found here least shown q seen =
+    near_by_middle p q sight.middle near sight.far off found here seen.within (least q seen.inside) shown
 
--- a part whose box has each point that counts, unless nothing in sight is farther from it than what was found
-pub narrowed_by_sight : (points : List GridPoint) (low high narrow_low narrow_high : GridPoint) (second : Boxed) (sight : Sight) (found : ℕ)
-    → ((q : GridPoint) → IsSeen second q → IsInSight sight q)
+-- ---- elements before the first that has an end in the box, and behind the last
+-- trimmed once more
+pub trimmed_further : (low high : GridPoint) (points rest last : List GridPoint) → IsTrimmed low high points rest
+    → IsTrimmed low high rest last → IsTrimmed low high points last
+trimmed_further low high points rest last one two = record {
+  kept = λ p there inside. two.kept p (one.kept p there inside) inside;
+  of_points = λ p there. one.of_points p (two.of_points p there);
+}
+
+-- neither end of the element is in the box
+none_of_both : {X : Type 0} (place : End → X → GridPoint) (low high : GridPoint) (item : X) (p : GridPoint)
+    → (IsInBounds low high (place Lesser item) ⊎ IsInBounds low high (place Greater item) → ⊥)
+    → Contains (both_ends place item) p → IsInBounds low high p → ⊥
+none_of_both place low high item p none there inside = elim (one_of_both place item p there) [
+  | inl lesser ↦ none (inl (subst (IsInBounds low high) (sym lesser) inside))
+  | inr greater ↦ none (inr (subst (IsInBounds low high) (sym greater) inside))
+]
+
+-- the first element may go
+pub first_trimmed : {X : Type 0} (place : End → X → GridPoint) (low high : GridPoint) (list rest : List X) (item : X)
+    → list ≡ item ∷ rest → (IsInBounds low high (place Lesser item) ⊎ IsInBounds low high (place Greater item) → ⊥)
+    → IsTrimmed low high (at_ends place list) (at_ends place rest)
+first_trimmed place low high list rest item is none = rw is (record {
+  kept = λ p there inside. elim (Contains-append_cases (both_ends place item) (at_ends place rest) p there) [
+    | inl first ↦ absurd (none_of_both place low high item p none first inside)
+    | inr later ↦ later
+  ];
+  of_points = λ p there. Contains-append_right (both_ends place item) (at_ends place rest) p there;
+})
+
+-- the last element may go
+pub last_trimmed : {X : Type 0} (place : End → X → GridPoint) (low high : GridPoint) (list rest : List X) (item : X)
+    → list ≡ rest ++ item ∷ [] → (IsInBounds low high (place Lesser item) ⊎ IsInBounds low high (place Greater item) → ⊥)
+    → IsTrimmed low high (at_ends place list) (at_ends place rest)
+last_trimmed place low high list rest item is none =
+    let points : at_ends place list ≡ at_ends place rest ++ both_ends place item =
+    ap (at_ends place) is ∙ flat_map-append (both_ends place) rest (item ∷ []) in
+    rw points (record {
+      kept = λ p there inside. elim (Contains-append_cases (at_ends place rest) (both_ends place item) p there) [
+        | inl before ↦ before
+        | inr last ↦ absurd (none_of_both place low high item p none last inside)
+      ];
+      of_points = λ p there. Contains-append_left (at_ends place rest) (both_ends place item) p there;
+    })
+
+-- a part whose box has each point that counts, unless nothing in sight is farther from it than what was found, and whose list has
+-- each of those points
+pub narrowed_by_sight : (points rest : List GridPoint) (low high narrow_low narrow_high : GridPoint) (second : Boxed) (sight : Sight)
+    (found : ℕ) → ((q : GridPoint) → IsSeen second q → IsInSight sight q)
     → All (λ p. IsInBounds low high p → IsInBounds narrow_low narrow_high p ⊎ IsNear sight found p) points
-    → IsNarrowed (boxed points low high) second (boxed points narrow_low narrow_high) found
-narrowed_by_sight points low high narrow_low narrow_high second sight found has far = record {
+    → IsTrimmed narrow_low narrow_high points rest
+    → IsNarrowed (boxed points low high) second (boxed rest narrow_low narrow_high) found
+narrowed_by_sight points rest low high narrow_low narrow_high second sight found has far trimmed = record {
   left_out = λ p seen. ⊎_elim
-      (λ inside. inl (record { there = seen.there; inside = inside }))
+      (λ inside. inl (record { there = trimmed.kept p seen.there inside; inside = inside }))
       (λ near. inr (λ q q_seen. near q (has q q_seen)))
       (All-contains (λ p. IsInBounds low high p → IsInBounds narrow_low narrow_high p ⊎ IsNear sight found p) points p far
       seen.there seen.inside);
-  of_whole = λ p there. there;
+  of_whole = trimmed.of_points;
 }

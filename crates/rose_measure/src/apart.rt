@@ -1,6 +1,6 @@
 //! How near and how far two points can lie, and how near and how far all points of two boxes.
 ghost use Rattle.std.specs.Prelude.{◌≡◌, ℕ, ◌+◌, ◌*◌, ◌<◌, ◌≤◌};
-ghost use Rattle.grid_base.specs.Grid.{grid_side, product_bound};
+ghost use Rattle.grid_base.specs.Grid.{grid_side, product_bound, side_bound};
 ghost use Rattle.grid_base.specs.Point.{GridPoint, gap};
 ghost use Rattle.rose_measure.specs.Numbers.{squared_distance};
 ghost use Rattle.rose_measure.specs.Extremes.{IsInBounds};
@@ -10,7 +10,8 @@ use grid_base::Point;
 
 // The squared distance of two points.
 pub(crate) fn squared(p: &Point, q: &Point) -> u64
-    ensures { result ≡ squared_distance p.now q.now }
+    ensures distance { result ≡ squared_distance p.now q.now }
+    ensures below { result < side_bound }
 {
     squared_gap(p.x(), q.x()) + squared_gap(p.y(), q.y())
 }

@@ -1,36 +1,30 @@
 //! Parts along a direction. A box round points on a slanting line is much wider than the line, so boxes alone
-//! don't show how far two such lines are apart; a direction from one to the other, and the one across it, do.
-ghost use Rattle.std.specs.Prelude.{◌≡◌, ℕ, ◌+◌, ◌*◌, ◌<◌, ◌≤◌, ◌^◌, All, IsTrue, map, not};
+//! don't show how far two such lines are apart; a direction from one to the other does.
+ghost use Rattle.std.specs.Prelude.{◌≡◌, ◌+◌, ◌*◌, ◌<◌, ◌≤◌, All, IsTrue};
 ghost use Rattle.grid_base.specs.Grid.{grid_side, product_bound, side_bound};
-ghost use Rattle.grid_base.specs.Point.{GridPoint, point_at};
+ghost use Rattle.grid_base.specs.Point.{GridPoint};
 ghost use Rattle.rose_measure.specs.Numbers.{squared_distance};
-ghost use Rattle.rose_measure.specs.Extremes.{boxed, IsInBounds, IsSeen};
+ghost use Rattle.rose_measure.specs.Extremes.{at_ends, boxed, itself, IsInBounds, IsSeen};
 ghost use Rattle.rose_measure.specs.Directions.{along, counted};
 
 use crate::apart::least_apart;
-use crate::parts::{Bounds, Part, Placed};
+use crate::parts::{Bounds, Part};
 use grid_base::{GRID_SIDE, Point};
 
 // A direction: so many columns and rows, and whether it goes to the left and down.
 #[derive(Clone, Copy)]
-pub(crate) struct Direction {
-    pub(crate) steps: Point,
-    pub(crate) left: bool,
-    pub(crate) down: bool,
+struct Direction {
+    steps: Point,
+    left: bool,
+    down: bool,
 }
 
 // Whether the two parts lie no nearer than what was found, as seen along the way from one box to the other.
 // It isn't looked at where the boxes are much nearer.
-pub(crate) fn lies_apart<'a, T: Placed>(
-    first: &Part<'a, T>,
-    second: &Part<'a, T>,
-    found: u64,
-) -> bool
+pub(crate) fn lies_apart<'a>(first: &Part<'a, Point>, second: &Part<'a, Point>, found: u64) -> bool
     ensures { IsTrue result → (p q : GridPoint)
-        → IsSeen (boxed (map (T.place_at first.now.end) first.now.list.now)
-        first.now.bounds.low first.now.bounds.high) p
-        → IsSeen (boxed (map (T.place_at second.now.end) second.now.list.now)
-        second.now.bounds.low second.now.bounds.high) q
+        → IsSeen (boxed (at_ends itself first.now.list.now) first.now.bounds.low first.now.bounds.high) p
+        → IsSeen (boxed (at_ends itself second.now.list.now) second.now.bounds.low second.now.bounds.high) q
         → found ≤ squared_distance p q }
 {
     if least_apart(&first.bounds, &second.bounds) < found / 4 {
@@ -53,19 +47,16 @@ fn is_gap(steps: &Point, gap: u64, found: u64) -> bool
 }
 
 // The square of how long the steps are.
-pub(crate) fn length_squared(steps: &Point) -> u64
+fn length_squared(steps: &Point) -> u64
     ensures square { result ≡ steps.now.x * steps.now.x + steps.now.y * steps.now.y }
     ensures below { result < side_bound }
 {
     times(steps.x(), steps.x()) + times(steps.y(), steps.y())
 }
 
-// The direction from the middle of one box to the middle of the other. Both boxes are on the grid.
-pub(crate) fn way_between(first: &Bounds, second: &Bounds) -> Direction
-    ensures on_grid { (first.now.high.x < grid_side) × (first.now.high.y < grid_side) }
-    ensures both { (second.now.high.x < grid_side) × (second.now.high.y < grid_side) }
-{
-    let (p, q) = (middle(first), middle(second));
+// The direction from the middle of one box to the middle of the other.
+fn way_between(first: &Bounds, second: &Bounds) -> Direction {
+    let (p, q) = (first.middle(), second.middle());
     Direction {
         steps: Point::at(q.x().abs_diff(p.x()), q.y().abs_diff(p.y())),
         left: q.x() < p.x(),
@@ -73,49 +64,27 @@ pub(crate) fn way_between(first: &Bounds, second: &Bounds) -> Direction
     }
 }
 
-// The direction across it, to its right or to its left.
-pub(crate) fn across(way: &Direction) -> Direction
-    ensures steps { result.steps ≡ point_at way.now.steps.y way.now.steps.x }
-    ensures left { result.left ≡ not way.now.left }
-    ensures down { result.down ≡ way.now.down }
-{
-    Direction {
-        steps: Point::at(way.steps.y(), way.steps.x()),
-        left: !way.left,
-        down: way.down,
-    }
-}
-
-// The middle of a box.
-fn middle(bounds: &Bounds) -> Point
-    ensures on_grid { (bounds.now.high.x < grid_side) × (bounds.now.high.y < grid_side) }
-{
-    let (low, high) = (bounds.low, bounds.high);
-    Point::at(low.x() / 2 + high.x() / 2, low.y() / 2 + high.y() / 2)
-}
-
 // Where points along a direction begin, and where they end.
 #[derive(Clone, Copy)]
-pub(crate) struct Span {
-    pub(crate) first: u64,
-    pub(crate) last: u64,
+struct Span {
+    first: u64,
+    last: u64,
 }
 
 // Where the points of the part begin along the direction, and where they end; all is behind its beginning
 // where none counts.
-pub(crate) fn span_along<T: Placed>(part: &Part<'_, T>, way: &Direction) -> Span
+fn span_along(part: &Part<'_, Point>, way: &Direction) -> Span
     ensures has { All (λ p. IsInBounds part.now.bounds.low part.now.bounds.high p
         → (result.first ≤ along way.now.steps way.now.left way.now.down p)
-        × (along way.now.steps way.now.left way.now.down p ≤ result.last))
-        (map (T.place_at part.now.end) part.now.list.now) }
+        × (along way.now.steps way.now.left way.now.down p ≤ result.last)) part.now.list.now }
     ensures below { (result.first < side_bound) × (result.last < side_bound) }
 {
     let mut span = Span {
         first: FARTHEST,
         last: 0,
     };
-    for item in part.list {
-        span = stretched(&span, way, &part.bounds, &item.place(part.end));
+    for p in part.list {
+        span = stretched(&span, way, &part.bounds, p);
     }
     span
 }
@@ -142,10 +111,9 @@ fn stretched(span: &Span, way: &Direction, bounds: &Bounds, p: &Point) -> Span
 // No point is farther along a direction.
 const FARTHEST: u64 = 2 * (GRID_SIDE as u64) * (GRID_SIDE as u64) - 1;
 
-// How far along the direction the point is, which is on the grid.
-pub(crate) fn place_along(way: &Direction, p: &Point) -> u64
+// How far along the direction the point is.
+fn place_along(way: &Direction, p: &Point) -> u64
     ensures along { result ≡ along way.now.steps way.now.left way.now.down p.now }
-    ensures on_grid { (p.now.x < grid_side) × (p.now.y < grid_side) }
     ensures below { result < side_bound }
 {
     times(way.steps.x(), count(way.left, p.x())) + times(way.steps.y(), count(way.down, p.y()))

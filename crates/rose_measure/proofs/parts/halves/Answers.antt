@@ -8,6 +8,5 @@ pub returns-clause-halves : goal.returns-clause-halves
 returns-clause-halves g c =
     let some = c.part_within-some.ensures in
     let rest = c.part_within-rest.ensures in
-    halves_by_places g.T.Placed.place_at _ _ _ _ _ _ _ _ _ _ _ _ _ _ (sym (take-append-drop _ _))
-    (some.list ∙ c.split_at.ensures.front) some.end (rest.list ∙ c.split_at.ensures.back) rest.end
-    some.inside rest.inside
+    halves_by_places g.T.Placed.place_at _ _ _ _ _ _ _ _ _ _ _ (sym (take-append-drop _ _))
+    (some.list ∙ c.split_at.ensures.front) (rest.list ∙ c.split_at.ensures.back) some.inside rest.inside

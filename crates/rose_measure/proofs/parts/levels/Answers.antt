@@ -6,5 +6,5 @@ pub returns-clause-halves : goal.returns-clause-halves
 returns-clause-halves g c =
     let some = c.part_within-some.ensures in
     let rest = c.part_within-rest.ensures in
-    halves_by_rows g.T.Placed.place_at _ _ _ _ _ _ _ _ _ _ _ _ _ _ _ _ _ c.up_to.ensures.low c.up_to.ensures.high c.from.ensures.low
-    c.from.ensures.high some.list some.end rest.list rest.end some.inside rest.inside
+    halves_by_rows g.T.Placed.place_at _ _ _ _ _ _ _ _ _ _ _ _ _ _ c.up_to.ensures.low c.up_to.ensures.high c.from.ensures.low
+    c.from.ensures.high some.list rest.list some.inside rest.inside
