@@ -6,7 +6,7 @@ from functools import reduce
 import growth
 import segments
 
-MANY = 15
+MANY = 31
 WHOLE = 30
 
 
@@ -66,7 +66,7 @@ def differing(one, other):
 
 
 class Clusters:
-    """A `NearIndex`: a list of more boxes than fifteen is cut into quarters by their centres, and a search goes down where a cover
+    """A `NearIndex`: a list of more boxes than 31 is cut into quarters by their centres, and a search goes down where a cover
     meets it."""
 
     def __init__(self, level=WHOLE, middle=(0, 0)):

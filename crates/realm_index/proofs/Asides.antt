@@ -6,7 +6,7 @@ use Rattle.grid_base.specs.Segment.{GridSegment}
 use Rattle.grid_base.specs.Sides.{Side, Left, On, Right, side}
 use Rattle.grid_base.proofs.Turns.{leftward, rightward, times_le, left_is, left_by, right_is, right_by}
 use Rattle.realm_index.specs.Aside.{IsAside, is_left, is_right, rightmost, leftmost, is_aside}
-use Rattle.realm_index.specs.Bounds.{Bounds, bounds_of, bounds_at, meets}
+use Rattle.realm_index.specs.Bounds.{Bounds, bounds_of, bounds_at}
 use Rattle.realm_index.specs.Cluster.{covers}
 
 -- ---- points farther to the left of a line
@@ -178,34 +178,3 @@ leftmost_inside s t = (
 pub aside_from : (s t : GridSegment) → IsAside s t → IsTrue (is_aside s (bounds_of t))
 aside_from s t (inl left) = aside_by_left s (bounds_of t) (left (rightmost s (bounds_of t)) (rightmost_inside s t))
 aside_from s t (inr right) = aside_by_right s (bounds_of t) (right (leftmost s (bounds_of t)) (leftmost_inside s t))
-
--- ---- boxes with an end of the segment
--- the box reaches as far as a point that it meets
-reaches_met : (b : Bounds) (p : GridPoint) → IsTrue (meets b (bounds_at p)) → Reaches b (bounds_at p)
-reaches_met b p h =
-    let h1 = and_parts _ _ h in
-    let h2 = and_parts _ _ h1.1 in
-    let h3 = and_parts _ _ h2.1 in
-    record { left = leb-true _ _ h1.0; right = leb-true _ _ h2.0; low = leb-true _ _ h3.0; high = leb-true _ _ h3.1 }
-
--- an end of a segment isn't off its line
-end_not_left : (s : GridSegment) → side s.a s.b s.a ≡ Left → ⊥
-end_not_left s left = let above = left_is s.a s.b s.a left in omega (arith, above)
-
-end_not_right : (s : GridSegment) → side s.a s.b s.a ≡ Right → ⊥
-end_not_right s right = let below = right_is s.a s.b s.a right in omega (arith, below)
-
-never_true : (x : Bool) → (IsTrue x → ⊥) → x ≡ false
-never_true true none = absurd (none refl)
-never_true false none = refl
-
--- a box with the lesser end doesn't lie off the line
-pub open_by_end : (s : GridSegment) (b : Bounds) → IsBefore s.a s.b → IsTrue (meets b (bounds_at s.a)) → is_aside s b ≡ false
-open_by_end s b before has =
-    let r = reaches_met b s.a has in
-    never_true (is_aside s b) (λ aside. elim (aside_cases s b aside) [
-      | inl left ↦ end_not_left s (subst (λ (q : GridPoint). side s.a s.b q ≡ Left) (point_both_ways (nat_le s.a.y s.b.y) s.a)
-          (left_within s b (bounds_at s.a) before r left))
-      | inr right ↦ end_not_right s (subst (λ (q : GridPoint). side s.a s.b q ≡ Right) (point_both_ways (nat_le s.a.y s.b.y) s.a)
-          (right_within s b (bounds_at s.a) before r right))
-    ])

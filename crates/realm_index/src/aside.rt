@@ -1,5 +1,5 @@
 //! Boxes that lie off the line of a segment.
-ghost use Rattle.std.specs.Prelude.{◌≡◌, IsTrue, false, nat_le};
+ghost use Rattle.std.specs.Prelude.{◌≡◌, nat_le};
 ghost use Rattle.grid_base.specs.Sides.{side};
 ghost use Rattle.realm_index.specs.Aside.{is_aside, is_left, is_right, rightmost, leftmost};
 
@@ -7,21 +7,11 @@ use crate::bounds::Bounds;
 use grid_base::{Point, Segment, cross_of};
 
 // Whether the box lies off the line of the segment: the corner that is farthest to its right is on its left, or the one that
-// is farthest to its left is on its right. Most boxes that are met have an end of a short segment, which is told first.
+// is farthest to its left is on its right.
 pub(crate) fn is_aside(s: &Segment, b: &Bounds) -> bool
     ensures { result ≡ is_aside s.now b.now }
 {
-    if has_lesser_end(s, b) {
-        return false;
-    }
     is_left(s, &rightmost(s, b)) || is_right(s, &leftmost(s, b))
-}
-
-// Whether the box has the lesser end of the segment, and so a point of its line.
-fn has_lesser_end(s: &Segment, b: &Bounds) -> bool
-    ensures { IsTrue result → is_aside s.now b.now ≡ false }
-{
-    b.meets(&Bounds::at(&s.a()))
 }
 
 // The corner of the box that is farthest to the right of the line.

@@ -19,7 +19,7 @@ use std::marker::Model;
 use std::mem;
 
 // A list of more entries is cut into quarters.
-const MANY: usize = 15;
+const MANY: usize = 31;
 
 // The entries in one square. Their cover may reach further than their boxes. Contracts see the level and the list of the
 // entries.
