@@ -25,7 +25,7 @@ mod snapshot_error;
 pub use applied::Applied;
 pub use engine::{Engine, MOST_CHANGES};
 pub use laws::{let_makes_no_violation, replay_agrees};
-pub use operands::{Operands, operands_named};
+pub use operands::{Operands, operands_named, operands_side_by_side};
 pub use record_codec::Trace;
 pub use refusal::{ChangeError, Refusal, ReplayError};
 pub use sharing::may_be_shared;

@@ -13,7 +13,7 @@ use crate::printing::{list_chain, list_realm, list_trace, list_value};
 use crate::refusals::{refuse, refuse_name};
 use grid_base::{NoMemory, Point, Reply};
 use line_grammar::{Name, Query};
-use realm_insert::{Engine, Refusal, operands_named};
+use realm_insert::{Engine, Refusal, operands_named, operands_side_by_side};
 use rose_operators::{operate, operate_alone};
 use std::alloc::Global;
 use std::thread::Threads;
@@ -29,13 +29,15 @@ pub fn answer<R: Threads + Sync>(
     ensures answer { IfOk result (λ reply. AnswersQuery q.now state.now.state reply) }
 {
     match q {
-        Query::Eval(op, first, second) => match operands_named(state, first, second.as_ref())? {
-            Some(of) => list_made(
-                alloc,
-                operate(rt, alloc, *op, &of.first, of.second.as_ref()),
-            ),
-            None => refuse_name(alloc),
-        },
+        Query::Eval(op, first, second) => {
+            match operands_side_by_side(rt, state, first, second.as_ref())? {
+                Some(of) => list_made(
+                    alloc,
+                    operate(rt, alloc, *op, &of.first, of.second.as_ref()),
+                ),
+                None => refuse_name(alloc),
+            }
+        }
         _ => answer_alone(alloc, state, q),
     }
 }

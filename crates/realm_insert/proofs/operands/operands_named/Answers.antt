@@ -7,4 +7,4 @@ use Rattle.realm_insert.proofs.operands.operands_named.Goals as goal
 pub returns : goal.returns
 returns c =
     are_operands c.args.state.now.state c.args.first.now (option_copied c.args.second) c.in-Some.first (Some c.in-Some-2.second)
-    (search rules) (search rules) c.drawing.ensures.realm c.ascends.ensures c.ascends-2.ensures
+    (search rules) (search rules) c.drawing.ensures.realm (search rules) (search rules)
